@@ -1,0 +1,19 @@
+-- `embankery::macs::mac_hmac_sha1` meets its contract. Assumes nothing.
+use borrow.Author.Needs.{needs}
+use borrow.Author.Tests.{lt-leb, le-leb}
+use Rattle.mac.specs.Hmac.{hmacSha1}
+use Rattle.embankery.proofs.Written.{refused, done}
+use Rattle.embankery.proofs.macs.mac_hmac_sha1.Statement.{statement}
+use Rattle.embankery.proofs.macs.mac_hmac_sha1.Tie as tie
+
+returns : tie.Need-returns
+returns c = let a = c .before .before .before .before .args in refused _ 20 (hmacSha1 (a .key .now) (a .message .now)) (a .out .now) (lt-leb _ _ (c .if1 .taken))
+
+returns-2 : tie.Need-returns-2
+returns-2 c =
+    let a = c .before .before .before .before .before .before .before .before .before .before .args in
+    let e = c .before .before .before .before .before in
+    done _ 20 (hmacSha1 (a .key .now) (a .message .now)) _ (a .out .now) _ (le-leb _ _ (e .before .if1 .left)) (e .hmac-sha1 .ensures) (c .before .before .front .ensures)
+
+pub mac-hmac-sha1-spec : {M : Type 1} → statement M
+mac-hmac-sha1-spec = tie.close (tie.spec returns (λ c κs. search needs) (λ c. search needs) (λ c κs. search needs) (λ c. search needs) returns-2)

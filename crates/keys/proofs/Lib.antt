@@ -1,0 +1,4 @@
+-- Laws that the functions' proofs share.
+pub mod Bytes
+pub mod Tests
+pub mod Walk

@@ -1,0 +1,310 @@
+-- How the walks over a table's entries go on, turn by turn, and what one finds at its place.
+-- Each invariant says that what is left answers as the whole table does.
+use Prim.Native.Nat.{ℕ, zero, suc, _+_, _*_, _-_, _≤_, _<_}
+use mathlib.Core.Bool.{Bool, true, false, cond, not, _&&_, _||_}
+use mathlib.Core.Path.{_≡_, refl, sym, ap, _∙_, subst}
+use mathlib.Core.List.{List, [], _∷_, _++_, append-nil}
+use native.Mathlib.Omega.{arith}
+use native.Mathlib.Nat.{sub-zero}
+use native.Mathlib.Numerals.{add-one}
+use lib.ListN.{length, getD, take, drop, drop-of-length-le, length-drop, length-append}
+use lib.Seq.{take-all, take-nil, take-append-add, append-snoc}
+use lib.Dec.{leb, eqb}
+use borrow.Author.Tests.{eq-eqb, ne-eqb, le-leb, lt-leb, leb-true, leb-false}
+use Rattle.keys.specs.Entry.{known, body, size, width, idsOf, selectorOf, entryOf, Item, item, sound, items, entriesOf, entries}
+use Rattle.keys.specs.EntryLaws.{itemAt, kind-is, items-at, items-end, sound-inside, entries-next, entries-stop}
+use Rattle.keys.specs.Match.{matches, overlap, share, clash}
+use Rattle.keys.specs.Table.{Line, line, first, entryLines, clashing, ownLines, itemLines, lines, refusing, judged, loaded, nobody, found, hasId, answers}
+use Rattle.keys.specs.LoadLaws.{first-passed, item-good}
+use Rattle.keys.proofs.Tests.{given, passing}
+use Rattle.keys.specs.declared.entry.Ids.{Ids}
+use Rattle.keys.specs.declared.entry.Selector.{Selector}
+use Rattle.keys.specs.declared.entry.Entry.{Entry}
+use Rattle.keys.specs.declared.entry.Pair.{Pair}
+use Rattle.keys.specs.declared.table.By.{By}
+use Rattle.keys.specs.declared.table.Loaded.{Loaded}
+use Rattle.keys.specs.declared.table.Loaded.the-variants.{Valid, Refused}
+use Rattle.keys.specs.declared.table.Found.{Found}
+
+-- what begins at `at`
+
+module _ (t : List ℕ) (at : ℕ) where
+  pub sound-past : length t ≤ at → false ≡ sound (itemAt t at)
+  unfolding item known
+  sound-past h = rw (drop-of-length-le t h)
+
+  pub sound-unknown : (r : Bool) → r ≡ known (getD t at 0) → r ≡ false → false ≡ sound (itemAt t at)
+  unfolding item
+  sound-unknown r e h = let k : known (getD (drop at t) 0 0) ≡ false = ap known (kind-is t at) ∙ sym e ∙ h in rw k
+
+  pub known-is : (r b : Bool) → r ≡ known (getD t at 0) → r ≡ b → itemAt t at .kind-known ≡ b
+  unfolding item
+  known-is r b e h = ap known (kind-is t at) ∙ sym e ∙ h
+
+  pub whole-is : (n : ℕ) → n ≡ size (getD t at 0) → at ≤ length t → leb n (length t - at) ≡ itemAt t at .whole
+  unfolding item
+  whole-is n e h = λ i. leb ((e ∙ ap size (sym (kind-is t at))) i) (sym (length-drop at t) i)
+
+  pub sound-is : (r : Bool) (n : ℕ) → r ≡ known (getD t at 0) → r ≡ true → n ≡ size (getD t at 0) → at ≤ length t → leb n (length t - at) ≡ sound (itemAt t at)
+  sound-is r n e h q k = whole-is n q k ∙ ap (λ (b : Bool). b && itemAt t at .whole) (sym (known-is r true e h))
+
+  -- the part of the table from `at` on
+  abbrev tail : List ℕ
+  tail = take (length t - at) (drop at t)
+
+  tail-is : tail ≡ drop at t
+  tail-is = take-all (length t - at) (drop at t) (let l = length-drop at t in omega arith)
+
+  pub tail-whole : at + size (getD t at 0) ≤ length t → size (getD tail 0 0) ≤ length tail
+  tail-whole h =
+      let k : size (getD tail 0 0) ≡ size (getD t at 0) = ap (λ (s : List ℕ). size (getD s 0 0)) tail-is ∙ ap size (kind-is t at) in
+      let l : length tail ≡ length t - at = ap length tail-is ∙ length-drop at t in
+      omega arith
+
+  pub ids-at : (i : Ids) → i ≡ idsOf tail → i ≡ itemAt t at .entry .ids
+  unfolding item entryOf
+  ids-at i e = e ∙ ap idsOf tail-is
+
+  pub selector-at : (s : Selector) → s ≡ selectorOf (width (getD tail 0 0)) tail → s ≡ itemAt t at .entry .selector
+  unfolding item entryOf
+  selector-at s e = e ∙ ap (λ (x : List ℕ). selectorOf (width (getD x 0 0)) x) tail-is
+
+  pub entry-at : (e : Entry) → e ≡ entryOf tail → e ≡ itemAt t at .entry
+  unfolding item
+  entry-at e q = q ∙ ap entryOf tail-is
+
+-- a first test, and a second one of what passed it
+
+pub and-no : (a b r : Bool) → r ≡ a → r ≡ false → false ≡ (a && b)
+and-no a b r e h = rw (sym e ∙ h)
+
+pub and-yes : (a b r q : Bool) → r ≡ a → r ≡ true → q ≡ b → q ≡ (a && b)
+and-yes a b r q e h g = rw (sym e ∙ h) g
+
+-- what a first test decided
+
+or-hit : (a b c : Bool) → a ≡ true → (a || b) ≡ c → true ≡ c
+or-hit a b c e h = rw e at h
+
+or-miss : (a b c : Bool) → a ≡ false → (a || b) ≡ c → b ≡ c
+or-miss a b c e h = rw e at h
+
+cond-hit : (b : Bool) (x y z : Found) → b ≡ true → cond b x y ≡ z → x ≡ z
+cond-hit b x y z e h = rw e at h
+
+cond-miss : (b : Bool) (x y z : Found) → b ≡ false → cond b x y ≡ z → y ≡ z
+cond-miss b x y z e h = rw e at h
+
+-- the loop over the entries before one
+
+-- what is left after j of the first i entries, from `at` on, answers as all i do
+pub record Clashing (t : List ℕ) (e : Entry) (i j at : ℕ) : Type 0 where
+  pub few : j ≤ i
+  pub within : at ≤ length t
+  pub rest : clashing e (take (i - j) (entries (drop at t))) ≡ clashing e (take i (entries t))
+
+pub clashing-start : (t : List ℕ) (e : Entry) (i : ℕ) → Clashing t e i 0 0
+clashing-start t e i = record { few = omega arith; within = omega arith; rest = ap (λ (n : ℕ). clashing e (take n (entries t))) (sub-zero i) }
+
+pub clashing-over : {t : List ℕ} {e : Entry} {i j at : ℕ} → Clashing t e i j at → i ≤ j → false ≡ clashing e (take i (entries t))
+unfolding clashing
+clashing-over {t} {e} {i} {j} {at} w k = let z : i - j ≡ 0 = omega arith in sym (ap (λ (n : ℕ). clashing e (take n (entries (drop at t)))) z) ∙ w .rest
+
+module _ {t : List ℕ} {e : Entry} {i j at : ℕ} (w : Clashing t e i j at) (s : Bool) (se : s ≡ sound (itemAt t at)) where
+  pub clashing-cut : s ≡ false → false ≡ clashing e (take i (entries t))
+  unfolding clashing
+  clashing-cut n =
+      sym (ap (λ (l : List Entry). clashing e (take (i - j) l)) (entries-stop t at (sym se ∙ n)) ∙ ap (clashing e) (take-nil (i - j))) ∙ w .rest
+
+  pub clashing-inside : s ≡ true → at + size (getD t at 0) ≤ length t
+  clashing-inside y = sound-inside t at (sym se ∙ y)
+
+  turn : s ≡ true → j < i → (clash (itemAt t at .entry) e || clashing e (take (i - (j + 1)) (entries (drop (at + size (getD t at 0)) t)))) ≡ clashing e (take i (entries t))
+  unfolding clashing
+  turn y k =
+      let z : i - j ≡ suc (i - (j + 1)) = omega arith in
+      sym
+      (ap (λ (l : List Entry). clashing e (take (i - j) l)) (entries-next t at (sym se ∙ y))
+      ∙ ap (λ (n : ℕ). clashing e (take n (itemAt t at .entry ∷ entries (drop (at + size (getD t at 0)) t)))) z)
+      ∙ w .rest
+
+  module _ (y : s ≡ true) (k : j < i) (r : Bool) (re : r ≡ (share (itemAt t at .entry .ids) (e .ids) && overlap (itemAt t at .entry .selector) (e .selector))) where
+    pub clashing-hit : r ≡ true → true ≡ clashing e (take i (entries t))
+    unfolding clash
+    clashing-hit g = or-hit (clash (itemAt t at .entry) e) _ _ (sym re ∙ g) (turn y k)
+
+    pub clashing-next : (n : ℕ) → r ≡ false → n ≡ size (getD t at 0) → Clashing t e i (j + 1) (at + n)
+    unfolding clash
+    clashing-next n g z =
+        let h = sound-inside t at (sym se ∙ y) in
+        record {
+          few = omega arith;
+          within = omega arith;
+          rest = ap (λ (m : ℕ). clashing e (take (i - (j + 1)) (entries (drop (at + m) t)))) z ∙ or-miss (clash (itemAt t at .entry) e) _ _ (sym re ∙ g) (turn y k);
+        }
+
+-- the loop of a search
+
+-- behind i entries, what is left from `at` on answers as the whole table does
+pub record Seeking (t : List ℕ) (test : Entry → Bool) (i at : ℕ) : Type 0 where
+  pub counted : i ≤ at
+  pub within : at ≤ length t
+  pub rest : found test i (entries (drop at t)) ≡ found test 0 (entries t)
+
+pub seek-start : (t : List ℕ) (test : Entry → Bool) → Seeking t test 0 0
+seek-start t test = record { counted = omega arith; within = omega arith; rest = refl }
+
+module _ {t : List ℕ} {test : Entry → Bool} {i at : ℕ} (w : Seeking t test i at) where
+  stopped : sound (itemAt t at) ≡ false → (r : Found) → r ≡ nobody → r ≡ found test 0 (entries t)
+  unfolding found
+  stopped s r q = q ∙ sym (ap (found test i) (entries-stop t at s)) ∙ w .rest
+
+  pub seek-over : length t ≤ at → (r : Found) → r ≡ nobody → r ≡ found test 0 (entries t)
+  seek-over k r q = stopped (sym (sound-past t at k)) r q
+
+  module _ (s : Bool) (se : s ≡ sound (itemAt t at)) where
+    pub seek-cut : s ≡ false → (r : Found) → r ≡ nobody → r ≡ found test 0 (entries t)
+    seek-cut n r q = stopped (sym se ∙ n) r q
+
+    module _ (y : s ≡ true) where
+      pub seek-inside : at + size (getD t at 0) ≤ length t
+      seek-inside = sound-inside t at (sym se ∙ y)
+
+      seek-turn : cond (test (itemAt t at .entry)) (record { there = true; index = i; entry = itemAt t at .entry }) (found test (i + 1) (entries (drop (at + size (getD t at 0)) t))) ≡ found test 0 (entries t)
+      unfolding found
+      seek-turn = sym (ap (found test i) (entries-next t at (sym se ∙ y))) ∙ w .rest
+
+      module _ (r : Bool) (re : r ≡ test (itemAt t at .entry)) where
+        pub seek-hit : r ≡ true → (e : Entry) → e ≡ entryOf (tail t at) → record { there = true; index = i; entry = e } ≡ found test 0 (entries t)
+        seek-hit g e z =
+            ap (λ (x : Entry). record { there = true; index = i; entry = x }) (entry-at t at e z) ∙ cond-hit (test (itemAt t at .entry)) _ _ _ (sym re ∙ g) seek-turn
+
+        pub seek-next : r ≡ false → (n : ℕ) → n ≡ size (getD t at 0) → Seeking t test (i + 1) (at + n)
+        seek-next g n z =
+            let h = seek-inside in
+            let k = w .counted in
+            record {
+              counted = omega arith;
+              within = omega arith;
+              rest = ap (λ (m : ℕ). found test (i + 1) (entries (drop (at + m) t))) z ∙ cond-miss (test (itemAt t at .entry)) _ _ _ (sym re ∙ g) seek-turn;
+            }
+
+-- the loader's loop
+
+-- one more entry of a list is taken
+taken-more : (l b r : List Entry) (e : Entry) (i : ℕ) → length b ≡ i → l ≡ b ++ (e ∷ r) → take (i + 1) l ≡ b ++ (e ∷ [])
+taken-more l b r e i h q = (λ k. take (sym h k + 1) (q k)) ∙ take-append-add b (e ∷ r) 1
+
+refused-by : (n i : ℕ) (o r : Loaded) → (n ≡ 0 → ⊥) → refusing n i o ≡ r → Refused n i ≡ r
+refused-by zero i o r k h = absurd (k refl)
+refused-by (suc n) i o r k h = h
+
+passed-by : (n i : ℕ) (o r : Loaded) → n ≡ 0 → refusing n i o ≡ r → o ≡ r
+passed-by n i o r k h = rw k at h
+
+pub record Walking (t : List ℕ) (limit at i : ℕ) : Type 0 where
+  pub within : at ≤ length t
+  pub counted : i ≤ at
+  pub taken : length (take i (entries t)) ≡ i
+  pub split : entries t ≡ take i (entries t) ++ entries (drop at t)
+  pub rest : judged limit i (take i (entries t)) (items 0 (drop at t)) ≡ loaded limit t
+
+pub walk-start : (t : List ℕ) (limit : ℕ) → Walking t limit 0 0
+unfolding loaded
+walk-start t limit = record { within = omega arith; counted = omega arith; taken = refl; split = refl; rest = refl }
+
+module _ {t : List ℕ} {limit at i : ℕ} (w : Walking t limit at i) where
+  begin : at < length t
+      → refusing (first (lines limit i (take i (entries t)) (itemAt t at))) i
+      (judged limit (i + 1) (take i (entries t) ++ (itemAt t at .entry ∷ [])) (cond (sound (itemAt t at)) (items 0 (drop (at + size (getD t at 0)) t)) []))
+      ≡ loaded limit t
+  unfolding judged
+  begin h = sym (ap (judged limit i (take i (entries t))) (items-at t at h)) ∙ w .rest
+
+  pub walk-full : at < length t → i ≡ limit → Refused 12 i ≡ loaded limit t
+  unfolding first
+  walk-full h e = rw (eq-eqb i limit e) at (begin h)
+
+  pub walk-refused : (n : ℕ) → at < length t → (i ≡ limit → ⊥) → n ≡ first (itemLines (take i (entries t)) (itemAt t at)) → (n ≡ 0 → ⊥) → Refused n i ≡ loaded limit t
+  unfolding first
+  walk-refused n h e q k = refused-by n i _ (loaded limit t) k (rw (ne-eqb i limit e, sym q) at (begin h))
+
+  pub walk-sound : (n : ℕ) → n ≡ first (itemLines (take i (entries t)) (itemAt t at)) → n ≡ 0 → at + size (getD t at 0) ≤ length t
+  walk-sound n q z = sound-inside t at (item-good (take i (entries t)) (itemAt t at) (sym q ∙ z))
+
+  pub walk-next : (n s : ℕ) → at < length t → (i ≡ limit → ⊥) → n ≡ first (itemLines (take i (entries t)) (itemAt t at)) → n ≡ 0 → s ≡ size (getD t at 0) → Walking t limit (at + s) (i + 1)
+  unfolding first
+  walk-next n s h e q z y =
+      let b = take i (entries t) in
+      let x = itemAt t at in
+      let g = item-good b x (sym q ∙ z) in
+      let l = sound-inside t at g in
+      let k = w .counted in
+      let v : drop (at + size (getD t at 0)) t ≡ drop (at + s) t = ap (λ (m : ℕ). drop (at + m) t) (sym y) in
+      let c : entries t ≡ b ++ (x .entry ∷ entries (drop (at + s) t)) = w .split ∙ ap (λ (m : List Entry). b ++ m) (entries-next t at g ∙ ap (λ (m : List ℕ). x .entry ∷ entries m) v) in
+      let d : take (i + 1) (entries t) ≡ b ++ (x .entry ∷ []) = taken-more (entries t) b (entries (drop (at + s) t)) (x .entry) i (w .taken) c in
+      record {
+        within = omega arith;
+        counted = omega arith;
+        taken = ap length d ∙ length-append b (x .entry ∷ []) ∙ ap (λ (m : ℕ). m + 1) (w .taken);
+        split = c ∙ sym (append-snoc b (x .entry) (entries (drop (at + s) t))) ∙ ap (λ (m : List Entry). m ++ entries (drop (at + s) t)) (sym d);
+        rest =
+            (λ m. judged limit (i + 1) (d m) (cond (sym g m) (items 0 (sym v m)) []))
+            ∙ passed-by (first (itemLines b x)) i _ (loaded limit t) (sym q ∙ z) (rw (ne-eqb i limit e) at (begin h));
+      }
+
+  pub walk-done : length t ≤ at → Valid i ≡ loaded limit t
+  unfolding judged
+  walk-done h = sym (ap (judged limit i (take i (entries t))) (items-end t at h)) ∙ w .rest
+
+-- the lines of one item
+
+module _ (before : List Entry) (x : Item) where
+  abbrev begins : List Line
+  begins = line 11 (not (x .kind-known)) ∷ line 10 (not (x .whole)) ∷ []
+
+  abbrev goes-on : List Line
+  goes-on = entryLines (x .entry) ++ (line 17 (clashing (x .entry) before) ∷ [])
+
+  line-unknown : x .kind-known ≡ false → 11 ≡ first (itemLines before x)
+  unfolding first
+  line-unknown h = rw h
+
+  line-cut : x .kind-known ≡ true → x .whole ≡ false → 10 ≡ first (itemLines before x)
+  unfolding first
+  line-cut h w = rw (h, w)
+
+  past-begin : x .kind-known ≡ true → x .whole ≡ true → first goes-on ≡ first (itemLines before x)
+  past-begin h w = sym (first-passed begins goes-on (ap not h, (ap not w, tt)))
+
+  line-wrong : (e : Entry) (n : ℕ) → x .kind-known ≡ true → x .whole ≡ true → e ≡ x .entry → n ≡ first (entryLines e) → (n ≡ 0 → ⊥) → n ≡ first (itemLines before x)
+  line-wrong e n h w q f k =
+      given (entryLines (x .entry)) (line 17 (clashing (x .entry) before) ∷ []) n (f ∙ ap (λ (y : Entry). first (entryLines y)) q) k ∙ past-begin h w
+
+  line-last : (e : Entry) (n : ℕ) (r b : Bool) → x .kind-known ≡ true → x .whole ≡ true → e ≡ x .entry → n ≡ first (entryLines e) → n ≡ 0
+      → r ≡ clashing e before → r ≡ b → cond b 17 0 ≡ first (itemLines before x)
+  unfolding first
+  line-last e n r b h w q f z c d =
+      passing (entryLines (x .entry)) (line 17 (clashing (x .entry) before) ∷ []) n (cond b 17 0) refl (f ∙ ap (λ (y : Entry). first (entryLines y)) q) z
+      (ap (λ (y : Bool). cond y 17 0) (sym d ∙ c ∙ ap (λ (y : Entry). clashing y before) q))
+      ∙ past-begin h w
+
+module _ (t : List ℕ) (at : ℕ) (before : List Entry) where
+  pub number-unknown : (r : Bool) → r ≡ known (getD t at 0) → r ≡ false → 11 ≡ first (itemLines before (itemAt t at))
+  number-unknown r e h = line-unknown before (itemAt t at) (known-is t at r false e h)
+
+  pub number-cut : (r : Bool) (n : ℕ) → r ≡ known (getD t at 0) → r ≡ true → n ≡ size (getD t at 0) → at < length t → length t - at < n → 10 ≡ first (itemLines before (itemAt t at))
+  number-cut r n e h q k l = line-cut before (itemAt t at) (known-is t at r true e h) (sym (whole-is t at n q (omega arith)) ∙ lt-leb n (length t - at) l)
+
+-- an entry e that is there whole, of a known kind
+
+module _ (t : List ℕ) (at : ℕ) (before : List Entry) (k : Bool) (s : ℕ) (e : Entry)
+    (ke : k ≡ known (getD t at 0)) (kt : k ≡ true) (se : s ≡ size (getD t at 0)) (i : at < length t) (w : s ≤ length t - at) (ee : e ≡ entryOf (tail t at)) (n : ℕ) (ne : n ≡ first (entryLines e)) where
+  there-whole : itemAt t at .whole ≡ true
+  there-whole = sym (whole-is t at s se (omega arith)) ∙ le-leb s (length t - at) w
+
+  pub number-wrong : (n ≡ 0 → ⊥) → n ≡ first (itemLines before (itemAt t at))
+  number-wrong z = line-wrong before (itemAt t at) e n (known-is t at k true ke kt) there-whole (entry-at t at e ee) ne z
+
+  pub number-last : (r b : Bool) → n ≡ 0 → r ≡ clashing e before → r ≡ b → cond b 17 0 ≡ first (itemLines before (itemAt t at))
+  number-last r b z c d = line-last before (itemAt t at) e n r b (known-is t at k true ke kt) there-whole (entry-at t at e ee) ne z c d

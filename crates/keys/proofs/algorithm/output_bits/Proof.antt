@@ -1,0 +1,21 @@
+-- The arms of the match are the tests of the definition; the constants are its numbers.
+use mathlib.Core.Path.{refl}
+use borrow.Author.Tests.{ne-eqb}
+use Rattle.keys.specs.Algorithm.{outputBits}
+use Rattle.keys.proofs.algorithm.output_bits.Statement.{statement}
+use Rattle.keys.proofs.algorithm.output_bits.Tie as tie
+
+returns : tie.Need-returns
+unfolding outputBits
+returns c = (rw (c .match .keys1), (refl, refl))
+
+returns-2 : tie.Need-returns-2
+unfolding outputBits
+returns-2 c = (rw (c .match .keys2), (refl, refl))
+
+returns-3 : tie.Need-returns-3
+unfolding outputBits
+returns-3 c = (rw (ne-eqb _ _ (c .match .rest .0 .1), ne-eqb _ _ (c .match .rest .1)), (refl, refl))
+
+pub output-bits-spec : {M : Type 1} → statement M
+output-bits-spec = tie.close (tie.spec returns returns-2 returns-3)

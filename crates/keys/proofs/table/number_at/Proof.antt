@@ -1,0 +1,65 @@
+-- The lines, in their order.
+use borrow.Author.Needs.{needs}
+use mathlib.Core.Bool.{true, false}
+use borrow.Author.Tests.{not-true, not-false}
+use Rattle.keys.proofs.Walk.{tail-whole, number-unknown, number-cut, number-wrong, number-last}
+use native.Mathlib.Omega.{arith}
+use Rattle.keys.proofs.table.number_at.Statement.{statement}
+use Rattle.keys.proofs.table.number_at.Tie as tie
+
+returns : tie.Need-returns
+returns c =
+    let a = c .before .before .before .before .args in
+    number-unknown (a .table .now) (a .at) _ _ (c .before .known-kind .ensures) (not-true _ (c .if1 .taken))
+
+returns-2 : tie.Need-returns-2
+returns-2 c =
+    let a = c .before .before .before .before .before .before .before .args in
+    number-cut (a .table .now) (a .at) _ _ _ (c .before .before .before .before .known-kind .ensures) (not-false _ (c .before .before .before .if1 .left)) (c .before .size-of .ensures)
+    (c .before .before .before .before .before .before .before .pre) (c .if2 .taken)
+
+entry-of-requires : tie.Need-entry-of-requires
+entry-of-requires c κs =
+    let a = c .before .before .before .before .before .before .before .before .args in
+    tail-whole (a .table .now) (a .at) (omega (arith, c .before .before .size-of .ensures))
+
+returns-3 : tie.Need-returns-3
+returns-3 c =
+    let a = c .before .before .before .before .before .before .before .before .before .before .before .args in
+    number-wrong (a .table .now) (a .at) _ _ _ _ (c .before .before .before .before .before .before .before .before .known-kind .ensures) (not-false _ (c .before .before .before .before .before .before .before .if1 .left)) (c .before .before .before .before .before .size-of .ensures)
+    (c .before .before .before .before .before .before .before .before .before .before .before .pre) (c .before .before .before .before .if2 .left) (c .before .before .entry-of .ensures) _ (c .before .entry-number .ensures) (c .if3 .taken)
+
+returns-4 : tie.Need-returns-4
+returns-4 c =
+    let a = c .before .before .before .before .before .before .before .before .before .before .before .before .before .args in
+    number-last (a .table .now) (a .at) _ _ _ _ (c .before .before .before .before .before .before .before .before .before .before .known-kind .ensures) (not-false _ (c .before .before .before .before .before .before .before .before .before .if1 .left)) (c .before .before .before .before .before .before .before .size-of .ensures)
+    (c .before .before .before .before .before .before .before .before .before .before .before .before .before .pre) (c .before .before .before .before .before .before .if2 .left) (c .before .before .before .before .entry-of .ensures) _ (c .before .before .before .entry-number .ensures)
+    _ true (c .before .before .if3 .left) (c .before .clashes-before .ensures) (c .if4 .taken)
+
+returns-5 : tie.Need-returns-5
+returns-5 c =
+    let a = c .before .before .before .before .before .before .before .before .before .before .before .before .before .args in
+    number-last (a .table .now) (a .at) _ _ _ _ (c .before .before .before .before .before .before .before .before .before .before .known-kind .ensures) (not-false _ (c .before .before .before .before .before .before .before .before .before .if1 .left)) (c .before .before .before .before .before .before .before .size-of .ensures)
+    (c .before .before .before .before .before .before .before .before .before .before .before .before .before .pre) (c .before .before .before .before .before .before .if2 .left) (c .before .before .before .before .entry-of .ensures) _ (c .before .before .before .entry-number .ensures)
+    _ false (c .before .before .if3 .left) (c .before .clashes-before .ensures) (c .if4 .left)
+
+pub number-at-spec : {M : Type 1} → statement M
+number-at-spec =
+    tie.close
+    (tie.spec
+    (λ c. search needs)
+    (λ c κs. search needs)
+    returns
+    (λ c. search needs)
+    (λ c. search needs)
+    (λ c κs. search needs)
+    returns-2
+    (λ c. search needs)
+    (λ c. search needs)
+    (λ c. search needs)
+    entry-of-requires
+    (λ c κs. search needs)
+    returns-3
+    (λ c κs. search needs)
+    returns-4
+    returns-5)

@@ -1,0 +1,101 @@
+-- What the table's bytes mean: document 01, "Key table (house bytes)". All that a later kind, flag or algorithm moves is here.
+-- Any list of bytes has a meaning: a byte that is not there counts as 0, and the numbers 10 to 17 (specs/Table.antt) say what is refused.
+use Prim.Native.Nat.{ℕ, zero, suc, _+_, _*_, _-_, _%_}
+use mathlib.Core.Bool.{Bool, true, false, cond, _&&_, _||_}
+use mathlib.Core.List.{List, [], _∷_, _++_}
+use lib.ListN.{length, getD, take, drop, replicate}
+use lib.Dec.{leb, eqb}
+use Rattle.octets.specs.Octets.{get16}
+use Rattle.keys.specs.Algorithm.{macBytes}
+use Rattle.keys.specs.declared.entry.Side.{Side}
+use Rattle.keys.specs.declared.entry.Selector.{Selector}
+use Rattle.keys.specs.declared.entry.Ids.{Ids}
+use Rattle.keys.specs.declared.entry.Secret.{Secret}
+use Rattle.keys.specs.declared.entry.Entry.{Entry}
+
+-- "kind 4 (IPv4) has 103 bytes, kind 6 (IPv6) 127"
+unfoldable pub known : ℕ → Bool
+known k = eqb k 4 || eqb k 6
+
+unfoldable pub body : ℕ → ℕ
+body k = cond (eqb k 4) 103 127
+
+-- an entry: "one byte of kind, then a body"
+abbrev pub size : ℕ → ℕ
+size k = 1 + body k
+
+-- bytes of an address of the family
+unfoldable pub width : ℕ → ℕ
+width f = cond (eqb f 4) 4 16
+
+-- an address in its field of sixteen bytes: IPv4 uses the first four, the rest is zero here and looked at by nobody
+abbrev pub padded : List ℕ → List ℕ
+padded s = s ++ replicate (16 - length s) 0
+
+-- one side: its ports stand at `ports`, its address of w bytes at `at` with the prefix length behind it
+unfoldable pub sideOf : ℕ → ℕ → ℕ → List ℕ → Side
+sideOf w ports at e =
+    record { low = get16 e ports; high = get16 e (ports + 2); bits = getD e (at + w) 0; address = padded (take w (drop at e)) }
+
+-- "local port low and high, remote port low and high (two bytes each, big-endian, ends included); local address, its prefix length; remote address, its prefix length"
+unfoldable pub selectorOf : ℕ → List ℕ → Selector
+selectorOf w e = record { family = getD e 0 0; local = sideOf w 5 13 e; remote = sideOf w 9 (14 + w) e }
+
+-- "SendID, RecvID"
+unfoldable pub idsOf : List ℕ → Ids
+idsOf e = record { send = getD e 3 0; recv = getD e 4 0 }
+
+-- "flags .., algorithm", and "key length 1 to 80; the key, padded with zeros to 80". The MAC's length is the algorithm's.
+unfoldable pub secretOf : ℕ → List ℕ → Secret
+secretOf w e =
+    record {
+      flags = getD e 1 0;
+      algorithm = getD e 2 0;
+      «mac_bytes» = macBytes (getD e 2 0);
+      «key_len» = getD e (15 + 2 * w) 0;
+      key = take 80 (drop (16 + 2 * w) e);
+    }
+
+-- the entry whose kind is the first byte of e, whatever stands behind its own bytes
+unfoldable pub entryOf : List ℕ → Entry
+entryOf e = record { selector = selectorOf (width (getD e 0 0)) e; ids = idsOf e; secret = secretOf (width (getD e 0 0)) e }
+
+-- "flags (1: all options covered by the MAC; 0: only TCP-AO)": the lowest bit says it
+abbrev pub allOptions : Secret → Bool
+allOptions s = eqb (s .flags % 2) 1
+
+-- the master key: as many bytes as its length says
+abbrev pub keyOf : Secret → List ℕ
+keyOf s = take (s .«key_len») (s .key)
+
+-- what begins at some byte of the table, whose bytes from there on are s: whether its kind is known, whether it is there whole, and the entry that it then is
+pub record Item : Type 0 where
+  pub kind-known : Bool
+  pub whole : Bool
+  pub entry : Entry
+
+unfoldable pub item : List ℕ → Item
+item s =
+    record {
+      kind-known = known (getD s 0 0);
+      whole = leb (size (getD s 0 0)) (length s);
+      entry = entryOf s;
+    }
+
+abbrev pub sound : Item → Bool
+sound x = x .kind-known && x .whole
+
+-- what begins one after another, each where the one before ends; n more bytes belong to the entry before.
+-- Behind an unknown kind or a cut entry there is nothing.
+unfoldable pub items : ℕ → List ℕ → List Item
+items n [] = []
+items (suc n) (b ∷ t) = items n t
+items zero (b ∷ t) = item (b ∷ t) ∷ cond (sound (item (b ∷ t))) (items (body b) t) []
+
+unfoldable pub entriesOf : List Item → List Entry
+entriesOf [] = []
+entriesOf (x ∷ l) = cond (sound x) (x .entry ∷ entriesOf l) []
+
+-- the entries that the bytes mean. A table that is refused has those up to the first unknown kind or cut entry, however many.
+abbrev pub entries : List ℕ → List Entry
+entries t = entriesOf (items 0 t)

@@ -1,0 +1,176 @@
+-- Laws of what the table's bytes mean: where the next entry begins, and what every entry's fields are.
+-- Assumes nothing but, where it says `Octets`, that the bytes are below 256.
+use Prim.Native.Nat.{ℕ, zero, suc, _+_, _*_, _-_, _≤_, _<_, min}
+use mathlib.Core.Bool.{Bool, true, false, cond, _&&_, _||_}
+use mathlib.Core.Path.{_≡_, refl, sym, ap, _∙_}
+use mathlib.Core.List.{List, [], _∷_, _++_}
+use mathlib.Core.Logic.{_⊎_, inl, inr, ⊎-elim}
+use native.Mathlib.Omega.{arith}
+use lib.ListN.{length, getD, take, drop, replicate, length-append, length-take, length-drop, length-replicate, drop-of-length-le}
+use lib.Seq.{drop-nil, drop-cons, drop-drop, getD-drop}
+use lib.Dec.{leb, eqb}
+use borrow.Author.Tests.{eqb-true, leb-true, leb-false}
+use Rattle.octets.specs.Octets.{get16}
+use Rattle.keys.specs.Algorithm.{macBytes}
+use Rattle.keys.specs.Entry.{known, body, size, width, padded, sideOf, selectorOf, idsOf, secretOf, entryOf, Item, item, sound, items, entriesOf, entries}
+use Rattle.keys.specs.MatchLaws.{or-true, and-true, Octets, Family, SideFields, Fields}
+use Rattle.keys.specs.declared.entry.Side.{Side}
+use Rattle.keys.specs.declared.entry.Entry.{Entry}
+
+-- sizes
+
+width-of : (f : ℕ) (b : Bool) → eqb f 4 ≡ b → (width f ≤ 16) × (body f ≡ 95 + 2 * width f)
+unfolding width body
+width-of f true e = (rw e (omega arith), rw e)
+width-of f false e = (rw e (omega arith), rw e)
+
+pub width-le : (f : ℕ) → width f ≤ 16
+width-le f = width-of f (eqb f 4) refl .0
+
+-- "the body is: .." so many bytes beside the two addresses
+pub body-is : (f : ℕ) → body f ≡ 95 + 2 * width f
+body-is f = width-of f (eqb f 4) refl .1
+
+-- where the next entry begins
+
+items-drop : (n : ℕ) (t : List ℕ) → items n t ≡ items 0 (drop n t)
+unfolding items
+items-drop n [] = ap (items 0) (sym (drop-nil n))
+items-drop zero (b ∷ t) = refl
+items-drop (suc n) (b ∷ t) = items-drop n t
+
+items-from : (s : List ℕ) → 0 < length s → items 0 s ≡ item s ∷ cond (sound (item s)) (items 0 (drop (size (getD s 0 0)) s)) []
+unfolding items
+items-from [] h = absurd (omega arith)
+items-from (b ∷ t) h = ap (λ (l : List Item). item (b ∷ t) ∷ cond (sound (item (b ∷ t))) l []) (items-drop (body b) t ∙ ap (items 0) (dropped b t))
+  where
+    dropped : (b : ℕ) (t : List ℕ) → drop (body b) t ≡ drop (1 + body b) (b ∷ t)
+    dropped b t = let e : 1 + body b ≡ suc (body b) = omega arith in rw e
+
+-- at byte `at` of a table
+
+abbrev pub itemAt : List ℕ → ℕ → Item
+itemAt t at = item (drop at t)
+
+module _ (t : List ℕ) (at : ℕ) where
+  pub kind-is : getD (drop at t) 0 0 ≡ getD t at 0
+  kind-is = getD-drop at t 0 0 ∙ ap (λ (n : ℕ). getD t n 0) (let e : at + 0 ≡ at = omega arith in e)
+
+  pub items-at : at < length t → items 0 (drop at t) ≡ itemAt t at ∷ cond (sound (itemAt t at)) (items 0 (drop (at + size (getD t at 0)) t)) []
+  items-at h =
+      let l = length-drop at t in
+      items-from (drop at t) (omega arith)
+      ∙ ap (λ (s : List ℕ). itemAt t at ∷ cond (sound (itemAt t at)) (items 0 s) []) (drop-drop (size (getD (drop at t) 0 0)) at t ∙ ap (λ (k : ℕ). drop (at + size k) t) kind-is)
+
+  pub items-end : length t ≤ at → items 0 (drop at t) ≡ []
+  unfolding items
+  items-end h = ap (items 0) (drop-of-length-le t h)
+
+  pub sound-inside : sound (itemAt t at) ≡ true → at + size (getD t at 0) ≤ length t
+  unfolding item
+  sound-inside h =
+      let w = leb-true (size (getD (drop at t) 0 0)) (length (drop at t)) (and-true (known (getD (drop at t) 0 0)) _ h .1) in
+      let k : size (getD (drop at t) 0 0) ≡ size (getD t at 0) = ap size kind-is in
+      let l = length-drop at t in
+      omega arith
+
+  pub entries-next : sound (itemAt t at) ≡ true → entries (drop at t) ≡ itemAt t at .entry ∷ entries (drop (at + size (getD t at 0)) t)
+  unfolding entriesOf
+  entries-next h = let i = sound-inside h in rw (items-at (omega arith), h)
+
+  pub entries-stop : sound (itemAt t at) ≡ false → entries (drop at t) ≡ []
+  unfolding entriesOf
+  entries-stop h = go (leb (length t) at) refl
+    where
+      go : (b : Bool) → leb (length t) at ≡ b → entries (drop at t) ≡ []
+      go true e = ap entriesOf (items-end (leb-true (length t) at e))
+      go false e = rw (items-at (leb-false (length t) at e), h)
+
+-- bytes
+
+take-octets : (n : ℕ) (s : List ℕ) → Octets s → Octets (take n s)
+take-octets zero s h i = omega arith
+take-octets (suc n) [] h i = omega arith
+take-octets (suc n) (x ∷ s) h zero = h 0
+take-octets (suc n) (x ∷ s) h (suc i) = take-octets n s (λ j. h (suc j)) i
+
+drop-octets : (n : ℕ) (s : List ℕ) → Octets s → Octets (drop n s)
+drop-octets n s h i = rw (getD-drop n s i 0) (h (n + i))
+
+zeros-octets : (n : ℕ) → Octets (replicate n 0)
+zeros-octets zero i = omega arith
+zeros-octets (suc n) zero = omega arith
+zeros-octets (suc n) (suc i) = zeros-octets n i
+
+append-octets : (a b : List ℕ) → Octets a → Octets b → Octets (a ++ b)
+append-octets [] b ha hb i = hb i
+append-octets (x ∷ a) b ha hb zero = ha 0
+append-octets (x ∷ a) b ha hb (suc i) = append-octets a b (λ j. ha (suc j)) hb i
+
+-- every entry's fields
+
+known-family : (k : ℕ) → known k ≡ true → Family k
+unfolding known
+known-family k e = ⊎-elim (λ q. inl (eqb-true k 4 q)) (λ q. inr (eqb-true k 6 q)) (or-true (eqb k 4) _ e)
+
+side-fields : (w ports at : ℕ) (e : List ℕ) → w ≤ 16 → Octets e → SideFields (sideOf w ports at e)
+unfolding sideOf
+side-fields w ports at e k h =
+    let a = take w (drop at e) in
+    let x = h ports in
+    let y = h (ports + 1) in
+    let l = length-take w (drop at e) in
+    record {
+      low = omega arith;
+      sixteen = simp (length-append, length-replicate) (omega arith);
+      octets = append-octets a (replicate (16 - length a) 0) (take-octets w (drop at e) (drop-octets at e h)) (zeros-octets (16 - length a));
+    }
+
+-- what every entry has that bytes mean, of any bytes
+pub record Shape (e : Entry) : Type 0 where
+  pub family : Family (e .selector .family)
+  -- "MAC bytes (12 and 12)": the algorithm's
+  pub mac : e .secret .«mac_bytes» ≡ macBytes (e .secret .algorithm)
+  pub key : length (e .secret .key) ≡ 80
+
+entry-shape : (s : List ℕ) → sound (item s) ≡ true → Shape (entryOf s)
+unfolding item entryOf selectorOf secretOf
+entry-shape s h =
+    let k = and-true (known (getD s 0 0)) _ h in
+    let l = leb-true (size (getD s 0 0)) (length s) (k .1) in
+    let b = body-is (getD s 0 0) in
+    let w = 16 + 2 * width (getD s 0 0) in
+    let d = length-drop w s in
+    record { family = known-family (getD s 0 0) (k .0); mac = refl; key = length-take 80 (drop w s) ∙ omega arith }
+
+entry-fields : (s : List ℕ) → Octets s → sound (item s) ≡ true → Fields (entryOf s .selector)
+unfolding item entryOf selectorOf
+entry-fields s o h =
+    let w = width (getD s 0 0) in
+    record {
+      family = known-family (getD s 0 0) (and-true (known (getD s 0 0)) _ h .0);
+      local = side-fields w 5 13 s (width-le (getD s 0 0)) o;
+      remote = side-fields w 9 (14 + w) s (width-le (getD s 0 0)) o;
+    }
+
+abbrev pub Each : (Entry → Type 0) → List Entry → Type 0
+Each P [] = Unit {0}
+Each P (e ∷ l) = P e × Each P l
+
+-- what holds of each entry's own bytes holds of the table's entries
+module _ (Q : List ℕ → Type 0) (P : Entry → Type 0) (tail : (b : ℕ) (t : List ℕ) → Q (b ∷ t) → Q t) (of : (s : List ℕ) → Q s → sound (item s) ≡ true → P (entryOf s)) where
+  each-item : (n : ℕ) (t : List ℕ) → Q t → Each P (entriesOf (items n t))
+  unfolding items entriesOf item
+  each-item n [] q = tt
+  each-item (suc n) (b ∷ t) q = each-item n t (tail b t q)
+  each-item zero (b ∷ t) q = go (sound (item (b ∷ t))) refl (each-item (body b) t (tail b t q))
+    where
+      go : (c : Bool) → sound (item (b ∷ t)) ≡ c → Each P (entriesOf (items (body b) t)) → Each P (entriesOf (items 0 (b ∷ t)))
+      go true e ih = rw e (of (b ∷ t) q e, ih)
+      go false e ih = rw e tt
+
+pub entries-shape : (t : List ℕ) → Each Shape (entries t)
+entries-shape t = each-item (λ s. Unit {0}) Shape (λ b s q. tt) (λ s q h. entry-shape s h) 0 t tt
+
+pub entries-fields : (t : List ℕ) → Octets t → Each (λ e. Fields (e .selector)) (entries t)
+entries-fields t o = each-item Octets (λ e. Fields (e .selector)) (λ b s q i. q (suc i)) entry-fields 0 t o

@@ -1,0 +1,11 @@
+pub mod Algorithm
+pub mod Entry
+pub mod EntryLaws
+pub mod Match
+pub mod MatchLaws
+pub mod Table
+pub mod LoadLaws
+pub mod SearchLaws
+pub mod Mirror
+pub mod MirrorLaws
+pub mod Examples

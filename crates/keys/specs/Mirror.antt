@@ -1,0 +1,33 @@
+-- Entries that mirror each other: document 01, "Key table (house bytes)", "Two entries mirror each other on a connection if ..".
+use Prim.Native.Nat.{ℕ}
+use mathlib.Core.Bool.{true}
+use mathlib.Core.Path.{_≡_}
+use Rattle.keys.specs.Entry.{keyOf}
+use Rattle.keys.specs.Match.{matches}
+use Rattle.keys.specs.declared.entry.Entry.{Entry}
+use Rattle.keys.specs.declared.entry.Pair.{Pair}
+
+-- the same socket pair as the other end holds it
+abbrev pub exchanged : Pair → Pair
+exchanged p =
+    record {
+      family = p .family;
+      «local_port» = p .«remote_port»;
+      «remote_port» = p .«local_port»;
+      local = p .remote;
+      remote = p .local;
+    }
+
+-- of the connection whose pair is p at e's end
+pub record Mirror (p : Pair) (e f : Entry) : Type 0 where
+  -- "each matches the pair as its own end holds it"
+  pub here : matches (e .selector) p ≡ true
+  pub there : matches (f .selector) (exchanged p) ≡ true
+  -- "SendID and RecvID are exchanged"
+  pub sent : e .ids .send ≡ f .ids .recv
+  pub received : e .ids .recv ≡ f .ids .send
+  -- "and flags, algorithm and key, with whatever later requests add to them, agree"
+  pub flags : e .secret .flags ≡ f .secret .flags
+  pub algorithm : e .secret .algorithm ≡ f .secret .algorithm
+  pub mac : e .secret .«mac_bytes» ≡ f .secret .«mac_bytes»
+  pub key : keyOf (e .secret) ≡ keyOf (f .secret)

@@ -1,0 +1,155 @@
+// One entry of the key table (an MKT of RFC 5925, section 3.1), by value and read from its bytes: document 01, "Key table (house bytes)".
+// The functions here ask that the entry is there whole; the walks of table.rt see to it.
+ghost use mathlib.Core.Path.{_≡_};
+ghost use Prim.Native.Nat.{_+_, _*_, _≤_};
+ghost use lib.ListN.{length, take, drop, getD};
+ghost use Rattle.keys.specs.Entry.{known, size, width, padded, sideOf, selectorOf, idsOf, secretOf, entryOf};
+
+// One side of whom an entry matches: ports from low to high, and the addresses whose first `bits` bits are those of `address`.
+pub struct Side {
+    pub low: u16,
+    pub high: u16,
+    pub bits: u8,
+    pub address: [u8; 16],
+}
+
+// Whom an entry matches. IPv4 (family 4) uses the first four bytes of an address field, IPv6 (family 6) all sixteen.
+pub struct Selector {
+    pub family: u8,
+    pub local: Side,
+    pub remote: Side,
+}
+
+// SendID and RecvID.
+pub struct Ids {
+    pub send: u8,
+    pub recv: u8,
+}
+
+// How an entry signs: bit 0 of the flags says that all options are covered; the key is the first key_len bytes.
+pub struct Secret {
+    pub flags: u8,
+    pub algorithm: u8,
+    pub mac_bytes: u8,
+    pub key_len: u8,
+    pub key: [u8; 80],
+}
+
+pub struct Entry {
+    pub selector: Selector,
+    pub ids: Ids,
+    pub secret: Secret,
+}
+
+// A socket pair. The bytes of an address field that the family does not use mean nothing.
+pub struct Pair {
+    pub family: u8,
+    pub local_port: u16,
+    pub remote_port: u16,
+    pub local: [u8; 16],
+    pub remote: [u8; 16],
+}
+
+pub(crate) fn known_kind(kind: u8) -> bool
+    ensures { λ r. ⌜ r ≡ known kind ⌝ }
+{
+    if kind == 4 {
+        return true;
+    }
+    kind == 6
+}
+
+// How many bytes an entry has, its kind among them.
+pub(crate) fn size_of(kind: u8) -> usize
+    ensures { λ r. ⌜ r ≡ size kind ⌝ }
+{
+    if kind == 4 { 104 } else { 128 }
+}
+
+// How many bytes an address has.
+pub(crate) fn width_of(family: u8) -> usize
+    ensures { λ r. ⌜ r ≡ width family ⌝ }
+{
+    if family == 4 { 4 } else { 16 }
+}
+
+fn address_at(e: &[u8], at: usize, w: usize) -> [u8; 16]
+    requires { ⌜ (w ≤ 16) × (at + w ≤ length (now e)) ⌝ }
+    ensures { λ r. ⌜ r ≡ padded (take w (drop at (now (e .entry)))) ⌝ }
+{
+    let mut a = [0u8; 16];
+    octets::copy_at(&mut a, 0, &e[at..at + w]);
+    a
+}
+
+fn key_at(e: &[u8], at: usize) -> [u8; 80]
+    requires { ⌜ at + 80 ≤ length (now e) ⌝ }
+    ensures { λ r. ⌜ r ≡ take 80 (drop at (now (e .entry))) ⌝ }
+{
+    let mut k = [0u8; 80];
+    octets::copy_at(&mut k, 0, &e[at..at + 80]);
+    k
+}
+
+// The side whose ports stand at `ports` and whose address of w bytes stands at `at`.
+fn side_of(e: &[u8], w: usize, ports: usize, at: usize) -> Side
+    requires { ⌜ (w ≤ 16) × (ports + 4 ≤ length (now e)) × (at + w + 1 ≤ length (now e)) ⌝ }
+    ensures { λ r. ⌜ r ≡ sideOf w ports at (now (e .entry)) ⌝ }
+{
+    let a = address_at(e, at, w);
+    Side {
+        low: octets::load16(e, ports),
+        high: octets::load16(e, ports + 2),
+        bits: e[at + w],
+        address: a,
+    }
+}
+
+pub(crate) fn selector_of(e: &[u8]) -> Selector
+    requires { ⌜ size (getD (now e) 0 0) ≤ length (now e) ⌝ }
+    ensures { λ r. ⌜ r ≡ selectorOf (width (getD (now (e .entry)) 0 0)) (now (e .entry)) ⌝ }
+{
+    let w = width_of(e[0]);
+    Selector {
+        family: e[0],
+        local: side_of(e, w, 5, 13),
+        remote: side_of(e, w, 9, 14 + w),
+    }
+}
+
+pub(crate) fn ids_of(e: &[u8]) -> Ids
+    requires { ⌜ size (getD (now e) 0 0) ≤ length (now e) ⌝ }
+    ensures { λ r. ⌜ r ≡ idsOf (now (e .entry)) ⌝ }
+{
+    Ids {
+        send: e[3],
+        recv: e[4],
+    }
+}
+
+fn secret_of(e: &[u8]) -> Secret
+    requires { ⌜ size (getD (now e) 0 0) ≤ length (now e) ⌝ }
+    ensures { λ r. ⌜ r ≡ secretOf (width (getD (now (e .entry)) 0 0)) (now (e .entry)) ⌝ }
+{
+    let w = width_of(e[0]);
+    let k = key_at(e, 16 + 2 * w);
+    Secret {
+        flags: e[1],
+        algorithm: e[2],
+        mac_bytes: crate::algorithm::mac_bytes(e[2]),
+        key_len: e[15 + 2 * w],
+        key: k,
+    }
+}
+
+// The entry whose bytes begin with e's.
+pub(crate) fn entry_of(e: &[u8]) -> Entry
+    requires { ⌜ size (getD (now e) 0 0) ≤ length (now e) ⌝ }
+    ensures { λ r. ⌜ r ≡ entryOf (now (e .entry)) ⌝ }
+{
+    Entry {
+        selector: selector_of(e),
+        ids: ids_of(e),
+        secret: secret_of(e),
+    }
+}

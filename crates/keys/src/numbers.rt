@@ -1,0 +1,111 @@
+// What is wrong with an entry by itself: the numbers 13 to 16 of document 01, "Numbers given back".
+// Assumes nothing: every value of the types is an input. 0 says that no number applies.
+ghost use mathlib.Core.Path.{_≡_};
+ghost use Prim.Native.Nat.{_≤_};
+ghost use mathlib.Core.List.{_++_};
+ghost use lib.ListN.{drop};
+ghost use Rattle.keys.specs.Table.{first, zeros, secretLines, portLines, sideLines, keyLines, entryLines};
+use crate::entry::Entry;
+use crate::entry::Secret;
+use crate::entry::Selector;
+use crate::entry::Side;
+
+fn secret_number(s: Secret) -> u8
+    ensures { λ r. ⌜ r ≡ first (secretLines s) ⌝ }
+{
+    if 1 < s.flags {
+        return 13;
+    }
+    if s.algorithm < 1 {
+        return 13;
+    }
+    if 2 < s.algorithm {
+        return 13;
+    }
+    0
+}
+
+fn port_number(s: Selector) -> u8
+    ensures { λ r. ⌜ r ≡ first (portLines s) ⌝ }
+{
+    let local = s.local;
+    let remote = s.remote;
+    if local.high < local.low {
+        return 14;
+    }
+    if remote.high < remote.low {
+        return 14;
+    }
+    0
+}
+
+fn side_number(family: u8, s: Side) -> u8
+    ensures { λ r. ⌜ r ≡ first (sideLines family s) ⌝ }
+{
+    if 8 * crate::entry::width_of(family) < s.bits as usize {
+        return 15;
+    }
+    let a = s.address;
+    if !wire::prefix::clear_past(&a, s.bits) {
+        return 15;
+    }
+    0
+}
+
+// Whether every byte from n on is zero.
+fn zero_from(s: &[u8], n: usize) -> bool
+    ensures { λ r. ⌜ r ≡ zeros (drop n (now (s .entry))) ⌝ }
+{
+    let mut i: usize = n;
+    while i < s.len() {
+        if s[i] != 0 {
+            return false;
+        }
+        i += 1;
+    }
+    true
+}
+
+fn key_number(s: Secret) -> u8
+    ensures { λ r. ⌜ r ≡ first (keyLines s) ⌝ }
+{
+    if s.key_len < 1 {
+        return 16;
+    }
+    if 80 < s.key_len {
+        return 16;
+    }
+    let k = s.key;
+    if !zero_from(&k, s.key_len as usize) {
+        return 16;
+    }
+    0
+}
+
+fn sides_number(s: Selector) -> u8
+    ensures { λ r. ⌜ r ≡ first (sideLines (s .family) (s .local) ++ sideLines (s .family) (s .remote)) ⌝ }
+{
+    let n = side_number(s.family, s.local);
+    if n != 0 {
+        return n;
+    }
+    side_number(s.family, s.remote)
+}
+
+pub(crate) fn entry_number(e: Entry) -> u8
+    ensures { λ r. ⌜ r ≡ first (entryLines e) ⌝ }
+{
+    let a = secret_number(e.secret);
+    if a != 0 {
+        return a;
+    }
+    let b = port_number(e.selector);
+    if b != 0 {
+        return b;
+    }
+    let c = sides_number(e.selector);
+    if c != 0 {
+        return c;
+    }
+    key_number(e.secret)
+}

@@ -1,0 +1,12 @@
+pub mod Blocks
+pub mod BlocksLaws
+pub mod Sha1
+pub mod Sha1Laws
+pub mod Hmac
+pub mod HmacLaws
+pub mod HashContexts
+pub mod Aes
+pub mod AesLaws
+pub mod Cmac
+pub mod CmacLaws
+pub mod CmacContext

@@ -1,0 +1,93 @@
+-- Demand 2, of the definitions: what one end signs, the other end accepts. First what the three ways share.
+use Prim.Native.Nat.{ℕ, zero, suc, _+_, _-_, _*_, _/_, _%_, _^_, _≤_, _<_}
+use mathlib.Core.Path.{_≡_, refl, ap, ap₂, sym, _∙_, subst, subst⁻¹}
+use mathlib.Core.Bool.{Bool, true, false, cond, not, _&&_, _||_}
+use mathlib.Core.List.{List, [], _∷_, _++_}
+use native.Mathlib.Omega.{arith}
+use lib.ListN.{length, getD, take, drop}
+use lib.Seq.{length-take-le}
+use lib.Dec.{ltb, eqb}
+use borrow.Author.Tests.{eq-eqb, eqb-true, not-false}
+use Rattle.wire.specs.Bytes.{sameBytes}
+use Rattle.wire.specs.BytesLaws.{same-of-eq, same-refl}
+use Rattle.wire.specs.Header.{sourcePort, destinationPort, sequence, syn, ack}
+use Rattle.wire.specs.declared.options.Occurrence.{Occurrence}
+use Rattle.keys.specs.declared.entry.Pair.{Pair}
+use Rattle.keys.specs.declared.entry.Entry.{Entry}
+use Rattle.keys.specs.declared.table.Found.{Found}
+use Rattle.keys.specs.Entry.{width, entries}
+use Rattle.keys.specs.Mirror.{Mirror}
+use Rattle.keys.specs.LoadLaws.{At as EntryAt}
+use Rattle.keys.specs.Table.{ValidTable, checked, recvEntry}
+use Rattle.keys.specs.SearchLaws.{hit, recv-found, send-holder}
+use Rattle.rules.specs.declared.Place.{Place}
+use Rattle.rules.specs.declared.Place.the-variants.{At, Nowhere}
+use Rattle.rules.specs.declared.Outcome.{Outcome}
+use Rattle.rules.specs.declared.Outcome.the-variants.{Good, Passed, Bad}
+use Rattle.rules.specs.declared.Line.{Line}
+use Rattle.rules.specs.declared.State.{State}
+use Rattle.rules.specs.Position.{position, Near}
+use Rattle.rules.specs.PositionLaws.{complete, sound}
+use Rattle.rules.specs.NumberLaws.{NoneApplies, first-none}
+use Rattle.rules.specs.Mac.{Flow, segmentMac}
+use Rattle.rules.specs.MacLaws.{Agree}
+use Rattle.rules.specs.Segment.{ao, aoAt, keyId, rnextKeyId, macIn, isBareSyn}
+use Rattle.rules.specs.Connection.{Arrival, localAddress, remoteAddress, isOpen, arriving, leaving, placeOn, located, value, extensionOf}
+use Rattle.rules.specs.Calls.{keyTests, isRefused, macDiffers, optionTests, lengthTests, tableTests}
+use Rattle.rules.specs.Ends.{Each, Bytes, SignedAt, rechecked}
+use Rattle.rules.specs.RoundTrip.{Reads, Arrived}
+use Rattle.rules.specs.Delivery.{signs, twelve, mac, length-its-mac, segment, reads, same-mac, sizes}
+
+-- bytes make a number below 2 ^ 32
+byte-at : (s : List ℕ) (i : ℕ) → Bytes s → getD s i 0 < 256
+byte-at [] i b = omega arith
+byte-at (x ∷ s) zero b = b .0
+byte-at (x ∷ s) (suc i) b = byte-at s i (b .1)
+
+pub sequence-below : (s : List ℕ) → Bytes s → sequence s < 2 ^ 32
+sequence-below s b = omega (arith, byte-at s 4 b, byte-at s 5 b, byte-at s 6 b, byte-at s 7 b)
+
+pub agree-of : (p : Pair) (ours theirs : Entry) → Mirror p ours theirs → Agree (ours .secret) (theirs .secret)
+agree-of p ours theirs m = record { flags = m .flags; algorithm = m .algorithm; mac = m .mac; key = m .key }
+
+-- a signed SYN: "(bare or with ACK) whose position is .. our ISN"
+pub syn-at : (q : State) (e : Entry) (x : ℕ) (b : List ℕ) (g : SignedAt q e x b) → syn (g .unsigned) ≡ true → x ≡ q .line .isn
+syn-at q e x b g its-syn = ap value (sym (g .position)) ∙ eqb-true _ _ (not-false _ (rw its-syn at (signs q e x b g .number)))
+
+module _ (q : State) (e : Entry) (x : ℕ) (b : List ℕ) (g : SignedAt q e x b) (c d : ℕ) where
+  abbrev came : List ℕ
+  came = segment q e x b g c d
+
+  abbrev read : Reads came (q .«send_id») (q .«ask_id») (mac q e x b g)
+  read = reads q e x b g c d .reads
+
+  -- 20, 21 and 22
+  pub none-20 : NoneApplies (lengthTests 20 came)
+  none-20 = let z = sizes q e x b g c d in (z .0, (z .1, (z .2, (z .3, tt))))
+
+  pub none-21 : NoneApplies (optionTests came)
+  none-21 =
+      (read .formed, (ap (λ (o : Occurrence). ltb 1 (o .count)) (read .one), (rw (read .one) (ap (λ (n : ℕ). ltb 0 n) (read .no-md5)), tt)))
+
+  -- 25 to 29, under the entry that mirrors the sender's, for the flow that it signed and a place with its extension
+  module _ (missing unknown : Outcome) (i : ℕ) (ours : Entry) (f : Flow) (y : ℕ) (found : Found) (agree : Agree (ours .secret) (e .secret)) (held : found ≡ hit i ours)
+      (flow : f ≡ leaving (q .line)) (ext : extensionOf y ≡ extensionOf x) where
+    right-length : not (eqb (ao came .len) (4 + found .entry .secret .«mac_bytes»)) ≡ false
+    right-length =
+        (λ j. not (eqb (read .one j .len) (4 + held j .entry .secret .«mac_bytes»)))
+        ∙ ap not (eq-eqb _ _ (ap (λ (n : ℕ). 4 + n) (length-its-mac q e x b g ∙ sym (twelve q e x b g) ∙ sym (agree .mac))))
+
+    right-mac : macDiffers (found .entry) f (At y) came ≡ false
+    right-mac =
+        ap not
+        (same-of-eq _ _
+        (read .mac
+        ∙ sym ((λ j. segmentMac (held j .entry .secret) f (ext j) (20 + read .one j .at) came) ∙ same-mac q e x b g c d (ours .secret) f agree flow)))
+
+    pub keyed : NoneApplies (keyTests missing unknown found f (At y) came)
+    keyed =
+        (ap (λ (o : Occurrence). eqb (o .count) 0) (read .one), (ap (λ (o : Found). not (o .there)) held, (right-length, (refl, (right-mac, tt)))))
+
+-- a table that is valid, addresses of one size
+pub none-10 : (t : List ℕ) → ValidTable t → NoneApplies (tableTests t)
+none-10 t v = (ap isRefused (v .1), tt)

@@ -1,0 +1,257 @@
+-- One signed segment, one judging call: the tests that the receiver makes of it all fail, on each of the three ways that it can go.
+use Prim.Native.Nat.{ℕ, zero, suc, _+_, _-_, _*_, _/_, _%_, _^_, _≤_, _<_}
+use mathlib.Core.Path.{_≡_, refl, ap, ap₂, sym, _∙_, subst, subst⁻¹}
+use mathlib.Core.Bool.{Bool, true, false, cond, not, _&&_, _||_}
+use mathlib.Core.List.{List, [], _∷_, _++_}
+use native.Mathlib.Omega.{arith}
+use lib.ListN.{length, getD, take, drop}
+use lib.Seq.{length-take-le, take-at}
+use lib.Dec.{ltb, eqb}
+use borrow.Author.Tests.{eq-eqb, eqb-true, not-false}
+use Rattle.wire.specs.BytesLaws.{same-refl}
+use Rattle.wire.specs.Header.{sourcePort, destinationPort, sequence, syn, ack}
+use Rattle.keys.specs.declared.entry.Pair.{Pair}
+use Rattle.keys.specs.declared.entry.Entry.{Entry}
+use Rattle.keys.specs.Entry.{known, width, padded, entries}
+use Rattle.keys.specs.EntryLaws.{width-le}
+use Rattle.keys.specs.MatchLaws.{and-true}
+use Rattle.keys.specs.Mirror.{Mirror}
+use Rattle.keys.specs.LoadLaws.{At as EntryAt}
+use Rattle.keys.specs.Table.{ValidTable, recvEntry}
+use Rattle.keys.specs.SearchLaws.{hit, recv-found, send-holder}
+use Rattle.rules.specs.declared.Place.{Place}
+use Rattle.rules.specs.declared.Place.the-variants.{At, Nowhere}
+use Rattle.rules.specs.declared.Outcome.{Outcome}
+use Rattle.rules.specs.declared.Outcome.the-variants.{Good, Passed, Bad}
+use Rattle.rules.specs.declared.Line.{Line}
+use Rattle.rules.specs.declared.State.{State}
+use Rattle.rules.specs.Position.{position, Near}
+use Rattle.rules.specs.PositionLaws.{complete, sound}
+use Rattle.rules.specs.NumberLaws.{NoneApplies, first-none, none-append}
+use Rattle.rules.specs.Mac.{Flow}
+use Rattle.rules.specs.Segment.{keyId, rnextKeyId, isBareSyn}
+use Rattle.rules.specs.Connection.{sized, Arrival, localAddress, remoteAddress, arrivalPair, isOpen, arriving, arrivingSyn, leaving, placeOn, value, extensionOf}
+use Rattle.rules.specs.Calls.{refuse, familyTests, addressTests, tableTests, lengthTests, optionTests, pairTests, stageTests, keyTests, judgeTests, check, synTests, synMissing, synUnknown, judgeSynTests, checkSyn}
+use Rattle.rules.specs.Ends.{Typed, Allowed, Facing, OtherEnd, Delivered, SignedAt, TrueSegment}
+use Rattle.rules.specs.Demand3.{Within}
+use Rattle.rules.specs.RoundTrip.{Arrived}
+use Rattle.rules.specs.Delivery.{signs, mac, segment, reads}
+use Rattle.rules.specs.Acceptance.{sequence-below, agree-of, syn-at, none-20, none-21, none-10, keyed}
+
+-- the addresses of a pair are of one size
+address-length : (f : ℕ) (a : List ℕ) → length a ≡ 16 → length (take (width f) a) ≡ width f
+address-length f a h = length-take-le (width f) a (omega (arith, width-le f))
+
+sized-by : (f : ℕ) (a b : List ℕ) → length a ≡ width f → length b ≡ width f → sized a b ≡ true
+unfolding width
+sized-by f a b p q = go (eqb f 4) refl
+  where
+    go : (w : Bool) → eqb f 4 ≡ w → sized a b ≡ true
+    go true e = rw (p, q, e)
+    go false e = rw (p, q, e)
+
+-- the family of addresses is told by their size
+family-by : (f n : ℕ) → known f ≡ true → n ≡ width f → cond (eqb n 4) 4 6 ≡ f
+unfolding width known
+family-by f n a h = go (eqb f 4) (eqb f 6) refl refl
+  where
+    go : (u w : Bool) → eqb f 4 ≡ u → eqb f 6 ≡ w → cond (eqb n 4) 4 6 ≡ f
+    go true w p r = rw (h, p) (sym (eqb-true f 4 p))
+    go false true p r = rw (h, p) (sym (eqb-true f 6 r))
+    go false false p r = let z : _≡_ {A = ℕ} 0 1 = cc (rw (p, r) at a) in absurd (omega arith)
+
+-- With a state: the receiver's table t holds `ours`, which mirrors the sender's entry e; its line l faces the sender's.
+module _ (q : State) (e : Entry) (x : ℕ) (b : List ℕ) (g : SignedAt q e x b) (c d : ℕ)
+    (t : List ℕ) (valid : ValidTable t) (l : Line) (allowed : Allowed l) (local : length (l .pair .local) ≡ 16) (remote : length (l .pair .remote) ≡ 16)
+    (facing : Facing (l .pair) (q .line .pair)) (i : ℕ) (ours : Entry) (among : EntryAt (entries t) i ours) (mirror : Mirror (l .pair) ours e) where
+  abbrev came : List ℕ
+  came = segment q e x b g c d
+
+  abbrev comes : Arrival
+  comes = record { source = remoteAddress (l .pair); destination = localAddress (l .pair); segment = came }
+
+  abbrev read : Arrived (g .unsigned) came (q .«send_id») (q .«ask_id») (mac q e x b g)
+  read = reads q e x b g c d
+
+  its-key : keyId came ≡ ours .ids .recv
+  its-key =
+      read .reads .key
+      ∙ sym (send-holder (g .table) (q .line .pair) (q .«send_id») (signs q e x b g .entry) .1)
+      ∙ ap (λ (f : Entry). f .ids .send) (g .under) ∙ sym (mirror .received)
+
+  found : recvEntry t (l .pair) (keyId came) ≡ hit i ours
+  found = recv-found t (l .pair) (keyId came) valid among (mirror .here) (sym its-key)
+
+  -- accepted at a place of the same extension, if the stage is right and the flow is the sender's
+  accepted : (reference y : ℕ) → cond (isOpen l) (isBareSyn came) (not (syn came && ack came)) ≡ false → arriving l came ≡ leaving (q .line)
+      → placeOn l reference (sequence came) ≡ At y → extensionOf y ≡ extensionOf x → check t l reference comes ≡ Good y (q .«ask_id»)
+  unfolding check
+  accepted reference y stage flow place ext =
+      first-none (judgeTests t l reference comes) _
+      (none-append (familyTests l) (drop 1 (judgeTests t l reference comes)) (ap not allowed, tt)
+      (none-append (addressTests (remoteAddress (l .pair)) (localAddress (l .pair))) (drop 2 (judgeTests t l reference comes)) (ap not (sized-by (l .pair .family) (remoteAddress (l .pair)) (localAddress (l .pair)) (address-length (l .pair .family) (l .pair .remote) remote) (address-length (l .pair .family) (l .pair .local) local)), tt)
+      (none-append (tableTests t) (drop 3 (judgeTests t l reference comes)) (none-10 t valid)
+      (none-append (lengthTests 20 came) (drop 7 (judgeTests t l reference comes)) (none-20 q e x b g c d)
+      (none-append (optionTests came) (drop 10 (judgeTests t l reference comes)) (none-21 q e x b g c d)
+      (none-append (pairTests (l .pair) comes) (drop 14 (judgeTests t l reference comes)) (
+        ap not (same-refl (remoteAddress (l .pair))),
+        (
+          ap not (same-refl (localAddress (l .pair))),
+          (
+            ap not (eq-eqb _ _ (read .source-port ∙ signs q e x b g .source-port ∙ sym (facing .remote-port))),
+            (ap not (eq-eqb _ _ (read .destination-port ∙ signs q e x b g .destination-port ∙ sym (facing .local-port))), tt),
+          ),
+        ),
+      )
+      (none-append (stageTests l came) (drop 15 (judgeTests t l reference comes)) (stage, tt)
+      (subst⁻¹ (λ (z : Place). NoneApplies (keyTests (refuse 25) (refuse 26) (recvEntry t (l .pair) (keyId came)) (arriving l came) z came)) place
+      (keyed q e x b g c d (refuse 25) (refuse 26) i ours (arriving l came) y (recvEntry t (l .pair) (keyId came)) (agree-of (l .pair) ours e mirror) found flow ext)))))))))
+      ∙ ap₂ (λ (z : Place) (r : ℕ). Good (value z) r) place (read .reads .next)
+
+  -- a segment that is no bare SYN arrives as none
+  not-bare : (w : Bool) → isBareSyn (g .unsigned) ≡ w → isBareSyn came ≡ w
+  not-bare w h = (λ j. read .its-syn j && not (read .its-ack j)) ∙ h
+
+  -- the position by which it was signed, where the sender is open
+  signed-near : Typed q → isOpen (q .line) ≡ true → Near (q .sent) (sequence (g .unsigned)) x
+  signed-near typed opens =
+      sound (q .sent) (sequence (g .unsigned)) x (sequence-below (g .unsigned) (g .octets)) (typed .sent) (rw opens at (g .position))
+
+  -- Once open: accepted at the true position, with the sender's extension, by every reference less than 2^31 away.
+  pub open-accepted : Typed q → OtherEnd l (q .line) → (reference : ℕ) → Within reference x → check t l reference comes ≡ Good x (q .«ask_id»)
+  open-accepted typed other reference near =
+      accepted reference x (rw (other .here) (not-bare false (rw (other .there) at (signs q e x b g .stage)))) flow place refl
+    where
+      flow : arriving l came ≡ leaving (q .line)
+      flow = λ j. record {
+        source = facing .remote j;
+        destination = facing .local j;
+        sourcePort = facing .remote-port j;
+        destinationPort = facing .local-port j;
+        sourceIsn = (ap (λ (w : Bool). cond w (l .«peer_isn») (sequence came)) (other .here) ∙ other .peer) j;
+        destinationIsn = (other .isn ∙ ap (λ (w : Bool). cond w (q .line .«peer_isn») 0) (sym (other .there))) j;
+      }
+
+      place : placeOn l reference (sequence came) ≡ At x
+      place =
+          let n = signed-near typed (other .there) in
+          ap (λ (w : Bool). cond w (position reference (sequence came)) (At (sequence came))) (other .here)
+          ∙ ap (position reference) (read .number)
+          ∙ complete reference (sequence (g .unsigned)) x (record { remainder = n .remainder; above = omega arith; below = omega arith; fits = n .fits })
+
+  -- The SYN+ACK that opens: accepted by the end that is opening, at the peer's ISN, whatever else that state holds.
+  pub syn-ack-accepted : Typed q → isOpen (q .line) ≡ true → isOpen l ≡ false → l .isn ≡ q .line .«peer_isn» → syn (g .unsigned) ≡ true → (reference : ℕ)
+      → check t l reference comes ≡ Good (q .line .isn) (q .«ask_id»)
+  syn-ack-accepted typed there here isn its-syn reference =
+      accepted reference (q .line .isn) stage flow place (ap extensionOf (sym (syn-at q e x b g its-syn)))
+    where
+      number : sequence came ≡ q .line .isn
+      number =
+          let n = signed-near typed there in
+          let z = syn-at q e x b g its-syn in
+          let w = typed .isn in
+          let k : sequence (g .unsigned) ≡ q .line .isn = omega arith in
+          read .number ∙ k
+
+      with-ack : ack (g .unsigned) ≡ true
+      with-ack = not-false _ (rw (there, its-syn) at (signs q e x b g .stage))
+
+      stage : cond (isOpen l) (isBareSyn came) (not (syn came && ack came)) ≡ false
+      stage = λ j. cond (here j) (isBareSyn came) (not ((read .its-syn ∙ its-syn) j && (read .its-ack ∙ with-ack) j))
+
+      flow : arriving l came ≡ leaving (q .line)
+      flow = λ j. record {
+        source = facing .remote j;
+        destination = facing .local j;
+        sourcePort = facing .remote-port j;
+        destinationPort = facing .local-port j;
+        sourceIsn = (ap (λ (w : Bool). cond w (l .«peer_isn») (sequence came)) here ∙ number) j;
+        destinationIsn = (isn ∙ ap (λ (w : Bool). cond w (q .line .«peer_isn») 0) (sym there)) j;
+      }
+
+      place : placeOn l reference (sequence came) ≡ At (q .line .isn)
+      place = ap (λ (w : Bool). cond w (position reference (sequence came)) (At (sequence came))) here ∙ ap At number
+
+-- Without a state: a bare SYN that the opening end q signed. `comes` has the sender's addresses.
+module _ (q : State) (typed : Typed q) (opening : isOpen (q .line) ≡ false) (e : Entry) (x : ℕ) (b : List ℕ) (g : SignedAt q e x b) (c d : ℕ) where
+  abbrev pub synArrival : Arrival
+  synArrival = record { source = localAddress (q .line .pair); destination = remoteAddress (q .line .pair); segment = segment q e x b g c d }
+
+  -- one pair, from both ends
+  pub syn-facing : Facing (q .line .pair) (arrivalPair synArrival)
+  syn-facing =
+      record {
+        family = sym family;
+        local = sym (whole (q .line .pair .local) (typed .local));
+        remote = sym (whole (q .line .pair .remote) (typed .remote));
+        local-port = sym (reads q e x b g c d .source-port ∙ signs q e x b g .source-port);
+        remote-port = sym (reads q e x b g c d .destination-port ∙ signs q e x b g .destination-port);
+      }
+    where
+      f : ℕ
+      f = q .line .pair .family
+
+      family : cond (eqb (length (remoteAddress (q .line .pair))) 4) 4 6 ≡ q .line .pair .family
+      family = family-by (q .line .pair .family) _ (signs q e x b g .allowed) (address-length (q .line .pair .family) (q .line .pair .remote) (typed .remote))
+
+      whole : (a : List ℕ) → length a ≡ 16
+          → take (width (cond (eqb (length (remoteAddress (q .line .pair))) 4) 4 6)) (padded (take (width (q .line .pair .family)) a)) ≡ take (width (q .line .pair .family)) a
+      whole a h =
+          ap (λ (n : ℕ). take (width n) (padded (take (width (q .line .pair .family)) a))) family
+          ∙ take-at (take (width (q .line .pair .family)) a) _ (width (q .line .pair .family)) (address-length (q .line .pair .family) a h)
+
+  module _ (t : List ℕ) (valid : ValidTable t) (strict : Bool) (i : ℕ) (ours : Entry) (among : EntryAt (entries t) i ours) (mirror : Mirror (arrivalPair synArrival) ours e) where
+    abbrev syn-came : List ℕ
+    syn-came = segment q e x b g c d
+
+    abbrev syn-read : Arrived (g .unsigned) syn-came (q .«send_id») (q .«ask_id») (mac q e x b g)
+    syn-read = reads q e x b g c d
+
+    bare : isBareSyn (g .unsigned) ≡ true
+    bare = not-false _ (rw opening at (signs q e x b g .stage))
+
+    syn-number : sequence syn-came ≡ q .line .isn
+    syn-number =
+        let z : sequence (g .unsigned) ≡ x = cc (rw opening at (g .position)) in
+        syn-read .number ∙ z ∙ syn-at q e x b g (and-true (syn (g .unsigned)) (not (ack (g .unsigned))) bare .0)
+
+    pub syn-found : recvEntry t (arrivalPair synArrival) (keyId syn-came) ≡ hit i ours
+    syn-found =
+        recv-found t (arrivalPair synArrival) (keyId syn-came) valid among (mirror .here)
+        (mirror .received ∙ ap (λ (f : Entry). f .ids .send) (sym (g .under)) ∙ send-holder (g .table) (q .line .pair) (q .«send_id») (signs q e x b g .entry) .1 ∙ sym (syn-read .reads .key))
+
+    pub syn-accepted : checkSyn t synArrival strict ≡ Good (q .line .isn) (q .«ask_id»)
+    unfolding checkSyn
+    syn-accepted =
+        first-none (judgeSynTests t synArrival strict) _
+        (none-append (addressTests (synArrival .source) (synArrival .destination)) (drop 1 (judgeSynTests t synArrival strict))
+        (ap not (sized-by (q .line .pair .family) (synArrival .source) (synArrival .destination) (address-length (q .line .pair .family) (q .line .pair .local) (typed .local)) (address-length (q .line .pair .family) (q .line .pair .remote) (typed .remote))), tt)
+        (none-append (tableTests t) (drop 2 (judgeSynTests t synArrival strict)) (none-10 t valid)
+        (none-append (lengthTests 20 syn-came) (drop 6 (judgeSynTests t synArrival strict)) (none-20 q e x b g c d)
+        (none-append (optionTests syn-came) (drop 9 (judgeSynTests t synArrival strict)) (none-21 q e x b g c d)
+        (none-append (synTests syn-came) (drop 10 (judgeSynTests t synArrival strict)) (ap not ((λ j. syn-read .its-syn j && not (syn-read .its-ack j)) ∙ bare), tt)
+        (keyed q e x b g c d (synMissing t (arrivalPair synArrival)) (synUnknown strict) i ours (arrivingSyn synArrival) (sequence syn-came)
+        (recvEntry t (arrivalPair synArrival) (keyId syn-came)) (agree-of (arrivalPair synArrival) ours e mirror) syn-found flow (ap extensionOf (syn-number ∙ sym (syn-at q e x b g its-syn)))))))))
+        ∙ ap₂ Good syn-number (syn-read .reads .next)
+      where
+        its-syn : syn (g .unsigned) ≡ true
+        its-syn = and-true (syn (g .unsigned)) (not (ack (g .unsigned))) bare .0
+
+        flow : arrivingSyn synArrival ≡ leaving (q .line)
+        flow = λ j. record {
+          source = localAddress (q .line .pair);
+          destination = remoteAddress (q .line .pair);
+          sourcePort = (syn-read .source-port ∙ signs q e x b g .source-port) j;
+          destinationPort = (syn-read .destination-port ∙ signs q e x b g .destination-port) j;
+          sourceIsn = syn-number j;
+          destinationIsn = ap (λ (w : Bool). cond w (q .line .«peer_isn») 0) (sym opening) j;
+        }
+
+-- A true segment of demand 3 is such a one.
+pub true-good : (t : List ℕ) → ValidTable t → (l : Line) → Allowed l → length (l .pair .local) ≡ 16 → length (l .pair .remote) ≡ 16
+    → (reference : ℕ) (a : Arrival) (x r : ℕ) → TrueSegment t l a x r → Within reference x → check t l reference a ≡ Good x r
+true-good t valid l allowed local remote reference a x r s near =
+    let v = s .delivered in
+    ap (check t l reference) (λ j. record { source = v .from j; destination = v .to j; segment = v .segment j })
+    ∙ open-accepted (s .peer) (s .theirs) x (s .bytes) (s .signed) (v .high) (v .low) t valid l allowed local remote (s .other .pair) (s .place) (s .ours) (s .among) (s .mirror) (s .typed) (s .other) reference near
+    ∙ ap (Good x) (s .asks)

@@ -1,0 +1,292 @@
+-- Every call of document 01, for every input: its numbers in order, of which the first that applies is given; then the answer, the new
+-- state, and every byte of the output.
+use Prim.Native.Nat.{ℕ, _+_}
+use mathlib.Core.Bool.{Bool, true, false, cond, not, _&&_, _||_}
+use mathlib.Core.List.{List, [], _∷_, _++_}
+use lib.ListN.{length, drop, replicate}
+use lib.Dec.{eqb, ltb}
+use Rattle.wire.specs.Bytes.{sameBytes}
+use Rattle.wire.specs.Header.{sourcePort, destinationPort, sequence, headerEnd, syn, ack, sizeFaults}
+use Rattle.keys.specs.declared.entry.Pair.{Pair}
+use Rattle.keys.specs.declared.entry.Entry.{Entry}
+use Rattle.keys.specs.declared.table.Found.{Found}
+use Rattle.keys.specs.declared.table.Loaded.{Loaded}
+use Rattle.keys.specs.declared.table.Loaded.the-variants.{Valid, Refused}
+use Rattle.keys.specs.Algorithm.{macBytes}
+use Rattle.keys.specs.Entry.{known}
+use Rattle.keys.specs.Table.{checked, sendEntry, recvEntry, anyEntry}
+use Rattle.rules.specs.declared.Place.{Place}
+use Rattle.rules.specs.declared.Place.the-variants.{At, Nowhere}
+use Rattle.rules.specs.declared.Outcome.{Outcome}
+use Rattle.rules.specs.declared.Outcome.the-variants.{Good, Passed, Bad}
+use Rattle.rules.specs.declared.Verdict.{Verdict}
+use Rattle.rules.specs.declared.Verdict.the-variants.{Accept, Pass, Drop}
+use Rattle.rules.specs.declared.Line.{Line}
+use Rattle.rules.specs.declared.State.{State}
+use Rattle.rules.specs.declared.Judged.{Judged}
+use Rattle.rules.specs.declared.Checked.{Checked}
+use Rattle.rules.specs.declared.Signing.{Signing}
+use Rattle.rules.specs.declared.Signing.the-variants as S
+use Rattle.rules.specs.declared.Signed.{Signed}
+use Rattle.rules.specs.declared.Done.{Done}
+use Rattle.rules.specs.declared.Done.the-variants as D
+use Rattle.rules.specs.declared.Settled.{Settled}
+use Rattle.rules.specs.Numbers.{Test, test, tests, first}
+use Rattle.rules.specs.Mac.{Flow, segmentMac}
+use Rattle.rules.specs.Segment.{malformed, ao, md5, aoAt, keyId, rnextKeyId, macIn, isBareSyn, signedWith}
+use Rattle.rules.specs.Connection.{sized, pairOf, Arrival, arrivalPair, localAddress, remoteAddress, isOpen, arriving, leaving, arrivingSyn, placeOn, located, value, extensionOf, nextKey, opened, opening, empty, withAccepted, withDrop, withSent, withAsked}
+
+abbrev pub refuse : ℕ → Outcome
+refuse n = Bad n 0
+
+-- The numbers, in groups.
+
+-- 18: "state's family is neither IPv4 nor IPv6"; the families are the entries' kinds, 4 and 6
+abbrev pub familyTests : Line → List (Test Outcome)
+familyTests l = test (refuse 18) (not (known (l .pair .family))) ∷ []
+
+-- 19: "addresses not both 4 or both 16 bytes"
+abbrev pub addressTests : List ℕ → List ℕ → List (Test Outcome)
+addressTests a b = test (refuse 19) (not (sized a b)) ∷ []
+
+-- 10 to 17, with the entry's index
+abbrev pub isRefused : Loaded → Bool
+isRefused (Valid n) = false
+isRefused (Refused n i) = true
+
+abbrev pub refusal : Loaded → Outcome
+refusal (Valid n) = refuse 0
+refusal (Refused n i) = Bad n i
+
+abbrev pub tableTests : List ℕ → List (Test Outcome)
+tableTests t = test (refusal (checked t)) (isRefused (checked t)) ∷ []
+
+-- 20, or 30 when signing: "bad length or offset"
+abbrev pub lengthTests : ℕ → List ℕ → List (Test Outcome)
+lengthTests n s = tests (refuse n) (sizeFaults s)
+
+-- 21: "malformed options"; 22: "two TCP-AO, or TCP-AO and MD5 together"
+abbrev pub optionTests : List ℕ → List (Test Outcome)
+optionTests s =
+    test (refuse 21) (malformed s) ∷ test (refuse 22) (ltb 1 (ao s .count)) ∷ test (refuse 22) (ltb 0 (ao s .count) && ltb 0 (md5 s .count)) ∷ []
+
+-- 23: "pair is not the state's"
+abbrev pub pairTests : Pair → Arrival → List (Test Outcome)
+pairTests p a =
+    tests (refuse 23)
+    (not (sameBytes (a .source) (remoteAddress p))
+    ∷ not (sameBytes (a .destination) (localAddress p))
+    ∷ not (eqb (sourcePort (a .segment)) (p .«remote_port»))
+    ∷ not (eqb (destinationPort (a .segment)) (p .«local_port»)) ∷ [])
+
+-- 24: "wrong segment for the stage". Open: a bare SYN; opening: anything but SYN with ACK; without a state: anything but a bare SYN
+abbrev pub stageTests : Line → List ℕ → List (Test Outcome)
+stageTests l s = test (refuse 24) (cond (isOpen l) (isBareSyn s) (not (syn s && ack s))) ∷ []
+
+abbrev pub synTests : List ℕ → List (Test Outcome)
+synTests s = test (refuse 24) (not (isBareSyn s)) ∷ []
+
+-- 29: the MAC of the segment, under the entry found, is not the one it carries
+abbrev pub macDiffers : Entry → Flow → Place → List ℕ → Bool
+macDiffers e f x s = not (sameBytes (macIn s) (segmentMac (e .secret) f (extensionOf (value x)) (aoAt s) s))
+
+-- 25 and 26: "TCP-AO missing; no entry for its KeyID", or what a bare SYN gets there; 27: "MAC length wrong"; 28: "no position"; 29: "MAC differs"
+abbrev pub keyTests : Outcome → Outcome → Found → Flow → Place → List ℕ → List (Test Outcome)
+keyTests missing unknown found f x s =
+    test missing (eqb (ao s .count) 0)
+    ∷ test unknown (not (found .there))
+    ∷ test (refuse 27) (not (eqb (ao s .len) (4 + found .entry .secret .«mac_bytes»)))
+    ∷ test (refuse 28) (not (located x))
+    ∷ test (refuse 29) (macDiffers (found .entry) f x s) ∷ []
+
+-- Judging.
+
+-- with a state, opening or open: from the table, what the connection is, its reference, and the arrival
+abbrev pub judgeTests : List ℕ → Line → ℕ → Arrival → List (Test Outcome)
+judgeTests t l reference a =
+    familyTests l
+    ++ (addressTests (a .source) (a .destination)
+    ++ (tableTests t
+    ++ (lengthTests 20 (a .segment)
+    ++ (optionTests (a .segment)
+    ++ (pairTests (l .pair) a
+    ++ (stageTests l (a .segment)
+    ++ keyTests (refuse 25) (refuse 26) (recvEntry t (l .pair) (keyId (a .segment))) (arriving l (a .segment))
+    (placeOn l reference (sequence (a .segment))) (a .segment)))))))
+
+unfoldable pub check : List ℕ → Line → ℕ → Arrival → Outcome
+check t l reference a =
+    first (judgeTests t l reference a) (Good (value (placeOn l reference (sequence (a .segment)))) (rnextKeyId (a .segment)))
+
+-- a bare SYN, without a state. "Bare SYN without TCP-AO: 25 if any entry matches the pair, otherwise pass. Bare SYN with TCP-AO: the entry is
+-- found by pair and KeyID = RecvID. If there is none, a setting decides: pass (the RFC's first default) or drop 26."
+abbrev pub synMissing : List ℕ → Pair → Outcome
+synMissing t p = cond (anyEntry t p) (refuse 25) Passed
+
+abbrev pub synUnknown : Bool → Outcome
+synUnknown strict = cond strict (refuse 26) Passed
+
+abbrev pub judgeSynTests : List ℕ → Arrival → Bool → List (Test Outcome)
+judgeSynTests t a strict =
+    addressTests (a .source) (a .destination)
+    ++ (tableTests t
+    ++ (lengthTests 20 (a .segment)
+    ++ (optionTests (a .segment)
+    ++ (synTests (a .segment)
+    ++ keyTests (synMissing t (arrivalPair a)) (synUnknown strict) (recvEntry t (arrivalPair a) (keyId (a .segment))) (arrivingSyn a)
+    (At (sequence (a .segment))) (a .segment)))))
+
+unfoldable pub checkSyn : List ℕ → Arrival → Bool → Outcome
+checkSyn t a strict = first (judgeSynTests t a strict) (Good (sequence (a .segment)) (rnextKeyId (a .segment)))
+
+-- "A verdict is accept with its extension, pass, or drop with a number. The new state stands beside it."
+abbrev pub verdictOf : Outcome → Verdict
+verdictOf (Good x r) = Accept (extensionOf x)
+verdictOf Passed = Pass
+verdictOf (Bad n i) = Drop n
+
+abbrev pub indexOf : Outcome → ℕ
+indexOf (Good x r) = 0
+indexOf Passed = 0
+indexOf (Bad n i) = i
+
+-- after judging with a state: an accepted segment opens, or is counted and moves the reference; a drop is counted once open
+abbrev pub afterJudging : List ℕ → State → Outcome → State
+afterJudging t q (Good x r) =
+    cond (isOpen (q .line))
+    (withAccepted x (nextKey t (q .line .pair) r (q .«send_id»)) q)
+    (opened (q .line .pair) (q .line .isn) x (nextKey t (q .line .pair) r (q .«send_id»)) (q .«ask_id»))
+afterJudging t q Passed = q
+afterJudging t q (Bad n i) = cond (isOpen (q .line)) (withDrop n q) q
+
+abbrev pub judgedBy : List ℕ → State → Outcome → Judged
+judgedBy t q o = record { verdict = verdictOf o; index = indexOf o; state = afterJudging t q o }
+
+unfoldable pub judged : List ℕ → Arrival → State → Judged
+judged t a q = judgedBy t q (check t (q .line) (q .seen) a)
+
+-- "a bare SYN is judged without a state"
+unfoldable pub judgedSyn : List ℕ → Arrival → Bool → Checked
+judgedSyn t a strict = record { verdict = verdictOf (checkSyn t a strict); index = indexOf (checkSyn t a strict) }
+
+-- "A second call takes the same SYN and our ISN, judges it again and, only on accept, opens with the entry found, then applies the key rule
+-- below (house). An opening refused, or a SYN only passed, returns the empty state, family 0."
+abbrev pub openedBy : List ℕ → Pair → ℕ → Entry → Outcome → State
+openedBy t p isn e (Good x r) = opened p isn x (nextKey t p r (e .ids .send)) (e .ids .recv)
+openedBy t p isn e Passed = empty
+openedBy t p isn e (Bad n i) = empty
+
+unfoldable pub openedPassively : List ℕ → Arrival → ℕ → Bool → Judged
+openedPassively t a isn strict =
+    record {
+      verdict = verdictOf (checkSyn t a strict);
+      index = indexOf (checkSyn t a strict);
+      state = openedBy t (arrivalPair a) isn (recvEntry t (arrivalPair a) (keyId (a .segment)) .entry) (checkSyn t a strict);
+    }
+
+-- Opening actively, and asking. No test of these calls gives pass.
+
+-- no number is given; a call that has no position makes nothing of its numbers
+abbrev pub unrefused : Outcome
+unrefused = Good 0 0
+
+abbrev pub settledBy : Outcome → State → State → Settled
+settledBy (Good x r) old new = record { answer = D.Done; index = 0; state = new }
+settledBy Passed old new = record { answer = D.Done; index = 0; state = old }
+settledBy (Bad n i) old new = record { answer = D.Refused n; index = i; state = old }
+
+-- "Active opening names a SendID; its entry must match the pair. It gives the outgoing key and, by RecvID, the key asked of the peer."
+abbrev pub openTests : List ℕ → List ℕ → List ℕ → Found → List (Test Outcome)
+openTests t local remote found = addressTests local remote ++ (tableTests t ++ (test (refuse 35) (not (found .there)) ∷ []))
+
+abbrev pub openedWith : List ℕ → List ℕ → List ℕ → Pair → ℕ → ℕ → Settled
+openedWith t local remote p isn sendId =
+    settledBy (first (openTests t local remote (sendEntry t p sendId)) unrefused) empty (opening p isn sendId (sendEntry t p sendId .entry .ids .recv))
+
+unfoldable pub openedActively : List ℕ → List ℕ → List ℕ → ℕ → ℕ → ℕ → ℕ → Settled
+openedActively t local remote localPort remotePort isn sendId = openedWith t local remote (pairOf local remote localPort remotePort) isn sendId
+
+-- 35: no entry matching the pair has "the RecvID to ask (operator call)"
+abbrev pub askTests : List ℕ → ℕ → Line → List (Test Outcome)
+askTests t id l = familyTests l ++ (tableTests t ++ (test (refuse 35) (not (recvEntry t (l .pair) id .there)) ∷ []))
+
+unfoldable pub asked : List ℕ → ℕ → State → Settled
+asked t id q = settledBy (first (askTests t id (q .line)) unrefused) q (withAsked id q)
+
+-- Signing. No test of it gives pass.
+
+-- the bytes that TCP-AO adds: 4 and the entry's MAC bytes, which makes 16. Both algorithms add as many, so 32 is given as document 01 says also
+-- where no entry is found and 35 would follow
+abbrev pub addedBytes : Found → ℕ
+addedBytes found = 4 + cond (found .there) (found .entry .secret .«mac_bytes») (macBytes 1)
+
+-- 31: "malformed, or TCP-AO or MD5 present"
+abbrev pub freshTests : List ℕ → List (Test Outcome)
+freshTests s = tests (refuse 31) (malformed s ∷ ltb 0 (ao s .count) ∷ ltb 0 (md5 s .count) ∷ [])
+
+-- 32: "data offset above 11, or result above 65,535 bytes". A header has at most 15 words, 60 bytes: with 16 more, an offset above 11 passes that
+abbrev pub growthTests : ℕ → List ℕ → List (Test Outcome)
+growthTests added s = tests (refuse 32) (ltb 60 (headerEnd s + added) ∷ ltb 65535 (length s + added) ∷ [])
+
+-- 33: "ports not the state's"
+abbrev pub portTests : Pair → List ℕ → List (Test Outcome)
+portTests p s = tests (refuse 33) (not (eqb (sourcePort s) (p .«local_port»)) ∷ not (eqb (destinationPort s) (p .«remote_port»)) ∷ [])
+
+-- 34: "wrong segment for the stage". Open: a bare SYN; opening: anything else
+abbrev pub signStageTests : Line → List ℕ → List (Test Outcome)
+signStageTests l s = test (refuse 34) (cond (isOpen l) (isBareSyn s) (not (isBareSyn s))) ∷ []
+
+-- 36: "no position, or a SYN (bare or with ACK) whose position is not our ISN"
+abbrev pub sentPlaceTests : Line → Place → List ℕ → List (Test Outcome)
+sentPlaceTests l x s = tests (refuse 36) (not (located x) ∷ (syn s && not (eqb (value x) (l .isn))) ∷ [])
+
+abbrev pub signTests : List ℕ → List ℕ → ℕ → State → Found → List (Test Outcome)
+signTests t s room q found =
+    familyTests (q .line)
+    ++ (tableTests t
+    ++ (lengthTests 30 s
+    ++ (freshTests s
+    ++ (growthTests (addedBytes found) s
+    ++ (portTests (q .line .pair) s
+    ++ (signStageTests (q .line) s
+    ++ (test (refuse 35) (not (found .there))
+    ∷ (sentPlaceTests (q .line) (placeOn (q .line) (q .sent) (sequence s)) s
+    ++ (test (refuse 37) (ltb room (length s + addedBytes found)) ∷ [])))))))))
+
+-- the outgoing key's entry
+abbrev pub outgoing : List ℕ → State → Found
+outgoing t q = sendEntry t (q .line .pair) (q .«send_id»)
+
+-- the position that a segment is signed by, with the asked RecvID; or the number. `room` is the output's length
+unfoldable pub checkSign : List ℕ → List ℕ → ℕ → State → Outcome
+checkSign t s room q =
+    first (signTests t s room q (outgoing t q)) (Good (value (placeOn (q .line) (q .sent) (sequence s))) (q .«ask_id»))
+
+-- "KeyID is the outgoing SendID, RNextKeyID the asked RecvID." The MAC is that of the segment with zeros in its place.
+unfoldable pub signedSegment : Entry → State → ℕ → List ℕ → List ℕ
+signedSegment e q x s =
+    signedWith (q .«send_id») (q .«ask_id»)
+    (segmentMac (e .secret) (leaving (q .line)) (extensionOf x) 20
+    (signedWith (q .«send_id») (q .«ask_id») (replicate (e .secret .«mac_bytes») 0) s)) s
+
+-- "Signing writes only the signed length's bytes of the output."
+abbrev pub written : List ℕ → List ℕ → List ℕ
+written bytes out = bytes ++ drop (length bytes) out
+
+abbrev pub signedBy : State → List ℕ → Found → Outcome → Signed
+signedBy q s found (Good x r) = record { answer = S.Signed (length s + addedBytes found); index = 0; state = withSent x q }
+signedBy q s found Passed = record { answer = S.Refused 0; index = 0; state = q }
+signedBy q s found (Bad n i) = record { answer = S.Refused n; index = i; state = q }
+
+abbrev pub outputBy : State → List ℕ → List ℕ → Entry → Outcome → List ℕ
+outputBy q s out e (Good x r) = written (signedSegment e q x s) out
+outputBy q s out e Passed = out
+outputBy q s out e (Bad n i) = out
+
+-- the answer and the new state
+unfoldable pub signed : List ℕ → List ℕ → List ℕ → State → Signed
+signed t s out q = signedBy q s (outgoing t q) (checkSign t s (length out) q)
+
+-- every byte of the output
+unfoldable pub output : List ℕ → List ℕ → List ℕ → State → List ℕ
+output t s out q = outputBy q s out (outgoing t q .entry) (checkSign t s (length out) q)

@@ -1,0 +1,124 @@
+-- What the signing call wrote, as it arrives: what the receiver reads in it, and that its MAC is the one it carries.
+use Prim.Native.Nat.{ℕ, _+_, _-_, _*_, _/_, _%_, _^_, _≤_, _<_}
+use mathlib.Core.Path.{_≡_, refl, ap, ap₂, sym, _∙_, subst, subst⁻¹}
+use mathlib.Core.Bool.{Bool, true, false, cond, not, _&&_, _||_}
+use mathlib.Core.List.{List, [], _∷_, _++_}
+use native.Mathlib.Omega.{arith}
+use lib.ListN.{length, take, drop, replicate}
+use lib.Seq.{take-at}
+use lib.Dec.{ltb, eqb}
+use borrow.Author.Tests.{le-ltb}
+use Rattle.wire.specs.Bytes.{sameBytes}
+use Rattle.wire.specs.BytesLaws.{same-of-eq}
+use Rattle.wire.specs.Header.{sourcePort, destinationPort, sequence, dataOffset, headerEnd, syn, ack}
+use Rattle.keys.specs.declared.entry.Entry.{Entry}
+use Rattle.keys.specs.declared.entry.Secret.{Secret}
+use Rattle.keys.specs.Algorithm.{macBytes}
+use Rattle.keys.specs.SearchLaws.{Proper, valid-proper, send-holder}
+use Rattle.rules.specs.declared.Place.{Place}
+use Rattle.rules.specs.declared.Place.the-variants.{At, Nowhere}
+use Rattle.rules.specs.declared.Outcome.{Outcome}
+use Rattle.rules.specs.declared.Outcome.the-variants.{Good, Passed, Bad}
+use Rattle.rules.specs.declared.State.{State}
+use Rattle.rules.specs.Mac.{Flow, message, applied, trafficKey, segmentMac}
+use Rattle.rules.specs.MacLaws.{length-mac, Agree, mac-agree}
+use Rattle.rules.specs.Segment.{ao, aoAt, macIn, signedWith}
+use Rattle.rules.specs.Connection.{leaving, placeOn, value, extensionOf}
+use Rattle.rules.specs.Calls.{outgoing, addedBytes, checkSign, signedSegment, written, outputBy, output, macDiffers}
+use Rattle.rules.specs.Ends.{SignedAt, rechecked}
+use Rattle.rules.specs.RoundTrip.{Reads, Arrived, arrival, covers, length-signed}
+use Rattle.rules.specs.SigningLaws.{Signs, signs-good, signed-good}
+
+-- what was signed, by the outgoing entry: it has as many bytes as the answer says
+module _ (t s out : List ℕ) (q : State) (signs : Signs t s out q) (x : ℕ) where
+  abbrev entry : Entry
+  entry = outgoing t q .entry
+
+  twelve-of : entry .secret .«mac_bytes» ≡ 12
+  twelve-of = valid-proper t (signs .valid) (send-holder t (q .line .pair) (q .«send_id») (signs .entry) .0 .place) .mac
+
+  added-of : addedBytes (outgoing t q) ≡ 16
+  added-of = ap (λ (w : Bool). 4 + cond w (entry .secret .«mac_bytes») (macBytes 1)) (signs .entry) ∙ ap (λ (n : ℕ). 4 + n) twelve-of
+
+  pub signed-long : length (signedSegment entry q x s) ≡ length s + addedBytes (outgoing t q)
+  unfolding signedSegment
+  signed-long =
+      let m = segmentMac (entry .secret) (leaving (q .line)) (extensionOf x) 20 (signedWith (q .«send_id») (q .«ask_id») (replicate (entry .secret .«mac_bytes») 0) s) in
+      let l : length m ≡ 12 = length-mac (entry .secret) (leaving (q .line)) (extensionOf x) 20 _ (omega (arith, twelve-of)) ∙ twelve-of in
+      length-signed s (signs .fresh) 0 0 (q .«send_id») (q .«ask_id») m (omega arith) ∙ ap (λ (n : ℕ). length s + n) (ap (λ (n : ℕ). 4 + n) l ∙ sym added-of)
+
+module _ (q : State) (e : Entry) (x : ℕ) (b : List ℕ) (g : SignedAt q e x b) where
+  abbrev s : List ℕ
+  s = g .unsigned
+
+  pub signs : Signs (g .table) s (g .out) q
+  signs =
+      let o = signed-good (g .table) s (g .out) q (length b) (g .answer) in
+      signs-good (g .table) s (g .out) q (o .0) (o .1) (o .2) .0
+
+  -- the MAC's twelve bytes
+  pub twelve : e .secret .«mac_bytes» ≡ 12
+  twelve = ap (λ (f : Entry). f .secret .«mac_bytes») (sym (g .under)) ∙ twelve-of (g .table) s (g .out) q signs x
+
+  abbrev pub mac : List ℕ
+  mac = segmentMac (e .secret) (leaving (q .line)) (extensionOf x) 20 (signedWith (q .«send_id») (q .«ask_id») (replicate (e .secret .«mac_bytes») 0) s)
+
+  pub length-its-mac : length mac ≡ 12
+  length-its-mac = length-mac (e .secret) (leaving (q .line)) (extensionOf x) 20 _ (omega (arith, twelve)) ∙ twelve
+
+  even : 4 * ((4 + length mac) / 4) ≡ 4 + length mac
+  even = omega (arith, length-its-mac)
+
+  added-is : addedBytes (outgoing (g .table) q) ≡ 4 + length mac
+  added-is = added-of (g .table) s (g .out) q signs x ∙ ap (λ (n : ℕ). 4 + n) (sym length-its-mac)
+
+  abbrev carried : List ℕ
+  carried = signedWith (q .«send_id») (q .«ask_id») mac s
+
+  -- the bytes are those of the definition
+  wrote-is : b ≡ carried
+  unfolding output signedSegment
+  wrote-is =
+      let o = signed-good (g .table) s (g .out) q (length b) (g .answer) in
+      let p = signs-good (g .table) s (g .out) q (o .0) (o .1) (o .2) in
+      let v : o .0 ≡ x = sym (p .1) ∙ ap value (g .position) in
+      let l : length carried ≡ length b = length-signed s (signs .fresh) 0 0 (q .«send_id») (q .«ask_id») mac even ∙ ap (λ (n : ℕ). length s + n) (sym added-is) ∙ o .3 in
+      g .wrote
+      ∙ ap (λ (z : Outcome). take (length b) (outputBy q s (g .out) (outgoing (g .table) q .entry) z)) (o .2)
+      ∙ ap₂ (λ (f : Entry) (y : ℕ). take (length b) (written (signedSegment f q y s) (g .out))) (g .under) v
+      ∙ take-at carried (drop (length carried) (g .out)) (length b) l
+
+  -- with any checksum
+  module _ (c d : ℕ) where
+    abbrev pub segment : List ℕ
+    segment = rechecked c d b
+
+    segment-is : segment ≡ rechecked c d carried
+    segment-is = ap (rechecked c d) wrote-is
+
+    pub reads : Arrived s segment (q .«send_id») (q .«ask_id») mac
+    reads =
+        subst⁻¹ (λ (z : List ℕ). Arrived s z (q .«send_id») (q .«ask_id») mac) segment-is
+        (arrival s (signs .fresh) c d (q .«send_id») (q .«ask_id») mac even)
+
+    -- the receiver computes the MAC that it carries
+    pub same-mac : (r : Secret) (f : Flow) → Agree r (e .secret) → f ≡ leaving (q .line) → segmentMac r f (extensionOf x) 20 segment ≡ mac
+    unfolding segmentMac
+    same-mac r f a p =
+        mac-agree r (e .secret) f (extensionOf x) 20 segment a
+        ∙ ap₂ (λ (f : Flow) (z : List ℕ). segmentMac (e .secret) f (extensionOf x) 20 z) p segment-is
+        ∙ ap (λ (m : List ℕ). take (e .secret .«mac_bytes») (applied (e .secret .algorithm) (trafficKey (e .secret) (leaving (q .line))) m))
+        (covers s (signs .fresh) c d (q .«send_id») (q .«ask_id») mac even (e .secret) (leaving (q .line)) (extensionOf x) (twelve ∙ sym length-its-mac))
+
+    -- none of 20, 21, 22 and 25
+    pub sizes : (ltb (length segment) 20 ≡ false) × (ltb 65535 (length segment) ≡ false) × (ltb (dataOffset segment) 5 ≡ false) × (ltb (length segment) (headerEnd segment) ≡ false)
+    sizes =
+        let a = reads .its-length in
+        let z = reads .its-end in
+        let h = signs .header in
+        let w = signs .whole in
+        let l = signs .fresh .long in
+        let o = signs .fresh .low in
+        let i = signs .fresh .inside in
+        let k = added-is in
+        (le-ltb (length segment) 20 (omega arith), le-ltb 65535 (length segment) (omega arith), le-ltb (dataOffset segment) 5 (omega arith), le-ltb (length segment) (headerEnd segment) (omega arith))

@@ -1,0 +1,130 @@
+-- The two ends of a connection, in document 01's words: the last section ("a true segment was signed at the other end ..", "an arrival
+-- verifies if ..", "a key is available if ..") and "Positions".
+use Prim.Native.Nat.{ℕ, _+_, _^_, _<_}
+use mathlib.Core.Path.{_≡_}
+use mathlib.Core.Bool.{Bool, true, false, _||_}
+use mathlib.Core.List.{List, [], _∷_, _++_}
+use lib.ListN.{length, take, drop}
+use lib.Dec.{eqb}
+use Rattle.wire.specs.Header.{sourcePort, destinationPort, sequence, wellSized}
+use Rattle.keys.specs.declared.entry.Pair.{Pair}
+use Rattle.keys.specs.declared.entry.Entry.{Entry}
+use Rattle.keys.specs.declared.table.Found.{Found}
+use Rattle.keys.specs.Entry.{known, entries}
+use Rattle.keys.specs.Table.{ValidTable, recvEntry}
+use Rattle.keys.specs.LoadLaws.{At as EntryAt}
+use Rattle.keys.specs.Mirror.{Mirror}
+use Rattle.rules.specs.declared.Place.{Place}
+use Rattle.rules.specs.declared.Place.the-variants.{At, Nowhere}
+use Rattle.rules.specs.declared.Line.{Line}
+use Rattle.rules.specs.declared.State.{State}
+use Rattle.rules.specs.declared.Signing.the-variants as S
+use Rattle.rules.specs.declared.Signed.{Signed}
+use Rattle.rules.specs.Mac.{segmentMac}
+use Rattle.rules.specs.Segment.{malformed, ao, md5, aoAt, keyId, macIn, isBareSyn}
+use Rattle.rules.specs.Connection.{Arrival, localAddress, remoteAddress, isOpen, arriving, placeOn, slots}
+use Rattle.rules.specs.Calls.{outgoing, signed, output}
+
+-- What a value of a Rattle type is known to be, where it matters: bytes are below 256, references below 2 ^ 64, ISNs below 2 ^ 32.
+
+abbrev pub Each : {A : Type 0} → (A → Type 0) → List A → Type 0
+Each P [] = Unit {0}
+Each P (x ∷ l) = P x × Each P l
+
+abbrev pub Bytes : List ℕ → Type 0
+Bytes s = Each (λ (b : ℕ). b < 256) s
+
+pub record Typed (q : State) : Type 0 where
+  pub sent : q .sent < 2 ^ 64
+  pub seen : q .seen < 2 ^ 64
+  pub isn : q .line .isn < 2 ^ 32
+  pub peer : q .line .«peer_isn» < 2 ^ 32
+  pub local : length (q .line .pair .local) ≡ 16
+  pub remote : length (q .line .pair .remote) ≡ 16
+  pub counts : length (q .drops) ≡ slots
+
+-- a state that 18 allows
+abbrev pub Allowed : Line → Type 0
+Allowed l = known (l .pair .family) ≡ true
+
+-- one socket pair as its two ends hold it
+pub record Facing (p q : Pair) : Type 0 where
+  pub family : p .family ≡ q .family
+  pub local : localAddress p ≡ remoteAddress q
+  pub remote : remoteAddress p ≡ localAddress q
+  pub local-port : p .«local_port» ≡ q .«remote_port»
+  pub remote-port : p .«remote_port» ≡ q .«local_port»
+
+-- both open on one connection: "our pair as seen from there, the same ISNs"
+pub record OtherEnd (l m : Line) : Type 0 where
+  pub here : isOpen l ≡ true
+  pub there : isOpen m ≡ true
+  pub pair : Facing (l .pair) (m .pair)
+  pub isn : l .isn ≡ m .«peer_isn»
+  pub peer : l .«peer_isn» ≡ m .isn
+
+-- signed bytes with another checksum
+abbrev pub rechecked : ℕ → ℕ → List ℕ → List ℕ
+rechecked c d s = take 16 s ++ (c ∷ d ∷ drop 18 s)
+
+-- bytes that come from one address to another "as signed, except perhaps for the checksum"
+pub record Delivered (source destination bytes : List ℕ) (a : Arrival) : Type 0 where
+  pub from : a .source ≡ source
+  pub to : a .destination ≡ destination
+  -- the two bytes of the checksum, any numbers
+  pub high : ℕ
+  pub low : ℕ
+  pub segment : a .segment ≡ rechecked high low bytes
+
+-- bytes that the signing call wrote, given the state q and some table, segment and output, under the entry e: "A signed segment's true
+-- position is the X it was signed by."
+pub record SignedAt (q : State) (e : Entry) (x : ℕ) (bytes : List ℕ) : Type 0 where
+  pub table : List ℕ
+  pub unsigned : List ℕ
+  pub out : List ℕ
+  pub octets : Bytes unsigned
+  pub answer : signed table unsigned out q .answer ≡ S.Signed (length bytes)
+  pub wrote : bytes ≡ take (length bytes) (output table unsigned out q)
+  pub under : outgoing table q .entry ≡ e
+  pub position : placeOn (q .line) (q .sent) (sequence unsigned) ≡ At x
+
+-- "it holds the mirrored key in a valid table": of the entry e, on the connection whose pair this end holds as p
+pub record Holds (t : List ℕ) (p : Pair) (e : Entry) : Type 0 where
+  pub valid : ValidTable t
+  pub ours : Entry
+  pub place : ℕ
+  pub among : EntryAt (entries t) place ours
+  pub mirror : Mirror p ours e
+
+-- "A true segment was signed at the other end, in a state open on this connection .., under a mirror of one of the table's entries; it arrives
+-- with our state's pair and as signed, except perhaps for its checksum." Its position is x, and it asks for the key r.
+pub record TrueSegment (t : List ℕ) (l : Line) (a : Arrival) (x r : ℕ) : Type 0 where
+  pub peer : State
+  pub typed : Typed peer
+  pub other : OtherEnd l (peer .line)
+  pub ours : Entry
+  pub theirs : Entry
+  pub place : ℕ
+  pub among : EntryAt (entries t) place ours
+  pub mirror : Mirror (l .pair) ours theirs
+  pub bytes : List ℕ
+  pub signed : SignedAt peer theirs x bytes
+  pub delivered : Delivered (remoteAddress (l .pair)) (localAddress (l .pair)) bytes a
+  pub asks : peer .«ask_id» ≡ r
+
+-- "An arrival verifies if it is no bare SYN, comes with our state's pair, and its MAC bytes are, for some extension, what these rules give under
+-- our ISNs and the entry for its KeyID." It has MAC bytes only if none of 20, 21, 22 applies and TCP-AO is there.
+pub record Verifies (t : List ℕ) (l : Line) (a : Arrival) : Type 0 where
+  pub sized : wellSized (a .segment) ≡ true
+  pub formed : malformed (a .segment) ≡ false
+  pub one : ao (a .segment) .count ≡ 1
+  pub no-md5 : md5 (a .segment) .count ≡ 0
+  pub no-bare-syn : isBareSyn (a .segment) ≡ false
+  pub source : a .source ≡ remoteAddress (l .pair)
+  pub destination : a .destination ≡ localAddress (l .pair)
+  pub source-port : sourcePort (a .segment) ≡ l .pair .«remote_port»
+  pub destination-port : destinationPort (a .segment) ≡ l .pair .«local_port»
+  pub entry : recvEntry t (l .pair) (keyId (a .segment)) .there ≡ true
+  pub extension : ℕ
+  pub mac : macIn (a .segment)
+      ≡ segmentMac (recvEntry t (l .pair) (keyId (a .segment)) .entry .secret) (arriving l (a .segment)) extension (aoAt (a .segment)) (a .segment)

@@ -1,0 +1,81 @@
+-- One verdict, one count, as a statement: document 01, "Numbers given back", over any list of calls from an opening on. `one-count` of
+-- HistoryLaws proves it.
+use Prim.Native.Nat.{ℕ, _+_, min}
+use mathlib.Core.Path.{_≡_}
+use mathlib.Core.Bool.{true, cond}
+use mathlib.Core.List.{List, [], _∷_, _++_}
+use lib.ListN.{length, getD, replicate}
+use lib.Dec.{eqb}
+use Rattle.rules.specs.declared.Verdict.{Verdict}
+use Rattle.rules.specs.declared.Verdict.the-variants.{Accept, Pass, Drop}
+use Rattle.rules.specs.declared.State.{State}
+use Rattle.rules.specs.Connection.{Arrival, isOpen, value, stop, slots, slot, isCounted}
+use Rattle.rules.specs.Calls.{judged, signed, asked}
+use Rattle.rules.specs.Demand3.{sum, NoStop}
+
+-- A call on a connection, with any table and any bytes: judging an arrival, signing a segment into an output, asking for a key.
+pub data Call : Type 0 where
+  judge : (table : List ℕ) (arrival : Arrival) → Call
+  sign : (table segment out : List ℕ) → Call
+  ask : (table : List ℕ) (id : ℕ) → Call
+
+-- the state that a call returns
+abbrev pub next : Call → State → State
+next (judge t a) q = judged t a q .state
+next (sign t s out) q = signed t s out q .state
+next (ask t id) q = asked t id q .state
+
+-- the state after a list of calls, each of which gets the state that the one before returned
+abbrev pub ended : State → List Call → State
+ended q [] = q
+ended q (c ∷ l) = ended (next c q) l
+
+-- the verdict of a call on an open connection: "the segment that opens is not counted"
+abbrev pub verdictOn : Call → State → List Verdict
+verdictOn (judge t a) q = cond (isOpen (q .line)) (judged t a q .verdict ∷ []) []
+verdictOn (sign t s out) q = []
+verdictOn (ask t id) q = []
+
+-- the verdicts that were given on the open connection
+abbrev pub given : State → List Call → List Verdict
+given q [] = []
+given q (c ∷ l) = verdictOn c q ++ given (next c q) l
+
+-- how many accepts there are among the verdicts, how many drops of the number n, and how many drops 20 to 29
+abbrev pub accepts : List Verdict → ℕ
+accepts [] = 0
+accepts (Accept e ∷ l) = 1 + accepts l
+accepts (Pass ∷ l) = accepts l
+accepts (Drop m ∷ l) = accepts l
+
+abbrev pub drops : ℕ → List Verdict → ℕ
+drops n [] = 0
+drops n (Accept e ∷ l) = drops n l
+drops n (Pass ∷ l) = drops n l
+drops n (Drop m ∷ l) = cond (eqb m n) 1 0 + drops n l
+
+abbrev pub countedDrops : List Verdict → ℕ
+countedDrops [] = 0
+countedDrops (Accept e ∷ l) = countedDrops l
+countedDrops (Pass ∷ l) = countedDrops l
+countedDrops (Drop m ∷ l) = cond (isCounted m) 1 0 + countedDrops l
+
+-- the count of the drops of the number n
+abbrev pub dropCount : ℕ → State → ℕ
+dropCount n q = getD (q .drops) (value (slot n)) 0
+
+-- "All are 0 at opening"
+pub record CountsZero (q : State) : Type 0 where
+  pub accepted : q .accepted ≡ 0
+  pub drops : q .drops ≡ replicate slots 0
+
+-- The statement, of the calls l from the state q on.
+pub record OneCount (q : State) (l : List Call) : Type 0 where
+  -- one verdict, one count; "Counts of acceptances and of each drop stop at 2^64-1."
+  pub accepted : ended q l .accepted ≡ min stop (accepts (given q l))
+  pub dropped : (n : ℕ) → isCounted n ≡ true → dropCount n (ended q l) ≡ min stop (drops n (given q l))
+  -- so each is exact if no count is at its stop at the end
+  pub accepted-exactly : NoStop (ended q l) → ended q l .accepted ≡ accepts (given q l)
+  pub dropped-exactly : NoStop (ended q l) → (n : ℕ) → isCounted n ≡ true → dropCount n (ended q l) ≡ drops n (given q l)
+  -- "Below the stop, their sum is how many accepts and drops 20 to 29 were given since opening."
+  pub total : NoStop (ended q l) → ended q l .accepted + sum (ended q l .drops) ≡ accepts (given q l) + countedDrops (given q l)

@@ -1,0 +1,143 @@
+-- One verdict, one count: the statement of History holds from either opening on, over any list of calls.
+-- Assumes nothing of tables, bytes or the calls' order.
+use Prim.Native.Nat.{ℕ, _+_, min}
+use mathlib.Core.Path.{_≡_, refl, ap, sym, _∙_}
+use mathlib.Core.Bool.{Bool, true, false, cond, true≢false}
+use mathlib.Core.List.{List, [], _∷_, _++_}
+use native.Mathlib.Omega.{arith}
+use lib.ListN.{length, getD, getD-replicate}
+use Rattle.keys.specs.declared.entry.Pair.{Pair}
+use Rattle.keys.specs.declared.entry.Entry.{Entry}
+use Rattle.keys.specs.declared.table.Found.{Found}
+use Rattle.keys.specs.Table.{sendEntry}
+use Rattle.rules.specs.declared.Outcome.{Outcome}
+use Rattle.rules.specs.declared.Outcome.the-variants.{Good, Passed, Bad}
+use Rattle.rules.specs.declared.Verdict.{Verdict}
+use Rattle.rules.specs.declared.State.{State}
+use Rattle.rules.specs.Numbers.{first}
+use Rattle.rules.specs.Connection.{pairOf, Arrival, isOpen, extensionOf, value, stop, slots, slot, isCounted, opening, empty, withAsked}
+use Rattle.rules.specs.Calls.{check, checkSyn, checkSign, askTests, verdictOf, afterJudging, judged, openedBy, openedPassively, settledBy, unrefused, openTests, openedWith, openedActively, asked, outgoing, signedBy, signed}
+use Rattle.rules.specs.Demand3.{sum}
+use Rattle.rules.specs.History.{Call, judge, sign, ask, next, ended, verdictOn, given, accepts, drops, countedDrops, dropCount, CountsZero, OneCount}
+use Rattle.rules.specs.CountLaws.{raised, each-below, slot-below, length-count, Counts, count-none, count-accept, count-drop}
+
+-- What a history needs of the state that it starts from: as many counts as the type says, all 0 unless it is open.
+pub record Ready (q : State) : Type 0 where
+  pub counts : length (q .drops) ≡ slots
+  pub fresh : isOpen (q .line) ≡ false → CountsZero q
+
+-- a call that is no verdict leaves what the counts go by
+record Keeps (q r : State) : Type 0 where
+  line : r .line ≡ q .line
+  accepted : r .accepted ≡ q .accepted
+  drops : r .drops ≡ q .drops
+
+sign-keeps : (q : State) (s : List ℕ) (f : Found) (o : Outcome) → Keeps q (signedBy q s f o .state)
+sign-keeps q s f (Good x r) = record { line = refl; accepted = refl; drops = refl }
+sign-keeps q s f Passed = record { line = refl; accepted = refl; drops = refl }
+sign-keeps q s f (Bad n i) = record { line = refl; accepted = refl; drops = refl }
+
+ask-keeps : (q : State) (id : ℕ) (o : Outcome) → Keeps q (settledBy o q (withAsked id q) .state)
+ask-keeps q id (Good x r) = record { line = refl; accepted = refl; drops = refl }
+ask-keeps q id Passed = record { line = refl; accepted = refl; drops = refl }
+ask-keeps q id (Bad n i) = record { line = refl; accepted = refl; drops = refl }
+
+keeps-ready : (q r : State) → Keeps q r → Ready q → Ready r
+keeps-ready q r k h =
+    record {
+      counts = ap length (k .drops) ∙ h .counts;
+      fresh = λ z. let f = h .fresh (rw (k .line) at z) in record { accepted = k .accepted ∙ f .accepted; drops = k .drops ∙ f .drops };
+    }
+
+-- the same counts at the start
+count-same : (q r : State) (vs : List Verdict) (e : State) → r .accepted ≡ q .accepted → r .drops ≡ q .drops → Counts r vs e → Counts q vs e
+count-same q r vs e a d c =
+    record {
+      accepted = c .accepted ∙ ap (raised (accepts vs)) a;
+      dropped = λ n k. c .dropped n k ∙ ap (λ (l : List ℕ). raised (drops n vs) (getD l (value (slot n)) 0)) d;
+      began = λ b. rw d at (c .began b);
+      total = λ b. c .total b ∙ ap (λ (l : List ℕ). sum l + countedDrops vs) d;
+    }
+
+opposite : {b : Bool} → b ≡ true → b ≡ false → ⊥
+opposite e z = true≢false (sym e ∙ z)
+
+-- judging, by what the tests come to
+judge-ready : (t : List ℕ) (q : State) (o : Outcome) (b : Bool) → isOpen (q .line) ≡ b → Ready q → Ready (afterJudging t q o)
+judge-ready t q (Good x r) true e h = rw e (record { counts = h .counts; fresh = λ z. absurd (opposite e z) })
+judge-ready t q (Good x r) false e h = rw e (record { counts = refl; fresh = λ z. record { accepted = refl; drops = refl } })
+judge-ready t q Passed b e h = h
+judge-ready t q (Bad n i) true e h = rw e (record { counts = length-count n (q .drops) ∙ h .counts; fresh = λ z. absurd (opposite e z) })
+judge-ready t q (Bad n i) false e h = rw e h
+
+judge-counts : (t : List ℕ) (q : State) (o : Outcome) (vs : List Verdict) (end : State) (b : Bool) → isOpen (q .line) ≡ b → Ready q
+    → Counts (afterJudging t q o) vs end → Counts q (cond (isOpen (q .line)) (verdictOf o ∷ []) [] ++ vs) end
+judge-counts t q (Good x r) vs end true e h c = rw e (count-accept q vs end x _ (extensionOf x) (rw e at c))
+judge-counts t q (Good x r) vs end false e h c = rw e (count-same q _ vs end (sym (h .fresh e .accepted)) (sym (h .fresh e .drops)) (rw e at c))
+judge-counts t q Passed vs end true e h c = rw e (record { accepted = c .accepted; dropped = c .dropped; began = c .began; total = c .total })
+judge-counts t q Passed vs end false e h c = rw e c
+judge-counts t q (Bad n i) vs end true e h c = rw e (count-drop q vs end n (h .counts) (rw e at c))
+judge-counts t q (Bad n i) vs end false e h c = rw e (rw e at c)
+
+-- any call
+call-ready : (c : Call) (q : State) → Ready q → Ready (next c q)
+unfolding judged signed asked
+call-ready (judge t a) q h = judge-ready t q (check t (q .line) (q .seen) a) (isOpen (q .line)) refl h
+call-ready (sign t s out) q h = keeps-ready q _ (sign-keeps q s (outgoing t q) (checkSign t s (length out) q)) h
+call-ready (ask t id) q h = keeps-ready q _ (ask-keeps q id (first (askTests t id (q .line)) unrefused)) h
+
+call-counts : (c : Call) (q : State) (vs : List Verdict) (end : State) → Ready q → Counts (next c q) vs end → Counts q (verdictOn c q ++ vs) end
+unfolding judged signed asked
+call-counts (judge t a) q vs end h n = judge-counts t q (check t (q .line) (q .seen) a) vs end (isOpen (q .line)) refl h n
+call-counts (sign t s out) q vs end h n = let k = sign-keeps q s (outgoing t q) (checkSign t s (length out) q) in count-same q _ vs end (k .accepted) (k .drops) n
+call-counts (ask t id) q vs end h n = let k = ask-keeps q id (first (askTests t id (q .line)) unrefused) in count-same q _ vs end (k .accepted) (k .drops) n
+
+-- any list of calls, from any state that is open, or whose counts are 0
+pub history : (l : List Call) (q : State) → Ready q → Counts q (given q l) (ended q l)
+history [] q h = count-none q
+history (c ∷ l) q h = call-counts c q (given (next c q) l) (ended (next c q) l) h (history l (next c q) (call-ready c q h))
+
+pub one-count : (q : State) → CountsZero q → (l : List Call) → OneCount q l
+one-count q f l =
+    record {
+      accepted = c .accepted ∙ from-0 (accepts (given q l)) (q .accepted) (f .accepted);
+      dropped = λ n k. c .dropped n k ∙ from-0 (drops n (given q l)) (dropCount n q) (zero-at n k);
+      accepted-exactly = λ s. omega (arith, c .accepted, f .accepted, s .accepts);
+      dropped-exactly = λ s n k. omega (arith, c .dropped n k, zero-at n k, each-below stop (ended q l .drops) (s .drops) (omega arith) (value (slot n)));
+      total = λ s. omega (arith, c .accepted, f .accepted, s .accepts, c .total (s .drops), ap sum (f .drops));
+    }
+  where
+    c : Counts q (given q l) (ended q l)
+    c = history l q (record { counts = ap length (f .drops); fresh = λ z. f })
+
+    from-0 : (k n : ℕ) → n ≡ 0 → raised k n ≡ min stop k
+    from-0 k n e = omega arith
+
+    zero-at : (n : ℕ) → isCounted n ≡ true → dropCount n q ≡ 0
+    zero-at n k = ap (λ (d : List ℕ). getD d (value (slot n)) 0) (f .drops) ∙ getD-replicate slots (value (slot n)) 0 0 (slot-below n k)
+
+-- The states that openings give, refused ones among them.
+
+opened-fresh : (t : List ℕ) (p : Pair) (isn : ℕ) (e : Entry) (o : Outcome) → CountsZero (openedBy t p isn e o)
+opened-fresh t p isn e (Good x r) = record { accepted = refl; drops = refl }
+opened-fresh t p isn e Passed = record { accepted = refl; drops = refl }
+opened-fresh t p isn e (Bad n i) = record { accepted = refl; drops = refl }
+
+settled-fresh : (p : Pair) (isn sendId askId : ℕ) (o : Outcome) → CountsZero (settledBy o empty (opening p isn sendId askId) .state)
+settled-fresh p isn sendId askId (Good x r) = record { accepted = refl; drops = refl }
+settled-fresh p isn sendId askId Passed = record { accepted = refl; drops = refl }
+settled-fresh p isn sendId askId (Bad n i) = record { accepted = refl; drops = refl }
+
+opening-fresh : (t local remote : List ℕ) (p : Pair) (isn sendId : ℕ) → CountsZero (openedWith t local remote p isn sendId .state)
+opening-fresh t local remote p isn sendId = settled-fresh p isn sendId _ (first (openTests t local remote (sendEntry t p sendId)) unrefused)
+
+pub from-passive : (t : List ℕ) (a : Arrival) (isn : ℕ) (strict : Bool) (l : List Call) → OneCount (openedPassively t a isn strict .state) l
+unfolding openedPassively
+from-passive t a isn strict l = one-count _ (opened-fresh t _ isn _ (checkSyn t a strict)) l
+
+pub from-active : (t local remote : List ℕ) (localPort remotePort isn sendId : ℕ) (l : List Call)
+    → OneCount (openedActively t local remote localPort remotePort isn sendId .state) l
+unfolding openedActively
+from-active t local remote localPort remotePort isn sendId l =
+    one-count _
+    (opening-fresh t local remote (pairOf local remote localPort remotePort) isn sendId) l

@@ -1,0 +1,77 @@
+-- Document 01, "Traffic keys" and "What the MAC covers": RFC 5925 §5.1 and §5.2, RFC 5926 §3.1 and §3.2.
+-- Of HMAC-SHA-1 and AES-CMAC nothing is used but their names and the lengths of what they give.
+use Prim.Native.Nat.{ℕ, _+_}
+use mathlib.Core.Bool.{Bool, cond}
+use mathlib.Core.List.{List, [], _∷_, _++_}
+use lib.ListN.{length, take, drop, replicate}
+use lib.Dec.{eqb}
+use Rattle.octets.specs.Octets.{bytes16, bytes32}
+use Rattle.mac.specs.Hmac.{hmacSha1}
+use Rattle.mac.specs.Cmac.{cmac}
+use Rattle.wire.specs.Header.{headerEnd}
+use Rattle.keys.specs.declared.entry.Secret.{Secret}
+use Rattle.keys.specs.Algorithm.{outputBits}
+use Rattle.keys.specs.Entry.{keyOf, allOptions}
+
+-- both ends of a segment's way: "'source' is whoever sent the segment"
+pub record Flow : Type 0 where
+  pub source : List ℕ
+  pub destination : List ℕ
+  pub sourcePort : ℕ
+  pub destinationPort : ℕ
+  pub sourceIsn : ℕ
+  pub destinationIsn : ℕ
+
+-- "The context is source address, destination address, source port, destination port, source ISN, destination ISN"
+unfoldable pub context : Flow → List ℕ
+context f =
+    f .source ++ f .destination ++ bytes16 (f .sourcePort) ++ bytes16 (f .destinationPort) ++ bytes32 (f .sourceIsn)
+    ++ bytes32 (f .destinationIsn)
+
+-- "The input is one byte 1, the six bytes "TCP-AO", the context, and the output length in bits as two bytes"
+unfoldable pub derivationInput : ℕ → Flow → List ℕ
+derivationInput bits f = (1 ∷ 0x54 ∷ 0x43 ∷ 0x50 ∷ 0x2d ∷ 0x41 ∷ 0x4f ∷ []) ++ context f ++ bytes16 bits
+
+-- "Algorithm 2 applies AES-CMAC under the master key if that has 16 bytes; otherwise under AES-CMAC of the master key with an all-zero key."
+unfoldable pub aesKey : List ℕ → List ℕ
+aesKey k = cond (eqb (length k) 16) k (cmac (replicate 16 0) k)
+
+-- the key under which an algorithm derives, and the MAC that it applies: 1 HMAC-SHA-1, 2 AES-128-CMAC (13 leaves no other)
+abbrev pub derivationKey : ℕ → List ℕ → List ℕ
+derivationKey algorithm k = cond (eqb algorithm 1) k (aesKey k)
+
+unfoldable pub applied : ℕ → List ℕ → List ℕ → List ℕ
+applied algorithm k m = cond (eqb algorithm 1) (hmacSha1 k m) (cmac k m)
+
+unfoldable pub trafficKey : Secret → Flow → List ℕ
+trafficKey s f = applied (s .algorithm) (derivationKey (s .algorithm) (keyOf s)) (derivationInput (outputBits (s .algorithm)) f)
+
+-- "the IP pseudo-header as for the checksum, with the whole segment's length": n bytes of TCP, protocol 6 (RFC 9293 §3.1, RFC 8200 §8.1)
+unfoldable pub pseudoHeader : Flow → ℕ → List ℕ
+pseudoHeader f n =
+    f .source ++ f .destination ++ cond (eqb (length (f .source)) 4) ((0 ∷ 6 ∷ []) ++ bytes16 n) (bytes32 n ++ (0 ∷ 0 ∷ 0 ∷ 6 ∷ []))
+
+-- n bytes from i on made zero
+abbrev pub blank : ℕ → ℕ → List ℕ → List ℕ
+blank i n l = take i l ++ (replicate n 0 ++ drop (i + n) l)
+
+-- "the TCP header with checksum and MAC bytes zero": TCP-AO stands at `at`, its MAC has n bytes
+abbrev pub zeroed : ℕ → ℕ → List ℕ → List ℕ
+zeroed at n h = blank (at + 4) n (blank 16 2 h)
+
+-- "With flag 0 only the header's first 20 bytes, data offset as sent, and TCP-AO remain."
+unfoldable pub coveredHeader : Bool → ℕ → ℕ → List ℕ → List ℕ
+coveredHeader all at n h = cond all (zeroed at n h) (take 20 (zeroed at n h) ++ take (4 + n) (drop at (zeroed at n h)))
+
+-- "In this order: the extension (4 bytes); the IP pseudo-header ..; the TCP header ..; the data." What stands before the data, of a
+-- segment of len bytes whose header is h:
+unfoldable pub front : Secret → Flow → ℕ → ℕ → ℕ → List ℕ → List ℕ
+front s f extension at len h = bytes32 extension ++ pseudoHeader f len ++ coveredHeader (allOptions s) at (s .«mac_bytes») h
+
+unfoldable pub message : Secret → Flow → ℕ → ℕ → List ℕ → List ℕ
+message s f extension at segment =
+    front s f extension at (length segment) (take (headerEnd segment) segment) ++ drop (headerEnd segment) segment
+
+-- "The leftmost 12 bytes are the MAC": the entry's number of MAC bytes
+unfoldable pub segmentMac : Secret → Flow → ℕ → ℕ → List ℕ → List ℕ
+segmentMac s f extension at segment = take (s .«mac_bytes») (applied (s .algorithm) (trafficKey s f) (message s f extension at segment))

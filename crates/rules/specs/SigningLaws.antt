@@ -1,0 +1,92 @@
+-- What is known of a segment that the signing call signed.
+use Prim.Native.Nat.{ℕ, _+_, _*_, _/_, _^_, _≤_, _<_}
+use mathlib.Core.Path.{_≡_, refl, ap, sym, _∙_, subst}
+use mathlib.Core.Bool.{Bool, true, false, cond, not, _&&_, _||_}
+use mathlib.Core.List.{List, [], _∷_, _++_}
+use native.Mathlib.Omega.{arith}
+use lib.ListN.{length, take, drop}
+use lib.Dec.{ltb, eqb}
+use borrow.Author.Tests.{ltb-false, eqb-true, not-false}
+use Rattle.wire.specs.Header.{sourcePort, destinationPort, sequence, dataOffset, headerEnd, syn}
+use Rattle.keys.specs.declared.table.Loaded.{Loaded}
+use Rattle.keys.specs.declared.table.Loaded.the-variants.{Valid, Refused}
+use Rattle.keys.specs.Entry.{known}
+use Rattle.keys.specs.Table.{checked, ValidTable}
+use Rattle.rules.specs.declared.Place.{Place}
+use Rattle.rules.specs.declared.Place.the-variants.{At, Nowhere}
+use Rattle.rules.specs.declared.Outcome.{Outcome}
+use Rattle.rules.specs.declared.Outcome.the-variants.{Good, Passed, Bad}
+use Rattle.rules.specs.declared.State.{State}
+use Rattle.rules.specs.declared.Signing.the-variants as S
+use Rattle.rules.specs.NumberLaws.{NoneApplies, first-none, none-applied}
+use Rattle.rules.specs.JudgeLaws.{isBad, refusal-bad}
+use Rattle.rules.specs.Segment.{malformed, ao, md5, isBareSyn}
+use Rattle.rules.specs.Connection.{isOpen, placeOn, located, value}
+use Rattle.rules.specs.Calls.{isRefused, refusal, refuse, outgoing, addedBytes, signTests, checkSign, signedBy, signed}
+use Rattle.rules.specs.RoundTrip.{Fresh}
+
+-- a table that is not refused is valid
+pub valid-of : (t : List ℕ) → isRefused (checked t) ≡ false → ValidTable t
+valid-of t e = go (checked t) refl
+  where
+    go : (o : Loaded) → checked t ≡ o → ValidTable t
+    go (Valid n) q = (n, q)
+    go (Refused n i) q = let z : _≡_ {A = ℕ} 0 1 = cc (rw q at e) in absurd (omega arith)
+
+module _ (t s out : List ℕ) (q : State) where
+  abbrev place : Place
+  place = placeOn (q .line) (q .sent) (sequence s)
+
+  pub record Signs : Type 0 where
+    pub allowed : known (q .line .pair .family) ≡ true
+    pub valid : ValidTable t
+    pub fresh : Fresh s
+    pub header : headerEnd s + addedBytes (outgoing t q) ≤ 60
+    pub whole : length s + addedBytes (outgoing t q) ≤ 65535
+    pub source-port : sourcePort s ≡ q .line .pair .«local_port»
+    pub destination-port : destinationPort s ≡ q .line .pair .«remote_port»
+    pub stage : cond (isOpen (q .line)) (isBareSyn s) (not (isBareSyn s)) ≡ false
+    pub entry : outgoing t q .there ≡ true
+    pub is-located : located place ≡ true
+    pub number : (syn s && not (eqb (value place) (q .line .isn))) ≡ false
+
+  none-signs : NoneApplies (signTests t s (length out) q (outgoing t q)) → Signs
+  none-signs n =
+      record {
+        allowed = not-false (known (q .line .pair .family)) (search);
+        valid = valid-of t (search);
+        fresh =
+            record {
+              long = ltb-false (length s) 20 (search);
+              low = omega (arith, ltb-false (dataOffset s) 5 (search));
+              inside = ltb-false (length s) (headerEnd s) (search);
+              formed = search;
+              no-ao = omega (arith, ltb-false 0 (ao s .count) (search));
+              no-md5 = omega (arith, ltb-false 0 (md5 s .count) (search));
+            };
+        header = ltb-false 60 (headerEnd s + addedBytes (outgoing t q)) (search);
+        whole = ltb-false 65535 (length s + addedBytes (outgoing t q)) (search);
+        source-port = eqb-true _ _ (not-false (eqb (sourcePort s) (q .line .pair .«local_port»)) (search));
+        destination-port = eqb-true _ _ (not-false (eqb (destinationPort s) (q .line .pair .«remote_port»)) (search));
+        stage = search;
+        entry = not-false (outgoing t q .there) (search);
+        is-located = not-false (located place) (search);
+        number = search;
+      }
+
+  pub signs-good : (x r : ℕ) → checkSign t s (length out) q ≡ Good x r → Signs × (value place ≡ x) × (q .«ask_id» ≡ r)
+  unfolding checkSign
+  signs-good x r e =
+      let n = none-applied isBad (signTests t s (length out) q (outgoing t q)) _ (rw (refusal-bad (checked t))) (ap isBad e) in
+      let g = sym (first-none (signTests t s (length out) q (outgoing t q)) (Good (value place) (q .«ask_id»)) n) ∙ e in
+      (none-signs n, cc, cc)
+
+  -- where the call answers with a length, it signed
+  pub signed-good : (n : ℕ) → signed t s out q .answer ≡ S.Signed n → (x : ℕ) × (r : ℕ) × (checkSign t s (length out) q ≡ Good x r) × (length s + addedBytes (outgoing t q) ≡ n)
+  unfolding signed
+  signed-good n e = go (checkSign t s (length out) q) refl
+    where
+      go : (o : Outcome) → checkSign t s (length out) q ≡ o → (x : ℕ) × (r : ℕ) × (checkSign t s (length out) q ≡ Good x r) × (length s + addedBytes (outgoing t q) ≡ n)
+      go (Good x r) f = (x, r, f, cc (rw f at e))
+      go Passed f = let z : _≡_ {A = ℕ} 0 1 = cc (rw f at e) in absurd (omega arith)
+      go (Bad m i) f = let z : _≡_ {A = ℕ} 0 1 = cc (rw f at e) in absurd (omega arith)

@@ -1,0 +1,82 @@
+// The rules of a TCP-AO connection: the types that the calls take and give. What the calls do with them is defined in specs/;
+// the code is in the crate `tcpao`. Document 01, "Positions", "A connection's life", "Numbers given back".
+// Every value of these types is a value that a call may get: no field is an enum, and nothing is assumed of it.
+use keys::entry::Pair;
+
+// The position of a sequence number, or none (document 01, "Positions").
+pub enum Place {
+    At(u64),
+    Nowhere,
+}
+
+// What the tests of an arriving or outgoing segment come to: its position and RNextKeyID; pass; or document 01's number, with the
+// entry's index beside 10 to 17 and 0 beside every other number.
+pub enum Outcome {
+    Good(u64, u8),
+    Passed,
+    Bad(u8, usize),
+}
+
+// "A verdict is accept with its extension, pass, or drop with a number."
+pub enum Verdict {
+    Accept(u32),
+    Pass,
+    Drop(u8),
+}
+
+// What is fixed while a connection stays open: the pair as this end holds it, and both ISNs. Stage 1 is open, any other opening.
+pub struct Line {
+    pub stage: u8,
+    pub pair: Pair,
+    pub isn: u32,
+    pub peer_isn: u32,
+}
+
+// A connection's state. `sent` is the reference of the direction that this end signs, `seen` that of the arriving one; `send_id` is the
+// outgoing key's SendID (current_key), `ask_id` the RecvID asked of the peer (rnext_key). `drops` counts the drops 20 to 29.
+pub struct State {
+    pub line: Line,
+    pub sent: u64,
+    pub seen: u64,
+    pub send_id: u8,
+    pub ask_id: u8,
+    pub accepted: u64,
+    pub drops: [u64; 10],
+}
+
+// "The new state stands beside it." The index is an entry's where the table is refused (10 to 17), else 0.
+pub struct Judged {
+    pub verdict: Verdict,
+    pub index: usize,
+    pub state: State,
+}
+
+// What a bare SYN gets that is judged without a state.
+pub struct Checked {
+    pub verdict: Verdict,
+    pub index: usize,
+}
+
+// What signing answers: how many bytes were written, or the number of its refusal.
+pub enum Signing {
+    Signed(usize),
+    Refused(u8),
+}
+
+pub struct Signed {
+    pub answer: Signing,
+    pub index: usize,
+    pub state: State,
+}
+
+// What an active opening and the operator's call answer.
+pub enum Done {
+    Done,
+    Refused(u8),
+}
+
+pub struct Settled {
+    pub answer: Done,
+    pub index: usize,
+    pub state: State,
+}

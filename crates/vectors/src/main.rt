@@ -1,0 +1,79 @@
+// Runs the published vectors in data/ and prints, one line each, what was computed and whether it
+// is what the document expects. Nothing here is a theorem: the vectors are run and compared.
+// Assumes nothing.
+mod hex;
+mod lines;
+mod pieces;
+mod report;
+mod suites;
+
+use report::Tally;
+
+enum Suite {
+    Fips180,
+    Fips197,
+    Rfc2202,
+    Rfc4493,
+}
+
+fn judged(suite: Suite, line: &[u8], key: [u8; 16]) -> bool {
+    match suite {
+        Suite::Fips180 => suites::fips180(line),
+        Suite::Fips197 => suites::fips197(line),
+        Suite::Rfc2202 => suites::rfc2202(line),
+        Suite::Rfc4493 => suites::rfc4493(line, key),
+    }
+}
+
+fn one_line(suite: Suite, file: &[u8], number: u64, line: &[u8], key: [u8; 16], t: Tally) -> Tally {
+    if lines::is_remark(line) {
+        return t;
+    }
+    report::place(file, number);
+    let ok = judged(suite, line, key);
+    t.counted(ok)
+}
+
+fn all_lines(suite: Suite, file: &[u8], text: &[u8], before: Tally) -> Tally {
+    let mut t = before;
+    let mut key = [0u8; 16];
+    let mut number: u64 = 0;
+    let mut at = 0;
+    while at < text.len() {
+        number += 1;
+        let e = lines::find(text, at, b'\n');
+        let line = &text[at..e];
+        let k = suites::key_after(line, key);
+        key = k;
+        let u = one_line(suite, file, number, line, key, t);
+        t = u;
+        at = e + 1;
+    }
+    t
+}
+
+// A file that is not there, or is too long to be read whole, counts as a line that is not ok.
+fn run(suite: Suite, file: &[u8], t: Tally) -> Tally {
+    let fd = os::open_read(file);
+    if fd < 0 {
+        report::no_file(file, b" CANNOT BE OPENED\n");
+        return t.counted(false);
+    }
+    let mut text = io::large_buffer();
+    let n = io::read_full(fd, &mut text);
+    libc::close(fd);
+    if n == 65536 {
+        report::no_file(file, b" IS TOO LONG\n");
+        return t.counted(false);
+    }
+    all_lines(suite, file, &text[..n], t)
+}
+
+fn main() {
+    let t = Tally { ok: 0, all: 0 };
+    let t = run(Suite::Fips180, b"fips180.txt", t);
+    let t = run(Suite::Fips197, b"fips197.txt", t);
+    let t = run(Suite::Rfc2202, b"rfc2202.txt", t);
+    let t = run(Suite::Rfc4493, b"rfc4493.txt", t);
+    t.print();
+}

@@ -1,0 +1,158 @@
+// One function to a vector file: it computes what a line asks, prints it beside what the line
+// expects, and says whether they agree. Assumes nothing.
+use crate::hex;
+use crate::lines::column;
+use crate::lines::ends;
+use crate::pieces;
+use crate::report;
+use check::same;
+
+// FIPS 180-4, SHA-1. Columns: message, digest.
+pub fn fips180(line: &[u8]) -> bool {
+    let w = column(line, 1);
+    if !hex::fits(w, 20) || !ends(line, 2) {
+        return report::unreadable(line);
+    }
+    let mut want = [0u8; 20];
+    let n = hex::read(w, &mut want);
+    if same(column(line, 0), b"million-a") {
+        report::sized(b"SHA-1", 1000000);
+        let got = pieces::million();
+        return report::result(&got, true, &want[..n]);
+    }
+    let m = column(line, 0);
+    if !hex::fits(m, 256) {
+        return report::unreadable(line);
+    }
+    let mut message = [0u8; 256];
+    let k = hex::read(m, &mut message);
+    digest(&message[..k], &want[..n])
+}
+
+fn digest(message: &[u8], want: &[u8]) -> bool {
+    report::sized(b"SHA-1", message.len() as u64);
+    let got = mac::sha1::sha1(message);
+    let agree = pieces::sha1(message, &got);
+    report::result(&got, agree, want)
+}
+
+// Whether a column spells just sixteen bytes.
+fn is_block(text: &[u8]) -> bool {
+    text.len() == 32 && hex::fits(text, 16)
+}
+
+// FIPS 197, AES-128 encryption. Columns: key, plaintext, ciphertext.
+pub fn fips197(line: &[u8]) -> bool {
+    let k = column(line, 0);
+    let p = column(line, 1);
+    let c = column(line, 2);
+    if !is_block(k) || !is_block(p) || !is_block(c) || !ends(line, 3) {
+        return report::unreadable(line);
+    }
+    let key = hex::sixteen(k);
+    let plain = hex::sixteen(p);
+    let want = hex::sixteen(c);
+    let keys = mac::aes::expand_key(key);
+    let got = mac::aes::encrypt(keys, plain);
+    report::text(b"AES-128 ");
+    report::result(&got, true, &want)
+}
+
+// RFC 2202, HMAC-SHA-1. Columns: case, key, data, digest.
+pub fn rfc2202(line: &[u8]) -> bool {
+    let k = column(line, 1);
+    let m = column(line, 2);
+    let w = column(line, 3);
+    if !hex::fits(k, 256) || !hex::fits(m, 256) || !hex::fits(w, 20) || !ends(line, 4) {
+        return report::unreadable(line);
+    }
+    let mut key = [0u8; 256];
+    let mut message = [0u8; 256];
+    let mut want = [0u8; 20];
+    let a = hex::read(k, &mut key);
+    let b = hex::read(m, &mut message);
+    let c = hex::read(w, &mut want);
+    report::text(b"case ");
+    report::text(column(line, 0));
+    code(&key[..a], &message[..b], &want[..c])
+}
+
+fn code(key: &[u8], message: &[u8], want: &[u8]) -> bool {
+    report::text(b" HMAC-SHA-1 ");
+    let got = mac::hmac::hmac_sha1(key, message);
+    let agree = pieces::hmac(key, message, &got);
+    report::result(&got, agree, want)
+}
+
+// The key that RFC 4493's lines are computed with after this one.
+pub fn key_after(line: &[u8], key: [u8; 16]) -> [u8; 16] {
+    if same(column(line, 0), b"key") && is_block(column(line, 1)) {
+        return hex::sixteen(column(line, 1));
+    }
+    key
+}
+
+// RFC 4493, AES-CMAC. A line names the key or one of its two subkeys, or has the columns: message
+// length, message, CMAC.
+pub fn rfc4493(line: &[u8], key: [u8; 16]) -> bool {
+    let name = column(line, 0);
+    if same(name, b"key") {
+        return block(b"key ", line, key);
+    }
+    if same(name, b"k1") {
+        return block(b"K1 ", line, subkey(key));
+    }
+    if same(name, b"k2") {
+        return block(b"K2 ", line, doubled(subkey(key)));
+    }
+    let m = column(line, 1);
+    if !hex::fits(m, 256) || !is_block(column(line, 2)) || !ends(line, 3) {
+        return report::unreadable(line);
+    }
+    let want = hex::sixteen(column(line, 2));
+    let mut message = [0u8; 256];
+    let n = hex::read(m, &mut message);
+    let mut digits = [0u8; 20];
+    let d = io::decimal(n as u64, &mut digits);
+    if !same(&digits[..d], name) {
+        return report::unreadable(line);
+    }
+    tag(key, &message[..n], &want)
+}
+
+fn tag(key: [u8; 16], message: &[u8], want: &[u8]) -> bool {
+    report::sized(b"AES-CMAC", message.len() as u64);
+    let got = mac::cmac::cmac(key, message);
+    let agree = pieces::cmac(key, message, &got);
+    report::result(&got, agree, want)
+}
+
+fn block(what: &[u8], line: &[u8], got: [u8; 16]) -> bool {
+    if !is_block(column(line, 1)) || !ends(line, 2) {
+        return report::unreadable(line);
+    }
+    let want = hex::sixteen(column(line, 1));
+    report::text(what);
+    report::result(&got, true, &want)
+}
+
+// RFC 4493, section 2.3: K1 is L doubled, where L is the encrypted zero block, and K2 is K1 doubled.
+fn subkey(key: [u8; 16]) -> [u8; 16] {
+    let keys = mac::aes::expand_key(key);
+    doubled(mac::aes::encrypt(keys, [0; 16]))
+}
+
+fn doubled(s: [u8; 16]) -> [u8; 16] {
+    let mut d = [0u8; 16];
+    let mut i = 0;
+    while i < 15 {
+        d[i] = (s[i] << 1) ^ (s[i + 1] >> 7);
+        i += 1;
+    }
+    d[15] = (s[15] << 1) ^ carry(s[0]);
+    d
+}
+
+fn carry(first: u8) -> u8 {
+    if first < 128 { 0 } else { 135 }
+}

@@ -1,0 +1,54 @@
+-- `wire::prefix::agrees` meets its contract. The loop's invariant: the bits of the bytes passed agree.
+use borrow.Author.Needs.{needs}
+use native.Mathlib.Omega.{arith}
+use Prim.Native.Nat.{_*_, _-_, _/_, _≤_}
+use mathlib.Core.Path.{_≡_, _∙_}
+use mathlib.Core.Bool.{true}
+use lib.Bits.{and-mask}
+use Rattle.wire.specs.Prefix.{agree}
+use Rattle.wire.proofs.Bits.{none, agree-more, agree-not, agree-last}
+use Rattle.wire.proofs.prefix.agrees.Statement.{statement}
+use Rattle.wire.proofs.prefix.agrees.Tie as tie
+
+abbrev Inv-loop : tie.InvT-loop
+Inv-loop a b bits whole rest i₀ i = (i ≤ whole) × (agree (8 * i) a b ≡ true)
+
+abbrev μ-loop : tie.MeasureT-loop
+μ-loop a b bits whole rest i₀ i = whole - i
+
+returns : tie.Need-returns Inv-loop μ-loop
+returns c =
+    let l = c .before .before .before .before .loop in
+    agree-not _ _ (l .i) (c .before .before .before .before .before .before .before .args .bits) _ _ (omega arith) (omega arith)
+    (c .before .before .byte-at .ensures) (c .before .byte-at2 .ensures) (l .inv .1) (c .if1 .taken) (omega arith)
+
+loop-again : tie.Need-loop-again Inv-loop μ-loop
+loop-again c =
+    let l = c .before .before .before .before .loop in
+    (omega arith, agree-more _ _ (l .i) _ _ (omega arith) (omega arith) (c .before .before .byte-at .ensures) (c .before .byte-at2 .ensures) (l .inv .1) (c .if1 .left))
+
+returns-2 : tie.Need-returns-2 Inv-loop μ-loop
+returns-2 c =
+    let p = c .before .before .before .before .before .before .before .args .bits in
+    let l = c .before .before .before .before .loop in
+    c .byte-agrees .ensures ∙
+    agree-last _ _ (l .i) (p / 8) p _ _ _ (omega arith) (omega arith) (c .before .before .byte-at3 .ensures) (c .before .byte-at4 .ensures) (omega arith)
+    (omega (arith, and-mask p 3)) (omega (arith, and-mask p 3)) (l .inv .1)
+
+pub agrees-spec : {M : Type 1} → statement M
+agrees-spec =
+    tie.close
+    (tie.spec
+    Inv-loop
+    μ-loop
+    (λ c. (omega arith, none _ _))
+    (λ c κs. search needs)
+    (λ c κs. search needs)
+    returns
+    (λ c. search needs)
+    (λ c. search needs)
+    loop-again
+    (λ c κs. search needs)
+    (λ c κs. search needs)
+    (λ c κs. omega (arith, and-mask (c .before .before .before .before .before .before .args .bits) 3))
+    returns-2)

@@ -1,0 +1,11 @@
+pub mod Bytes
+pub mod BytesLaws
+pub mod Header
+pub mod HeaderLaws
+pub mod OptionLaws
+pub mod OptionPlaces
+pub mod OptionSteps
+pub mod Options
+pub mod Prefix
+pub mod PrefixLaws
+pub mod Tests

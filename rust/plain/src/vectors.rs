@@ -1,0 +1,87 @@
+//! The published vectors, from the same files that the program `vectors` reads.
+
+use crate::{aes, cmac, hmac, sha1};
+
+fn file(text: &'static str) -> impl Iterator<Item = Vec<&'static str>> {
+    text.lines().filter(|l| !l.starts_with('#')).map(|l| l.split(' ').collect())
+}
+
+fn hex(text: &str) -> Vec<u8> {
+    if text == "-" {
+        return Vec::new();
+    }
+    assert!(text.len() % 2 == 0);
+    (0..text.len()).step_by(2).map(|i| u8::from_str_radix(&text[i..i + 2], 16).unwrap()).collect()
+}
+
+fn block(text: &str) -> [u8; 16] {
+    hex(text).try_into().unwrap()
+}
+
+macro_rules! vectors {
+    ($name:literal) => {
+        file(include_str!(concat!("../../../crates/vectors/data/", $name, ".txt")))
+    };
+}
+
+#[test]
+fn fips180() {
+    let mut lines = 0;
+    for c in vectors!("fips180") {
+        let message = if c[0] == "million-a" { vec![0x61; 1_000_000] } else { hex(c[0]) };
+        assert_eq!(sha1::sha1(&message)[..], hex(c[1]), "{c:?}");
+        lines += 1;
+    }
+    assert_eq!(lines, 5);
+}
+
+#[test]
+fn fips197() {
+    let mut lines = 0;
+    for c in vectors!("fips197") {
+        let keys = aes::expand_key(&block(c[0]));
+        assert_eq!(aes::encrypt(&keys, &block(c[1])), block(c[2]), "{c:?}");
+        lines += 1;
+    }
+    assert_eq!(lines, 2);
+}
+
+#[test]
+fn rfc2202() {
+    let mut lines = 0;
+    for c in vectors!("rfc2202") {
+        assert_eq!(hmac::hmac_sha1(&hex(c[1]), &hex(c[2]))[..], hex(c[3]), "{c:?}");
+        lines += 1;
+    }
+    assert_eq!(lines, 7);
+}
+
+#[test]
+fn rfc4493() {
+    let mut lines = 0;
+    let mut key = [0; 16];
+    for c in vectors!("rfc4493") {
+        match c[0] {
+            "key" => key = block(c[1]),
+            "k1" => assert_eq!(cmac::subkeys(&aes::expand_key(&key)).0, block(c[1])),
+            "k2" => assert_eq!(cmac::subkeys(&aes::expand_key(&key)).1, block(c[1])),
+            n => {
+                let message = hex(c[1]);
+                assert_eq!(n.parse(), Ok(message.len()));
+                assert_eq!(cmac::cmac(&key, &message), block(c[2]), "{c:?}");
+            }
+        }
+        lines += 1;
+    }
+    assert_eq!(lines, 7);
+}
+
+#[test]
+fn pieces() {
+    let message: Vec<u8> = (0..1000u32).map(|i| (i * 7) as u8).collect();
+    for size in [1, 7, 63, 64, 65, 200] {
+        let mut context = sha1::Sha1::new();
+        message.chunks(size).for_each(|piece| context.update(piece));
+        assert_eq!(context.finish(), sha1::sha1(&message));
+    }
+}
