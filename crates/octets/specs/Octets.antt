@@ -1,6 +1,6 @@
 -- Numbers in network byte order: the highest byte first.
 use Prim.Native.Nat.{ℕ, _+_, _*_, _/_, _%_, _^_}
-use mathlib.Core.List.{List, [], _∷_, _++_}
+use mathlib.Core.List.{List, [], _∷_}
 use lib.ListN.{getD}
 
 -- the number that two, and four, bytes make

@@ -1,41 +1,33 @@
 -- Demand 2, of the definitions: what one end signs, the other end accepts. First what the three ways share.
-use Prim.Native.Nat.{ℕ, zero, suc, _+_, _-_, _*_, _/_, _%_, _^_, _≤_, _<_}
-use mathlib.Core.Path.{_≡_, refl, ap, ap₂, sym, _∙_, subst, subst⁻¹}
-use mathlib.Core.Bool.{Bool, true, false, cond, not, _&&_, _||_}
-use mathlib.Core.List.{List, [], _∷_, _++_}
+use Prim.Native.Nat.{ℕ, zero, suc, _+_, _-_, _^_, _<_}
+use mathlib.Core.Path.{_≡_, refl, ap, sym, _∙_}
+use mathlib.Core.Bool.{true, false, not}
+use mathlib.Core.List.{List, [], _∷_}
 use native.Mathlib.Omega.{arith}
-use lib.ListN.{length, getD, take, drop}
-use lib.Seq.{length-take-le}
+use lib.ListN.{getD}
 use lib.Dec.{ltb, eqb}
 use borrow.Author.Tests.{eq-eqb, eqb-true, not-false}
-use Rattle.wire.specs.Bytes.{sameBytes}
-use Rattle.wire.specs.BytesLaws.{same-of-eq, same-refl}
-use Rattle.wire.specs.Header.{sourcePort, destinationPort, sequence, syn, ack}
+use Rattle.wire.specs.BytesLaws.{same-of-eq}
+use Rattle.wire.specs.Header.{sequence, syn}
 use Rattle.wire.specs.declared.options.Occurrence.{Occurrence}
 use Rattle.keys.specs.declared.entry.Pair.{Pair}
 use Rattle.keys.specs.declared.entry.Entry.{Entry}
 use Rattle.keys.specs.declared.table.Found.{Found}
-use Rattle.keys.specs.Entry.{width, entries}
 use Rattle.keys.specs.Mirror.{Mirror}
-use Rattle.keys.specs.LoadLaws.{At as EntryAt}
-use Rattle.keys.specs.Table.{ValidTable, checked, recvEntry}
-use Rattle.keys.specs.SearchLaws.{hit, recv-found, send-holder}
-use Rattle.rules.specs.declared.Place.{Place}
-use Rattle.rules.specs.declared.Place.the-variants.{At, Nowhere}
+use Rattle.keys.specs.Table.{ValidTable}
+use Rattle.keys.specs.SearchLaws.{hit}
+use Rattle.rules.specs.declared.Place.the-variants.{At}
 use Rattle.rules.specs.declared.Outcome.{Outcome}
-use Rattle.rules.specs.declared.Outcome.the-variants.{Good, Passed, Bad}
-use Rattle.rules.specs.declared.Line.{Line}
 use Rattle.rules.specs.declared.State.{State}
-use Rattle.rules.specs.Position.{position, Near}
-use Rattle.rules.specs.PositionLaws.{complete, sound}
-use Rattle.rules.specs.NumberLaws.{NoneApplies, first-none}
+use Rattle.rules.specs.Position.{position}
+use Rattle.rules.specs.NumberLaws.{NoneApplies}
 use Rattle.rules.specs.Mac.{Flow, segmentMac}
 use Rattle.rules.specs.MacLaws.{Agree}
-use Rattle.rules.specs.Segment.{ao, aoAt, keyId, rnextKeyId, macIn, isBareSyn}
-use Rattle.rules.specs.Connection.{Arrival, localAddress, remoteAddress, isOpen, arriving, leaving, placeOn, located, value, extensionOf}
+use Rattle.rules.specs.Segment.{ao}
+use Rattle.rules.specs.Connection.{leaving, value, extensionOf}
 use Rattle.rules.specs.Calls.{keyTests, isRefused, macDiffers, optionTests, lengthTests, tableTests}
-use Rattle.rules.specs.Ends.{Each, Bytes, SignedAt, rechecked}
-use Rattle.rules.specs.RoundTrip.{Reads, Arrived}
+use Rattle.rules.specs.Ends.{Bytes, SignedAt}
+use Rattle.rules.specs.RoundTrip.{Reads}
 use Rattle.rules.specs.Delivery.{signs, twelve, mac, length-its-mac, segment, reads, same-mac, sizes}
 
 -- bytes make a number below 2 ^ 32

@@ -1,38 +1,35 @@
 -- One signed segment, one judging call: the tests that the receiver makes of it all fail, on each of the three ways that it can go.
-use Prim.Native.Nat.{ℕ, zero, suc, _+_, _-_, _*_, _/_, _%_, _^_, _≤_, _<_}
-use mathlib.Core.Path.{_≡_, refl, ap, ap₂, sym, _∙_, subst, subst⁻¹}
-use mathlib.Core.Bool.{Bool, true, false, cond, not, _&&_, _||_}
-use mathlib.Core.List.{List, [], _∷_, _++_}
+use Prim.Native.Nat.{ℕ, _-_}
+use mathlib.Core.Path.{_≡_, refl, ap, ap₂, sym, _∙_, subst⁻¹}
+use mathlib.Core.Bool.{Bool, true, false, cond, not, _&&_}
+use mathlib.Core.List.{List}
 use native.Mathlib.Omega.{arith}
-use lib.ListN.{length, getD, take, drop}
+use lib.ListN.{length, take, drop}
 use lib.Seq.{length-take-le, take-at}
-use lib.Dec.{ltb, eqb}
+use lib.Dec.{eqb}
 use borrow.Author.Tests.{eq-eqb, eqb-true, not-false}
 use Rattle.wire.specs.BytesLaws.{same-refl}
 use Rattle.wire.specs.Header.{sourcePort, destinationPort, sequence, syn, ack}
-use Rattle.keys.specs.declared.entry.Pair.{Pair}
 use Rattle.keys.specs.declared.entry.Entry.{Entry}
 use Rattle.keys.specs.Entry.{known, width, padded, entries}
 use Rattle.keys.specs.EntryLaws.{width-le}
 use Rattle.keys.specs.MatchLaws.{and-true}
-use Rattle.keys.specs.Mirror.{Mirror}
 use Rattle.keys.specs.LoadLaws.{At as EntryAt}
+use Rattle.keys.specs.Mirror.{Mirror}
 use Rattle.keys.specs.Table.{ValidTable, recvEntry}
 use Rattle.keys.specs.SearchLaws.{hit, recv-found, send-holder}
 use Rattle.rules.specs.declared.Place.{Place}
-use Rattle.rules.specs.declared.Place.the-variants.{At, Nowhere}
-use Rattle.rules.specs.declared.Outcome.{Outcome}
-use Rattle.rules.specs.declared.Outcome.the-variants.{Good, Passed, Bad}
+use Rattle.rules.specs.declared.Place.the-variants.{At}
+use Rattle.rules.specs.declared.Outcome.the-variants.{Good}
 use Rattle.rules.specs.declared.Line.{Line}
 use Rattle.rules.specs.declared.State.{State}
 use Rattle.rules.specs.Position.{position, Near}
 use Rattle.rules.specs.PositionLaws.{complete, sound}
 use Rattle.rules.specs.NumberLaws.{NoneApplies, first-none, none-append}
-use Rattle.rules.specs.Mac.{Flow}
-use Rattle.rules.specs.Segment.{keyId, rnextKeyId, isBareSyn}
+use Rattle.rules.specs.Segment.{keyId, isBareSyn}
 use Rattle.rules.specs.Connection.{sized, Arrival, localAddress, remoteAddress, arrivalPair, isOpen, arriving, arrivingSyn, leaving, placeOn, value, extensionOf}
 use Rattle.rules.specs.Calls.{refuse, familyTests, addressTests, tableTests, lengthTests, optionTests, pairTests, stageTests, keyTests, judgeTests, check, synTests, synMissing, synUnknown, judgeSynTests, checkSyn}
-use Rattle.rules.specs.Ends.{Typed, Allowed, Facing, OtherEnd, Delivered, SignedAt, TrueSegment}
+use Rattle.rules.specs.Ends.{Typed, Allowed, Facing, OtherEnd, SignedAt, TrueSegment}
 use Rattle.rules.specs.Demand3.{Within}
 use Rattle.rules.specs.RoundTrip.{Arrived}
 use Rattle.rules.specs.Delivery.{signs, mac, segment, reads}

@@ -1,7 +1,7 @@
 -- Every call of document 01, for every input: its numbers in order, of which the first that applies is given; then the answer, the new
 -- state, and every byte of the output.
 use Prim.Native.Nat.{ℕ, _+_}
-use mathlib.Core.Bool.{Bool, true, false, cond, not, _&&_, _||_}
+use mathlib.Core.Bool.{Bool, true, false, cond, not, _&&_}
 use mathlib.Core.List.{List, [], _∷_, _++_}
 use lib.ListN.{length, drop, replicate}
 use lib.Dec.{eqb, ltb}
@@ -16,7 +16,7 @@ use Rattle.keys.specs.Algorithm.{macBytes}
 use Rattle.keys.specs.Entry.{known}
 use Rattle.keys.specs.Table.{checked, sendEntry, recvEntry, anyEntry}
 use Rattle.rules.specs.declared.Place.{Place}
-use Rattle.rules.specs.declared.Place.the-variants.{At, Nowhere}
+use Rattle.rules.specs.declared.Place.the-variants.{At}
 use Rattle.rules.specs.declared.Outcome.{Outcome}
 use Rattle.rules.specs.declared.Outcome.the-variants.{Good, Passed, Bad}
 use Rattle.rules.specs.declared.Verdict.{Verdict}
@@ -25,7 +25,6 @@ use Rattle.rules.specs.declared.Line.{Line}
 use Rattle.rules.specs.declared.State.{State}
 use Rattle.rules.specs.declared.Judged.{Judged}
 use Rattle.rules.specs.declared.Checked.{Checked}
-use Rattle.rules.specs.declared.Signing.{Signing}
 use Rattle.rules.specs.declared.Signing.the-variants as S
 use Rattle.rules.specs.declared.Signed.{Signed}
 use Rattle.rules.specs.declared.Done.{Done}

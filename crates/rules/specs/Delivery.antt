@@ -1,32 +1,27 @@
 -- What the signing call wrote, as it arrives: what the receiver reads in it, and that its MAC is the one it carries.
-use Prim.Native.Nat.{ℕ, _+_, _-_, _*_, _/_, _%_, _^_, _≤_, _<_}
-use mathlib.Core.Path.{_≡_, refl, ap, ap₂, sym, _∙_, subst, subst⁻¹}
-use mathlib.Core.Bool.{Bool, true, false, cond, not, _&&_, _||_}
-use mathlib.Core.List.{List, [], _∷_, _++_}
+use Prim.Native.Nat.{ℕ, _+_, _-_, _*_, _/_}
+use mathlib.Core.Path.{_≡_, ap, ap₂, sym, _∙_, subst⁻¹}
+use mathlib.Core.Bool.{Bool, false, cond}
+use mathlib.Core.List.{List}
 use native.Mathlib.Omega.{arith}
 use lib.ListN.{length, take, drop, replicate}
 use lib.Seq.{take-at}
-use lib.Dec.{ltb, eqb}
+use lib.Dec.{ltb}
 use borrow.Author.Tests.{le-ltb}
-use Rattle.wire.specs.Bytes.{sameBytes}
-use Rattle.wire.specs.BytesLaws.{same-of-eq}
-use Rattle.wire.specs.Header.{sourcePort, destinationPort, sequence, dataOffset, headerEnd, syn, ack}
+use Rattle.wire.specs.Header.{dataOffset, headerEnd}
 use Rattle.keys.specs.declared.entry.Entry.{Entry}
 use Rattle.keys.specs.declared.entry.Secret.{Secret}
 use Rattle.keys.specs.Algorithm.{macBytes}
-use Rattle.keys.specs.SearchLaws.{Proper, valid-proper, send-holder}
-use Rattle.rules.specs.declared.Place.{Place}
-use Rattle.rules.specs.declared.Place.the-variants.{At, Nowhere}
+use Rattle.keys.specs.SearchLaws.{valid-proper, send-holder}
 use Rattle.rules.specs.declared.Outcome.{Outcome}
-use Rattle.rules.specs.declared.Outcome.the-variants.{Good, Passed, Bad}
 use Rattle.rules.specs.declared.State.{State}
-use Rattle.rules.specs.Mac.{Flow, message, applied, trafficKey, segmentMac}
+use Rattle.rules.specs.Mac.{Flow, applied, trafficKey, segmentMac}
 use Rattle.rules.specs.MacLaws.{length-mac, Agree, mac-agree}
-use Rattle.rules.specs.Segment.{ao, aoAt, macIn, signedWith}
-use Rattle.rules.specs.Connection.{leaving, placeOn, value, extensionOf}
-use Rattle.rules.specs.Calls.{outgoing, addedBytes, checkSign, signedSegment, written, outputBy, output, macDiffers}
+use Rattle.rules.specs.Segment.{signedWith}
+use Rattle.rules.specs.Connection.{leaving, value, extensionOf}
+use Rattle.rules.specs.Calls.{outgoing, addedBytes, signedSegment, written, outputBy, output}
 use Rattle.rules.specs.Ends.{SignedAt, rechecked}
-use Rattle.rules.specs.RoundTrip.{Reads, Arrived, arrival, covers, length-signed}
+use Rattle.rules.specs.RoundTrip.{Arrived, arrival, covers, length-signed}
 use Rattle.rules.specs.SigningLaws.{Signs, signs-good, signed-good}
 
 -- what was signed, by the outgoing entry: it has as many bytes as the answer says

@@ -4,7 +4,7 @@
 -- steps of an opening.
 use Prim.Native.Nat.{ℕ, _/_, _^_, _<_}
 use mathlib.Core.Path.{_≡_, refl, ap, sym, _∙_, subst⁻¹, subst₂}
-use mathlib.Core.Bool.{Bool, true, false, cond}
+use mathlib.Core.Bool.{Bool, true, false}
 use mathlib.Core.List.{List}
 use native.Mathlib.Omega.{arith}
 use Rattle.wire.specs.Header.{syn}
@@ -14,12 +14,11 @@ use Rattle.keys.specs.Entry.{known}
 use Rattle.keys.specs.Mirror.{Mirror}
 use Rattle.keys.specs.Table.{recvEntry}
 use Rattle.rules.specs.declared.Outcome.{Outcome}
-use Rattle.rules.specs.declared.Outcome.the-variants.{Good, Passed, Bad}
-use Rattle.rules.specs.declared.Verdict.the-variants.{Accept, Pass, Drop}
+use Rattle.rules.specs.declared.Outcome.the-variants.{Good}
+use Rattle.rules.specs.declared.Verdict.the-variants.{Accept}
 use Rattle.rules.specs.declared.Line.{Line}
 use Rattle.rules.specs.declared.State.{State}
 use Rattle.rules.specs.declared.Judged.{Judged}
-use Rattle.rules.specs.declared.Checked.{Checked}
 use Rattle.rules.specs.Segment.{keyId}
 use Rattle.rules.specs.Connection.{Arrival, localAddress, remoteAddress, arrivalPair, isOpen, extensionOf, nextKey, opened, withAccepted}
 use Rattle.rules.specs.Calls.{check, checkSyn, verdictOf, indexOf, judgedBy, judged, judgedSyn, openedBy, openedPassively}

@@ -1,13 +1,12 @@
 -- Demand 3, as a statement: document 01's last section and the demand's own words. `demand3` of OrderLaws proves it.
 use Prim.Native.Nat.{ℕ, _+_, _^_, _<_, max}
 use mathlib.Core.Path.{_≡_}
-use mathlib.Core.Bool.{Bool, true, false, cond}
+use mathlib.Core.Bool.{Bool, true, cond}
 use mathlib.Core.List.{List, [], _∷_, map, List·Permᴰ}
 use Rattle.rules.specs.declared.Verdict.{Verdict}
-use Rattle.rules.specs.declared.Verdict.the-variants.{Accept, Pass, Drop}
+use Rattle.rules.specs.declared.Verdict.the-variants.{Accept}
 use Rattle.rules.specs.declared.Line.{Line}
 use Rattle.rules.specs.declared.State.{State}
-use Rattle.rules.specs.declared.Judged.{Judged}
 use Rattle.keys.specs.Table.{ValidTable}
 use Rattle.rules.specs.Connection.{Arrival, isOpen, sized, extensionOf, stop, available}
 use Rattle.rules.specs.Calls.{judged}

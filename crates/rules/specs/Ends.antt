@@ -2,20 +2,17 @@
 -- verifies if ..", "a key is available if ..") and "Positions".
 use Prim.Native.Nat.{ℕ, _+_, _^_, _<_}
 use mathlib.Core.Path.{_≡_}
-use mathlib.Core.Bool.{Bool, true, false, _||_}
+use mathlib.Core.Bool.{true, false}
 use mathlib.Core.List.{List, [], _∷_, _++_}
 use lib.ListN.{length, take, drop}
-use lib.Dec.{eqb}
 use Rattle.wire.specs.Header.{sourcePort, destinationPort, sequence, wellSized}
 use Rattle.keys.specs.declared.entry.Pair.{Pair}
 use Rattle.keys.specs.declared.entry.Entry.{Entry}
-use Rattle.keys.specs.declared.table.Found.{Found}
 use Rattle.keys.specs.Entry.{known, entries}
 use Rattle.keys.specs.Table.{ValidTable, recvEntry}
 use Rattle.keys.specs.LoadLaws.{At as EntryAt}
 use Rattle.keys.specs.Mirror.{Mirror}
-use Rattle.rules.specs.declared.Place.{Place}
-use Rattle.rules.specs.declared.Place.the-variants.{At, Nowhere}
+use Rattle.rules.specs.declared.Place.the-variants.{At}
 use Rattle.rules.specs.declared.Line.{Line}
 use Rattle.rules.specs.declared.State.{State}
 use Rattle.rules.specs.declared.Signing.the-variants as S

@@ -8,7 +8,6 @@ use Rattle.keys.specs.Entry.{width}
 use Rattle.keys.specs.Match.{meet, overlap}
 use Rattle.keys.specs.declared.entry.Selector.{Selector}
 use Rattle.keys.specs.Examples.{net, ports}
-use Rattle.rules.specs.declared.Place.{Place}
 use Rattle.rules.specs.Position.{position}
 use Rattle.rules.specs.Answers.{Answer, answer, placeAnswer}
 

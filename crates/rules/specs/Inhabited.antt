@@ -1,7 +1,6 @@
 -- Demand 3 is not empty: a true arrival and an arrival of the other kind, on one connection. The MAC is not opened: it is whatever it is.
-use Prim.Native.Nat.{ℕ, _+_, _-_, _*_, _/_, _≤_, _<_}
+use Prim.Native.Nat.{ℕ, _+_, _-_}
 use mathlib.Core.Path.{_≡_, refl, ap, sym, _∙_, subst⁻¹}
-use mathlib.Core.Bool.{Bool, true, false}
 use mathlib.Core.List.{List, [], _∷_, _++_}
 use native.Mathlib.Omega.{arith}
 use lib.ListN.{length, take, drop, replicate}
@@ -17,17 +16,17 @@ use Rattle.keys.specs.Table.{first, clashing, judged, loaded, found, answers}
 use Rattle.rules.specs.declared.Line.{Line}
 use Rattle.rules.specs.declared.State.{State}
 use Rattle.rules.specs.declared.Outcome.{Outcome}
-use Rattle.rules.specs.declared.Outcome.the-variants.{Good, Passed, Bad}
+use Rattle.rules.specs.declared.Outcome.the-variants.{Good}
 use Rattle.rules.specs.Position.{position}
 use Rattle.rules.specs.declared.Signing.the-variants as S
 use Rattle.rules.specs.Mac.{segmentMac}
 use Rattle.rules.specs.MacLaws.{length-mac}
 use Rattle.rules.specs.RoundTrip.{Fresh, length-signed}
-use Rattle.rules.specs.Connection.{Arrival, leaving, extensionOf}
+use Rattle.rules.specs.Connection.{leaving, extensionOf}
 use Rattle.rules.specs.Segment.{signedWith}
 use Rattle.rules.specs.Calls.{outgoing, addedBytes, checkSign, signedSegment, written, signedBy, outputBy, signed, output}
 use Rattle.rules.specs.Ends.{rechecked, SignedAt, TrueSegment, Verifies}
-use Rattle.rules.specs.Demand3.{Arriving, real, other}
+use Rattle.rules.specs.Demand3.{other}
 
 -- a table of one entry for every IPv4 pair, HMAC-SHA-1-96, all options covered, the key 01 02
 abbrev table : ℕ → ℕ → List ℕ

@@ -1,9 +1,9 @@
 -- Laws of the MAC of a segment: its length, and what it depends on. "no hypothesis on the MAC is left open".
 use Prim.Native.Nat.{ℕ, _+_, _%_, _≤_}
-use mathlib.Core.Path.{_≡_, refl, ap, sym, _∙_}
+use mathlib.Core.Path.{_≡_, refl}
 use mathlib.Core.Bool.{Bool, true, false, cond}
 use mathlib.Core.List.{List, _++_}
-use mathlib.Core.Logic.{_⊎_, inl, inr, ⊎-elim}
+use mathlib.Core.Logic.{_⊎_, ⊎-elim}
 use native.Mathlib.Omega.{arith}
 use lib.ListN.{length, take, drop, length-append}
 use lib.Seq.{length-take-le}
@@ -16,7 +16,7 @@ use Rattle.mac.specs.CmacLaws.{length-cmac}
 use Rattle.wire.specs.Header.{headerEnd}
 use Rattle.keys.specs.declared.entry.Secret.{Secret}
 use Rattle.keys.specs.Algorithm.{trafficKeyBytes, outputBits}
-use Rattle.keys.specs.Entry.{keyOf, allOptions}
+use Rattle.keys.specs.Entry.{keyOf}
 use Rattle.rules.specs.Mac.{Flow, context, derivationInput, aesKey, derivationKey, applied, trafficKey, pseudoHeader, coveredHeader, front, message, segmentMac}
 
 -- both algorithms give at least 16 bytes

@@ -1,13 +1,12 @@
 -- `position` is the number that document 01's sentence describes: complete, sound, unique.
-use Prim.Native.Nat.{ℕ, _+_, _-_, _%_, _^_, _≤_, _<_}
+use Prim.Native.Nat.{ℕ, _+_, _-_, _^_, _≤_, _<_}
 use mathlib.Core.Path.{_≡_, refl, ap}
 use mathlib.Core.Bool.{Bool, true, false}
 use native.Mathlib.Omega.{arith}
 use lib.Dec.{ltb, leb}
 use borrow.Author.Tests.{ltb-true, ltb-false, leb-true, lt-ltb, le-leb}
-use Rattle.rules.specs.declared.Place.{Place}
-use Rattle.rules.specs.declared.Place.the-variants.{At, Nowhere}
-use Rattle.rules.specs.Position.{wrappingDifference, ahead, behind, position, Near}
+use Rattle.rules.specs.declared.Place.the-variants.{At}
+use Rattle.rules.specs.Position.{wrappingDifference, position, Near}
 
 -- if there is such a number, `position` is it
 pub complete : (reference s x : ℕ) → Near reference s x → position reference s ≡ At x

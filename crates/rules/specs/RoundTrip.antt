@@ -1,23 +1,22 @@
 -- Signed bytes as they arrive, with any checksum in them, read by the receiver's definitions.
-use Prim.Native.Nat.{ℕ, zero, suc, _+_, _-_, _*_, _/_, _^_, _≤_, _<_}
+use Prim.Native.Nat.{ℕ, zero, suc, _+_, _-_, _*_, _/_, _≤_}
 use mathlib.Core.Path.{_≡_, refl, ap, ap₂, sym, _∙_, subst, subst⁻¹}
-use mathlib.Core.Bool.{Bool, true, false, cond}
+use mathlib.Core.Bool.{Bool, false, cond}
 use mathlib.Core.List.{List, [], _∷_, _++_, append-assoc}
 use native.Mathlib.Omega.{arith}
 use lib.ListN.{length, getD, take, drop, replicate, length-append, length-take, length-drop, length-replicate, take-append-drop}
-use lib.Seq.{drop-cons, take-at, drop-at, take-append-add, drop-append-add, drop-drop, take-append-seam, drop-append-seam}
-use Rattle.wire.specs.Header.{sourcePort, destinationPort, sequence, dataOffset, headerEnd, syn, ack, area}
+use lib.Seq.{drop-cons, take-at, take-append-add, drop-append-add, take-append-seam, drop-append-seam}
+use Rattle.wire.specs.Header.{sourcePort, destinationPort, sequence, headerEnd, syn, ack, area}
 use Rattle.wire.specs.Options.{optionsOf}
 use Rattle.wire.specs.OptionLaws.{ao-alone}
-use Rattle.wire.specs.declared.options.Occurrence.{Occurrence}
 use Rattle.wire.specs.declared.options.Seen.{Seen}
 use Rattle.wire.specs.declared.options.Options.{Options}
 use Rattle.wire.specs.declared.options.Options.the-variants.{Malformed, Found}
 use Rattle.octets.specs.Octets.{bytes32}
 use Rattle.keys.specs.declared.entry.Secret.{Secret}
 use Rattle.keys.specs.Entry.{allOptions}
-use Rattle.rules.specs.Mac.{Flow, pseudoHeader, blank, zeroed, coveredHeader, front, message}
-use Rattle.rules.specs.Segment.{malformed, ao, md5, aoAt, keyId, rnextKeyId, macIn, signedHeader, signedWith}
+use Rattle.rules.specs.Mac.{Flow, pseudoHeader, zeroed, coveredHeader, front, message}
+use Rattle.rules.specs.Segment.{malformed, ao, md5, keyId, rnextKeyId, macIn, signedHeader, signedWith}
 use Rattle.rules.specs.Ends.{rechecked}
 
 -- a header's twenty fixed bytes, by name, so that what is read of them computes

@@ -2,7 +2,7 @@
 -- malformed, it reads the place 0 of the option area, and an earlier line of document 01's table decides.
 use Prim.Native.Nat.{ℕ, _+_, _-_, _*_, _/_}
 use mathlib.Core.Bool.{Bool, not, _&&_}
-use mathlib.Core.List.{List, [], _∷_, _++_}
+use mathlib.Core.List.{List, _∷_, _++_}
 use lib.ListN.{length, getD, take, drop}
 use Rattle.wire.specs.Header.{headerEnd, area, syn, ack}
 use Rattle.wire.specs.Options.{optionsOf, isMalformed, aoIn, md5In}

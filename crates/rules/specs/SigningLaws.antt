@@ -1,11 +1,11 @@
 -- What is known of a segment that the signing call signed.
-use Prim.Native.Nat.{ℕ, _+_, _*_, _/_, _^_, _≤_, _<_}
-use mathlib.Core.Path.{_≡_, refl, ap, sym, _∙_, subst}
-use mathlib.Core.Bool.{Bool, true, false, cond, not, _&&_, _||_}
-use mathlib.Core.List.{List, [], _∷_, _++_}
+use Prim.Native.Nat.{ℕ, _+_, _≤_}
+use mathlib.Core.Path.{_≡_, refl, ap, sym, _∙_}
+use mathlib.Core.Bool.{true, false, cond, not, _&&_}
+use mathlib.Core.List.{List}
 use native.Mathlib.Omega.{arith}
-use lib.ListN.{length, take, drop}
-use lib.Dec.{ltb, eqb}
+use lib.ListN.{length}
+use lib.Dec.{eqb}
 use borrow.Author.Tests.{ltb-false, eqb-true, not-false}
 use Rattle.wire.specs.Header.{sourcePort, destinationPort, sequence, dataOffset, headerEnd, syn}
 use Rattle.keys.specs.declared.table.Loaded.{Loaded}
@@ -13,16 +13,15 @@ use Rattle.keys.specs.declared.table.Loaded.the-variants.{Valid, Refused}
 use Rattle.keys.specs.Entry.{known}
 use Rattle.keys.specs.Table.{checked, ValidTable}
 use Rattle.rules.specs.declared.Place.{Place}
-use Rattle.rules.specs.declared.Place.the-variants.{At, Nowhere}
 use Rattle.rules.specs.declared.Outcome.{Outcome}
 use Rattle.rules.specs.declared.Outcome.the-variants.{Good, Passed, Bad}
 use Rattle.rules.specs.declared.State.{State}
 use Rattle.rules.specs.declared.Signing.the-variants as S
 use Rattle.rules.specs.NumberLaws.{NoneApplies, first-none, none-applied}
 use Rattle.rules.specs.JudgeLaws.{isBad, refusal-bad}
-use Rattle.rules.specs.Segment.{malformed, ao, md5, isBareSyn}
+use Rattle.rules.specs.Segment.{ao, md5, isBareSyn}
 use Rattle.rules.specs.Connection.{isOpen, placeOn, located, value}
-use Rattle.rules.specs.Calls.{isRefused, refusal, refuse, outgoing, addedBytes, signTests, checkSign, signedBy, signed}
+use Rattle.rules.specs.Calls.{isRefused, outgoing, addedBytes, signTests, checkSign, signed}
 use Rattle.rules.specs.RoundTrip.{Fresh}
 
 -- a table that is not refused is valid

@@ -5,7 +5,12 @@
 
 mod c {
     extern "C" {
-        pub fn mac_sha1(message: *const u8, message_len: usize, out: *mut u8, out_len: usize) -> u64;
+        pub fn mac_sha1(
+            message: *const u8,
+            message_len: usize,
+            out: *mut u8,
+            out_len: usize,
+        ) -> u64;
         pub fn mac_hmac_sha1(
             key: *const u8,
             key_len: usize,
@@ -80,7 +85,7 @@ pub fn aes128_cmac(key: &[u8], message: &[u8], out: &mut [u8]) -> u64 {
 pub struct Bytes(pub u64);
 
 impl Bytes {
-    pub fn next(&mut self) -> u8 {
+    pub fn byte(&mut self) -> u8 {
         self.0 ^= self.0 << 13;
         self.0 ^= self.0 >> 7;
         self.0 ^= self.0 << 17;
@@ -88,6 +93,6 @@ impl Bytes {
     }
 
     pub fn take(&mut self, n: usize) -> Vec<u8> {
-        (0..n).map(|_| self.next()).collect()
+        (0..n).map(|_| self.byte()).collect()
     }
 }

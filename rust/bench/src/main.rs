@@ -11,13 +11,17 @@ const ROUNDS: usize = 401;
 const BYTES: usize = 65_000;
 const LIMIT: f64 = 1.25;
 
+type Call = fn(&[u8; 16], &[u8]) -> Vec<u8>;
+type Timed = fn(&[u8; 16], &[u8], usize) -> (Duration, Duration);
+
 /// A function on a message under one 16-byte key, in both forms.
 struct Pair {
     name: &'static str,
+    /// Whether its time has to be within the limit.
     limited: bool,
-    ours: fn(&[u8; 16], &[u8]) -> Vec<u8>,
-    plain: fn(&[u8; 16], &[u8]) -> Vec<u8>,
-    time: fn(&[u8; 16], &[u8], usize) -> (Duration, Duration),
+    ours: Call,
+    plain: Call,
+    time: Timed,
 }
 
 /// Times `count` calls of each of two functions that take a key and a message.
@@ -99,7 +103,12 @@ fn compare() -> usize {
         let key: [u8; 16] = bytes.take(16).try_into().unwrap();
         let message = bytes.take(n);
         for pair in &PAIRS {
-            assert_eq!((pair.ours)(&key, &message), (pair.plain)(&key, &message), "{} of {n} bytes", pair.name);
+            assert_eq!(
+                (pair.ours)(&key, &message),
+                (pair.plain)(&key, &message),
+                "{} of {n} bytes",
+                pair.name
+            );
         }
         inputs += 1;
     }
@@ -117,7 +126,11 @@ fn min_and_median(mut times: Vec<f64>) -> (f64, f64) {
 }
 
 fn main() {
-    println!("{} messages give the same by each of the {} functions.\n", compare(), PAIRS.len());
+    println!(
+        "{} messages give the same by each of the {} functions.\n",
+        compare(),
+        PAIRS.len()
+    );
     println!("Time of a call in nanoseconds over {ROUNDS} interleaved rounds; ratio: ours / plain Rust.\n");
     println!("                    |           minimum            |            median");
     println!("function      bytes |      ours      plain   ratio |      ours      plain   ratio");

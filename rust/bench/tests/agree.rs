@@ -24,9 +24,15 @@ fn messages() {
     for n in 0..=300 {
         let message = bytes.take(n);
         let key: [u8; 16] = bytes.take(16).try_into().unwrap();
-        check(20, true, &plain::sha1::sha1(&message), |out| sha1(&message, out));
-        check(33, true, &plain::hmac::hmac_sha1(&key, &message), |out| hmac_sha1(&key, &message, out));
-        check(17, true, &plain::cmac::cmac(&key, &message), |out| aes128_cmac(&key, &message, out));
+        check(20, true, &plain::sha1::sha1(&message), |out| {
+            sha1(&message, out)
+        });
+        check(33, true, &plain::hmac::hmac_sha1(&key, &message), |out| {
+            hmac_sha1(&key, &message, out)
+        });
+        check(17, true, &plain::cmac::cmac(&key, &message), |out| {
+            aes128_cmac(&key, &message, out)
+        });
     }
 }
 
@@ -36,9 +42,15 @@ fn long_messages() {
     for n in [1_400, 65_000, 65_535, 1_000_000] {
         let message = bytes.take(n);
         let key: [u8; 16] = bytes.take(16).try_into().unwrap();
-        check(20, true, &plain::sha1::sha1(&message), |out| sha1(&message, out));
-        check(20, true, &plain::hmac::hmac_sha1(&key, &message), |out| hmac_sha1(&key, &message, out));
-        check(16, true, &plain::cmac::cmac(&key, &message), |out| aes128_cmac(&key, &message, out));
+        check(20, true, &plain::sha1::sha1(&message), |out| {
+            sha1(&message, out)
+        });
+        check(20, true, &plain::hmac::hmac_sha1(&key, &message), |out| {
+            hmac_sha1(&key, &message, out)
+        });
+        check(16, true, &plain::cmac::cmac(&key, &message), |out| {
+            aes128_cmac(&key, &message, out)
+        });
     }
 }
 
@@ -47,7 +59,9 @@ fn hmac_keys() {
     let mut bytes = Bytes(3);
     for n in 0..=100 {
         let (key, message) = (bytes.take(n), bytes.take(3 * n));
-        check(20, true, &plain::hmac::hmac_sha1(&key, &message), |out| hmac_sha1(&key, &message, out));
+        check(20, true, &plain::hmac::hmac_sha1(&key, &message), |out| {
+            hmac_sha1(&key, &message, out)
+        });
     }
 }
 
@@ -70,8 +84,12 @@ fn wrong_lengths() {
     let tag = plain::cmac::cmac(&key, &block);
     let cipher = plain::aes::encrypt(&plain::aes::expand_key(&key), &block);
     for room in 0..40 {
-        check(room, true, &plain::sha1::sha1(&block), |out| sha1(&block, out));
-        check(room, true, &plain::hmac::hmac_sha1(&key, &block), |out| hmac_sha1(&key, &block, out));
+        check(room, true, &plain::sha1::sha1(&block), |out| {
+            sha1(&block, out)
+        });
+        check(room, true, &plain::hmac::hmac_sha1(&key, &block), |out| {
+            hmac_sha1(&key, &block, out)
+        });
         check(room, true, &tag, |out| aes128_cmac(&key, &block, out));
         check(room, true, &cipher, |out| aes128(&key, &block, out));
         for n in (0..40).filter(|n| *n != 16) {

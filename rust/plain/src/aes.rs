@@ -37,7 +37,12 @@ pub fn expand_key(key: &[u8; 16]) -> RoundKeys {
     for r in 1..11 {
         let last = keys[r - 1];
         let mut next = last;
-        let word = [sub(last[13]) ^ rcon, sub(last[14]), sub(last[15]), sub(last[12])];
+        let word = [
+            sub(last[13]) ^ rcon,
+            sub(last[14]),
+            sub(last[15]),
+            sub(last[12]),
+        ];
         for i in 0..4 {
             next[i] ^= word[i];
         }

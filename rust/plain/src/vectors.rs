@@ -3,7 +3,9 @@
 use crate::{aes, cmac, hmac, sha1};
 
 fn file(text: &'static str) -> impl Iterator<Item = Vec<&'static str>> {
-    text.lines().filter(|l| !l.starts_with('#')).map(|l| l.split(' ').collect())
+    text.lines()
+        .filter(|l| !l.starts_with('#'))
+        .map(|l| l.split(' ').collect())
 }
 
 fn hex(text: &str) -> Vec<u8> {
@@ -11,7 +13,10 @@ fn hex(text: &str) -> Vec<u8> {
         return Vec::new();
     }
     assert!(text.len() % 2 == 0);
-    (0..text.len()).step_by(2).map(|i| u8::from_str_radix(&text[i..i + 2], 16).unwrap()).collect()
+    (0..text.len())
+        .step_by(2)
+        .map(|i| u8::from_str_radix(&text[i..i + 2], 16).unwrap())
+        .collect()
 }
 
 fn block(text: &str) -> [u8; 16] {
@@ -20,7 +25,11 @@ fn block(text: &str) -> [u8; 16] {
 
 macro_rules! vectors {
     ($name:literal) => {
-        file(include_str!(concat!("../../../crates/vectors/data/", $name, ".txt")))
+        file(include_str!(concat!(
+            "../../../crates/vectors/data/",
+            $name,
+            ".txt"
+        )))
     };
 }
 
@@ -28,7 +37,11 @@ macro_rules! vectors {
 fn fips180() {
     let mut lines = 0;
     for c in vectors!("fips180") {
-        let message = if c[0] == "million-a" { vec![0x61; 1_000_000] } else { hex(c[0]) };
+        let message = if c[0] == "million-a" {
+            vec![0x61; 1_000_000]
+        } else {
+            hex(c[0])
+        };
         assert_eq!(sha1::sha1(&message)[..], hex(c[1]), "{c:?}");
         lines += 1;
     }
@@ -50,7 +63,11 @@ fn fips197() {
 fn rfc2202() {
     let mut lines = 0;
     for c in vectors!("rfc2202") {
-        assert_eq!(hmac::hmac_sha1(&hex(c[1]), &hex(c[2]))[..], hex(c[3]), "{c:?}");
+        assert_eq!(
+            hmac::hmac_sha1(&hex(c[1]), &hex(c[2]))[..],
+            hex(c[3]),
+            "{c:?}"
+        );
         lines += 1;
     }
     assert_eq!(lines, 7);

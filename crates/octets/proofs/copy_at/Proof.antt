@@ -1,15 +1,13 @@
 use native.Mathlib.Omega.{arith}
 use native.Mathlib.Numerals.{add-one}
-use Prim.Native.Nat.{ℕ, suc, _+_, _-_, _≤_, _<_}
-use mathlib.Core.List.{List, [], _∷_, _++_}
+use Prim.Native.Nat.{ℕ, _+_, _-_, _≤_, _<_}
+use mathlib.Core.List.{List}
 use borrow.Author.Needs.{needs}
-use mathlib.Core.Path.{_≡_, refl, sym, ap, _∙_}
-use lib.ListN.{length, take, drop, getD, set, length-set}
+use mathlib.Core.Path.{_≡_, refl, ap, _∙_}
+use lib.ListN.{length, getD, set, length-set}
 use lib.Seq.{paste, paste-zero, paste-suc}
 use Rattle.octets.proofs.copy_at.Statement.{statement}
 use Rattle.octets.proofs.copy_at.Tie as tie
-use Rattle.octets.proofs.copy_at.Reads as reads
-use Rattle.octets.proofs.copy_at.Lts as lts
 
 one : (d s o : List ℕ) (at i : ℕ) → i < length s → at + length s ≤ length o → d ≡ paste o at s i → set d (at + i) (getD s i 0) ≡ paste o at s (i + 1)
 one d s o at i h k e = ap (λ (l : List ℕ). set l (at + i) (getD s i 0)) e ∙ rw add-one (paste-suc o at s i 0 (omega arith) h)

@@ -1,0 +1,9 @@
+pub mod Filled
+pub mod Assembled
+pub mod Way
+pub mod MacContext
+pub mod MacContextLaws
+pub mod TagLaws
+pub mod Layout
+pub mod WordLaws
+pub mod LayoutLaws
