@@ -1,0 +1,60 @@
+-- Groups of tests one behind another: a group that gives a number decides, and behind one that gives none the next goes on.
+-- Assumes nothing.
+use Prim.Native.Nat.{ℕ}
+use mathlib.Core.Path.{_≡_, refl, sym, ap, _∙_}
+use mathlib.Core.Bool.{Bool, true, false, cond}
+use mathlib.Core.List.{List, [], _∷_, _++_}
+use mathlib.Core.Logic.{_⊎_, inl, inr}
+use native.Mathlib.Omega.{arith}
+use denote.Enum.Declared.{tagOf}
+use Rattle.rules.proofs.Outcome.{the-type}
+use Rattle.rules.specs.declared.Outcome.{Outcome}
+use Rattle.rules.specs.declared.Outcome.the-variants.{Good, Passed, Bad}
+use Rattle.rules.specs.Numbers.{Test, first}
+use Rattle.rules.specs.NumberLaws.{NoneApplies, first-none, first-append, eachGives, none-applied}
+use Rattle.rules.specs.Calls.{unrefused}
+
+-- an answer that is decided by a test
+pub yes : {A : Type 0} {b : Bool} {z : A} (x y : A) → b ≡ true → z ≡ x → z ≡ cond b x y
+yes x y e q = rw e q
+
+pub no : {A : Type 0} {b : Bool} {z : A} (x y : A) → b ≡ false → z ≡ y → z ≡ cond b x y
+no x y e q = rw e q
+
+-- a number, or pass
+abbrev pub isFinal : Outcome → Bool
+isFinal (Good x r) = false
+isFinal Passed = true
+isFinal (Bad n i) = true
+
+-- the outcome that a `let .. else` leaves is no Good: its variant is the second or the third
+abbrev pub Else : Outcome → Type 0
+Else x = (tagOf the-type x ≡ 1) ⊎ (tagOf the-type x ≡ 2)
+
+else-final : (x : Outcome) → Else x → isFinal x ≡ true
+else-final (Good p r) (inl e) = let z : _≡_ {A = ℕ} 0 1 = e in absurd (omega arith)
+else-final (Good p r) (inr e) = let z : _≡_ {A = ℕ} 0 2 = e in absurd (omega arith)
+else-final Passed e = refl
+else-final (Bad n i) e = refl
+
+final-kept : (a : List (Test Outcome)) (o p : Outcome) → isFinal (first a o) ≡ true → isFinal o ≡ false → first a o ≡ first a p
+final-kept [] o p e f = let z : _≡_ {A = ℕ} 0 1 = cc (rw f at e) in absurd (omega arith)
+final-kept (t ∷ a) o p e f = go (t .applies) refl (final-kept a o p)
+  where
+    go : (b : Bool) → t .applies ≡ b → (isFinal (first a o) ≡ true → isFinal o ≡ false → first a o ≡ first a p) → first (t ∷ a) o ≡ first (t ∷ a) p
+    go true q ih = rw q
+    go false q ih = rw q (ih (rw q at e) f)
+
+-- behind a group of which no test applies
+pub past : (a b : List (Test Outcome)) (o : Outcome) → NoneApplies a → {z : Outcome} → z ≡ first b o → z ≡ first (a ++ b) o
+past a b o n q = q ∙ sym (first-append a b o ∙ first-none a (first b o) n)
+
+-- the code asks a group by itself, and goes on where it gives Good
+module _ (a : List (Test Outcome)) {x : Outcome} (gave : x ≡ first a unrefused) where
+  -- the group's number is given
+  pub decided : (b : List (Test Outcome)) (o : Outcome) → Else x → x ≡ first (a ++ b) o
+  decided b o e = gave ∙ final-kept a unrefused (first b o) (ap isFinal (sym gave) ∙ else-final x e) refl ∙ sym (first-append a b o)
+
+  -- the group gives none, if it has no Good among its outcomes
+  pub none : eachGives isFinal a ≡ true → {p r : ℕ} → x ≡ Good p r → NoneApplies a
+  none f e = none-applied isFinal a unrefused f (ap isFinal (sym gave ∙ e))

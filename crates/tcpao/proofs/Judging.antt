@@ -1,0 +1,118 @@
+-- The answer and the state that a call makes of an outcome, and what an acceptance says of the segment. Assumes nothing.
+use Prim.Native.Nat.{ℕ}
+use mathlib.Core.Path.{_≡_, refl, sym, ap, _∙_}
+use mathlib.Core.Bool.{Bool, true, false, cond}
+use mathlib.Core.List.{List}
+use mathlib.Core.Logic.{inl, inr}
+use native.Mathlib.Omega.{arith}
+use borrow.Author.Tests.{eq-eqb, ne-eqb, not-false}
+use Rattle.wire.specs.Header.{sequence}
+use Rattle.keys.specs.declared.entry.Pair.{Pair}
+use Rattle.keys.specs.declared.entry.Entry.{Entry}
+use Rattle.keys.specs.declared.table.Found.{Found}
+use Rattle.keys.specs.Table.{checked, sendEntry, recvEntry, anyEntry}
+use Rattle.rules.specs.declared.Outcome.{Outcome}
+use Rattle.rules.specs.declared.Outcome.the-variants.{Good, Passed, Bad}
+use Rattle.rules.specs.declared.Verdict.{Verdict}
+use Rattle.rules.specs.declared.Line.{Line}
+use Rattle.rules.specs.declared.State.{State}
+use Rattle.rules.specs.declared.Judged.{Judged}
+use Rattle.rules.specs.declared.Checked.{Checked}
+use Rattle.rules.specs.NumberLaws.{NoneApplies, first-none, eachGives, none-applied}
+use Rattle.rules.specs.JudgeLaws.{none-of}
+use Rattle.rules.specs.Segment.{keyId, rnextKeyId}
+use Rattle.rules.specs.Connection.{Arrival, sized, arrivalPair, isOpen, placeOn, value, available, nextKey, opened, empty}
+use Rattle.rules.specs.Calls.{refuse, synMissing, synUnknown, judgeTests, check, judgeSynTests, checkSyn, verdictOf, indexOf, afterJudging, judgedBy, judged, judgedSyn, openedBy, openedPassively}
+use Rattle.tcpao.specs.Arriving.{AtNumber, Taken, TakenBy}
+use Rattle.tcpao.proofs.Joined.{yes, no, isFinal, Else}
+use Rattle.tcpao.proofs.Checks.{refusal-final}
+
+-- the key rule
+
+module _ (t : List ℕ) (p : Pair) (rnext current : ℕ) where
+  pub same-key : rnext ≡ current → current ≡ nextKey t p rnext current
+  unfolding nextKey
+  same-key e = yes _ _ (eq-eqb rnext current e) refl
+
+  pub other-key : (rnext ≡ current → ⊥) → {f : Found} → f ≡ sendEntry t p rnext → {b : Bool} → f .there ≡ b → cond b rnext current ≡ nextKey t p rnext current
+  unfolding nextKey available
+  other-key h e {b} q = no _ _ (ne-eqb rnext current h) (ap (λ (k : Bool). cond k rnext current) (sym q ∙ ap (λ (f : Found). f .there) e))
+
+-- an acceptance
+
+good-at : {x r y s : ℕ} → Good x r ≡ Good y s → x ≡ y
+good-at e = cc
+
+-- while opening, it stands at its own number
+pub at-number : (t : List ℕ) (l : Line) (reference : ℕ) (a : Arrival) {o : Outcome} → o ≡ check t l reference a → {n : ℕ} → n ≡ sequence (a .segment) → AtNumber l n o
+unfolding check
+at-number t l reference a e q x r g opening =
+    let none = none-of t l reference a x r (sym e ∙ g) in
+    good-at (sym g ∙ e ∙ first-none (judgeTests t l reference a) _ none) ∙ (rw opening (sym q))
+
+-- a bare SYN
+module _ (t : List ℕ) (a : Arrival) (strict : Bool) where
+  missing-final : isFinal (synMissing t (arrivalPair a)) ≡ true
+  missing-final = go (anyEntry t (arrivalPair a))
+    where
+      go : (b : Bool) → isFinal (cond b (refuse 25) Passed) ≡ true
+      go true = refl
+      go false = refl
+
+  unknown-final : (b : Bool) → isFinal (synUnknown b) ≡ true
+  unknown-final true = refl
+  unknown-final false = refl
+
+  syn-final : eachGives isFinal (judgeSynTests t a strict) ≡ true
+  syn-final = rw (refusal-final (checked t), missing-final, unknown-final strict)
+
+  pub taken-by : {o : Outcome} → o ≡ checkSyn t a strict → TakenBy a o
+  unfolding checkSyn
+  taken-by e x r g =
+      let p = none-applied isFinal (judgeSynTests t a strict) _ syn-final (ap isFinal (sym e ∙ g)) in
+      record {
+        addresses = not-false (sized (a .source) (a .destination)) (p .0);
+        form = rw (p .1 .1 .0, p .1 .1 .1 .0, p .1 .1 .1 .1 .0, p .1 .1 .1 .1 .1 .0);
+        position = good-at (sym g ∙ e ∙ first-none (judgeSynTests t a strict) _ p);
+      }
+
+-- what the calls return
+
+pub judged-is : (t : List ℕ) (a : Arrival) (q : State) {o : Outcome} {v : Verdict} {i : ℕ} {s : State} → o ≡ check t (q .line) (q .seen) a → v ≡ verdictOf o → i ≡ indexOf o
+    → s ≡ afterJudging t q o → record { verdict = v; index = i; state = s } ≡ judged t a q
+unfolding judged
+judged-is t a q e ev ei es = (λ k. record { verdict = ev k; index = ei k; state = es k }) ∙ ap (judgedBy t q) e
+
+pub syn-is : (t : List ℕ) (a : Arrival) (strict : Bool) {o : Outcome} {v : Verdict} {i : ℕ} → o ≡ checkSyn t a strict → v ≡ verdictOf o → i ≡ indexOf o
+    → record { verdict = v; index = i } ≡ judgedSyn t a strict
+unfolding judgedSyn
+syn-is t a strict e ev ei = λ k. record { verdict = (ev ∙ ap verdictOf e) k; index = (ei ∙ ap indexOf e) k }
+
+-- opening passively
+module _ (t : List ℕ) (p : Pair) (isn : ℕ) where
+  pub not-opened : (f : Entry) (o : Outcome) → Else o → {s : State} → s ≡ empty → s ≡ openedBy t p isn f o
+  not-opened f (Good x r) (inl e) q = let z : _≡_ {A = ℕ} 0 1 = e in absurd (omega arith)
+  not-opened f (Good x r) (inr e) q = let z : _≡_ {A = ℕ} 0 2 = e in absurd (omega arith)
+  not-opened f Passed e q = q
+  not-opened f (Bad n i) e q = q
+
+pub opened-is : (t : List ℕ) (a : Arrival) (isn : ℕ) {o : Outcome} {x r : ℕ} → o ≡ Good x r → {n : ℕ} → n ≡ sequence (a .segment) → x ≡ sequence (a .segment)
+    → {p : Pair} → p ≡ arrivalPair a → {f : Found} → f ≡ recvEntry t p (keyId (a .segment)) → {k : ℕ} → k ≡ nextKey t p r (f .entry .ids .send)
+    → {s : State} → s ≡ opened p isn n k (f .entry .ids .recv) → s ≡ openedBy t (arrivalPair a) isn (recvEntry t (arrivalPair a) (keyId (a .segment)) .entry) o
+opened-is t a isn {o} {x} {r} g en ex {p} ep ef ek es =
+    es
+    ∙ (λ i. opened p isn ((en ∙ sym ex) i) (ek i) (ef i .entry .ids .recv))
+    ∙ (λ i. opened p isn x (nextKey t p r (ef i .entry .ids .send)) (recvEntry t p (keyId (a .segment)) .entry .ids .recv))
+    ∙ (λ i. openedBy t (ep i) isn (recvEntry t (ep i) (keyId (a .segment)) .entry) (Good x r))
+    ∙ ap (openedBy t (arrivalPair a) isn (recvEntry t (arrivalPair a) (keyId (a .segment)) .entry)) (sym g)
+
+pub passively-is : (t : List ℕ) (a : Arrival) (isn : ℕ) (strict : Bool) {o : Outcome} {v : Verdict} {i : ℕ} {s : State} → o ≡ checkSyn t a strict → v ≡ verdictOf o → i ≡ indexOf o
+    → s ≡ openedBy t (arrivalPair a) isn (recvEntry t (arrivalPair a) (keyId (a .segment)) .entry) o
+    → record { verdict = v; index = i; state = s } ≡ openedPassively t a isn strict
+unfolding openedPassively
+passively-is t a isn strict e ev ei es =
+    λ k. record {
+      verdict = (ev ∙ ap verdictOf e) k;
+      index = (ei ∙ ap indexOf e) k;
+      state = (es ∙ ap (openedBy t (arrivalPair a) isn (recvEntry t (arrivalPair a) (keyId (a .segment)) .entry)) e) k;
+    }

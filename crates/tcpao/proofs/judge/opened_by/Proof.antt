@@ -1,0 +1,27 @@
+use borrow.Author.Needs.{needs}
+use Rattle.keys.specs.Table.{recvEntry}
+use Rattle.rules.specs.Segment.{keyId}
+use Rattle.rules.specs.Connection.{arrivalPair}
+use Rattle.tcpao.proofs.Judging.{not-opened, opened-is}
+use Rattle.tcpao.proofs.judge.opened_by.Statement.{statement}
+use Rattle.tcpao.proofs.judge.opened_by.Tie as tie
+
+returns : tie.Need-returns
+returns c =
+    let a = c .before .before .before .before .before .before .args in
+    not-opened (a .table .now) (arrivalPair (record { source = a .source .now; destination = a .destination .now; segment = a .segment .now })) (a .isn) (recvEntry (a .table .now) (arrivalPair (record { source = a .source .now; destination = a .destination .now; segment = a .segment .now })) (keyId (a .segment .now)) .entry) (a .o) (c .before .match .keys2) (c .empty .ensures)
+
+arrival-pair-requires : tie.Need-arrival-pair-requires
+arrival-pair-requires c κs = c .before .before .before .before .before .before .before .pre _ _ (c .before .o .given .1) .addresses
+
+entry-for-requires : tie.Need-entry-for-requires
+entry-for-requires c κs = (c .carried .ensures, c .before .before .before .before .before .before .before .before .before .pre _ _ (c .before .before .before .o .given .1) .form)
+
+returns-2 : tie.Need-returns-2
+returns-2 c =
+    let a = c .before .before .before .before .before .before .before .before .before .before .before .before .before .before .before .args in
+    opened-is (a .table .now) (record { source = a .source .now; destination = a .destination .now; segment = a .segment .now }) (a .isn) (c .before .before .before .before .before .before .before .before .before .o .given .1) (c .before .sequence .ensures) (c .before .before .before .before .before .before .before .before .before .before .before .before .before .before .before .pre _ _ (c .before .before .before .before .before .before .before .before .before .o .given .1) .position)
+    (c .before .before .before .before .before .before .before .arrival-pair .ensures) (c .before .before .before .before .before .entry-for .ensures) (c .before .before .next-key .ensures) (c .opened .ensures)
+
+pub opened-by-spec : {M : Type 1} → statement M
+opened-by-spec = tie.close (tie.spec (λ c. search needs) (λ c κs. search needs) returns arrival-pair-requires (λ c κs. search needs) entry-for-requires (λ c κs. search needs) (λ c κs. search needs) (λ c κs. search needs) returns-2)

@@ -1,0 +1,15 @@
+-- The tests, then the answer by their outcome.
+use borrow.Author.Needs.{needs}
+use mathlib.Core.Path.{_∙_}
+use Rattle.rules.specs.Calls.{settledBy, asked}
+use Rattle.tcpao.proofs.operator.ask.Statement.{statement}
+use Rattle.tcpao.proofs.operator.ask.Tie as tie
+
+returns : tie.Need-returns
+unfolding asked
+returns c =
+    c .settled-by .ensures
+    ∙ (λ i. settledBy (c .before .before .ask-faults .ensures i) (c .before .before .before .before .args .state) (c .before .with-asked .ensures i))
+
+pub ask-spec : {M : Type 1} → statement M
+ask-spec = tie.close (tie.spec (λ c κs. search needs) (λ c κs. search needs) (λ c κs. search needs) returns)

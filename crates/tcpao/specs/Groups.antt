@@ -1,0 +1,31 @@
+-- The groups in which the code takes document 01's tests (crate `rules`, specs/Calls): each function of src/faults.rt gives what one of them
+-- gives. A reader need not believe these: the calls cite the crate `rules` alone.
+use Prim.Native.Nat.{ℕ}
+use mathlib.Core.Bool.{_&&_}
+use mathlib.Core.List.{List, [], _∷_, _++_}
+use lib.Dec.{ltb}
+use Rattle.rules.specs.declared.Line.{Line}
+use Rattle.rules.specs.declared.Outcome.{Outcome}
+use Rattle.rules.specs.Numbers.{Test, test}
+use Rattle.rules.specs.Connection.{Arrival}
+use Rattle.rules.specs.Calls.{refuse, familyTests, addressTests, tableTests, lengthTests, optionTests, pairTests, stageTests}
+
+-- 19, then the table
+abbrev pub inputTests : List ℕ → List ℕ → List ℕ → List (Test Outcome)
+inputTests t a b = addressTests a b ++ tableTests t
+
+-- 18 before them
+abbrev pub stateTests : List ℕ → List ℕ → List ℕ → Line → List (Test Outcome)
+stateTests t a b l = familyTests l ++ inputTests t a b
+
+-- 22 by its two numbers: so many TCP-AO, so many MD5
+abbrev pub countTests : ℕ → ℕ → List (Test Outcome)
+countTests ao md5 = test (refuse 22) (ltb 1 ao) ∷ test (refuse 22) (ltb 0 ao && ltb 0 md5) ∷ []
+
+-- 20, 21, 22
+abbrev pub formTests : List ℕ → List (Test Outcome)
+formTests s = lengthTests 20 s ++ optionTests s
+
+-- 23, 24
+abbrev pub arrivalTests : Line → Arrival → List (Test Outcome)
+arrivalTests l a = pairTests (l .pair) a ++ stageTests l (a .segment)

@@ -1,0 +1,183 @@
+// The calls that judge: document 01, "A connection's life" and "Numbers given back". `check` says which number or position; here the answer
+// and the new state are made of it. No call assumes anything; what a step assumes of the outcome is a fact of `check`.
+ghost use mathlib.Core.Path.{_≡_};
+ghost use mathlib.Core.Bool.{false, cond};
+ghost use Rattle.keys.specs.Table.{recvEntry};
+ghost use Rattle.rules.specs.Segment.{keyId};
+ghost use Rattle.rules.specs.Connection.{arrivalPair, isOpen, nextKey, withDrop};
+ghost use Rattle.rules.specs.Calls.{verdictOf, indexOf, afterJudging, openedBy, judged, judgedSyn, openedPassively};
+ghost use Rattle.tcpao.specs.Arriving.{AtNumber, TakenBy};
+use crate::check::arrival_pair;
+use crate::check::check;
+use crate::check::check_syn;
+use crate::check::entry_for;
+use crate::verify::carried;
+use crate::verify::extension_of;
+use crate::writers::empty;
+use crate::writers::is_open;
+use crate::writers::opened;
+use crate::writers::with_accepted;
+use crate::writers::with_drop;
+use keys::entry::Pair;
+use rules::Checked;
+use rules::Judged;
+use rules::Outcome;
+use rules::State;
+use rules::Verdict;
+use wire::header::sequence;
+
+// "A verdict is accept with its extension, pass, or drop with a number."
+pub fn verdict_of(o: Outcome) -> Verdict
+    ensures { λ r. ⌜ r ≡ verdictOf o ⌝ }
+{
+    match o {
+        Outcome::Good(x, _) => Verdict::Accept(extension_of(x)),
+        Outcome::Passed => Verdict::Pass,
+        Outcome::Bad(n, _) => Verdict::Drop(n),
+    }
+}
+
+// The entry's index beside 10 to 17, else 0.
+pub fn index_of(o: Outcome) -> usize
+    ensures { λ r. ⌜ r ≡ indexOf o ⌝ }
+{
+    match o {
+        Outcome::Good(_, _) => 0,
+        Outcome::Passed => 0,
+        Outcome::Bad(_, i) => i,
+    }
+}
+
+// "if RNextKeyID differs from the outgoing SendID, and an entry matching the pair has that SendID, it becomes the outgoing key (7.5.2.e)"
+pub fn next_key(table: &[u8], pair: Pair, rnext: u8, current: u8) -> u8
+    ensures { λ r. ⌜ r ≡ nextKey (now (table .entry)) pair rnext current ⌝ }
+{
+    if rnext == current {
+        return current;
+    }
+    let found = keys::table::find_send(table, pair, rnext);
+    if found.there {
+        return rnext;
+    }
+    current
+}
+
+// An accepted segment at position x, whose number is `number`: it opens, or is counted and moves the reference.
+fn accepted(table: &[u8], q: State, x: u64, rnext: u8, number: u32) -> State
+    requires { ⌜ (isOpen (q .line) ≡ false → x ≡ number) ⌝ }
+    ensures { λ r. ⌜ r ≡ afterJudging (now (table .entry)) q (Outcome.Good x rnext) ⌝ }
+{
+    let line = q.line;
+    let pair = line.pair;
+    let ask = q.ask_id;
+    let key = next_key(table, pair, rnext, q.send_id);
+    if is_open(line) {
+        return with_accepted(x, key, q);
+    }
+    opened(pair, line.isn, number, key, ask)
+}
+
+// A drop is counted once open.
+fn dropped(n: u8, q: State) -> State
+    ensures { λ r. ⌜ r ≡ cond (isOpen (q .line)) (withDrop n q) q ⌝ }
+{
+    let held = q.line;
+    if is_open(held) {
+        return with_drop(n, q);
+    }
+    q
+}
+
+fn after_judging(table: &[u8], q: State, number: u32, o: Outcome) -> State
+    requires { ⌜ AtNumber (q .line) number o ⌝ }
+    ensures { λ r. ⌜ r ≡ afterJudging (now (table .entry)) q o ⌝ }
+{
+    match o {
+        Outcome::Good(x, rnext) => accepted(table, q, x, rnext, number),
+        Outcome::Passed => q,
+        Outcome::Bad(n, _) => dropped(n, q),
+    }
+}
+
+// Judges an arriving segment with a state, opening or open.
+pub fn judge(
+    table: &[u8],
+    source: &[u8],
+    destination: &[u8],
+    segment: &[u8],
+    state: State,
+) -> Judged
+    ensures { λ r. ⌜ r ≡ judged (now (table .entry)) (record { source = now (source .entry); destination = now (destination .entry); segment = now (segment .entry) }) state ⌝ }
+{
+    let line = state.line;
+    let o = check(table, source, destination, segment, line, state.seen);
+    let verdict = verdict_of(o);
+    let index = index_of(o);
+    let next = after_judging(table, state, sequence(segment), o);
+    Judged {
+        verdict,
+        index,
+        state: next,
+    }
+}
+
+// "a bare SYN is judged without a state". `strict` drops one whose KeyID has no entry with 26; else it passes.
+pub fn judge_syn(
+    table: &[u8],
+    source: &[u8],
+    destination: &[u8],
+    segment: &[u8],
+    strict: bool,
+) -> Checked
+    ensures { λ r. ⌜ r ≡ judgedSyn (now (table .entry)) (record { source = now (source .entry); destination = now (destination .entry); segment = now (segment .entry) }) strict ⌝ }
+{
+    let o = check_syn(table, source, destination, segment, strict);
+    let verdict = verdict_of(o);
+    let index = index_of(o);
+    Checked { verdict, index }
+}
+
+// "only on accept, opens with the entry found, then applies the key rule"
+fn opened_by(
+    table: &[u8],
+    source: &[u8],
+    destination: &[u8],
+    segment: &[u8],
+    isn: u32,
+    o: Outcome,
+) -> State
+    requires { ⌜ TakenBy (record { source = now source; destination = now destination; segment = now segment }) o ⌝ }
+    ensures { λ r. ⌜ r ≡ openedBy (now (table .entry)) (arrivalPair (record { source = now (source .entry); destination = now (destination .entry); segment = now (segment .entry) })) isn (recvEntry (now (table .entry)) (arrivalPair (record { source = now (source .entry); destination = now (destination .entry); segment = now (segment .entry) })) (keyId (now (segment .entry))) .entry) o ⌝ }
+{
+    let Outcome::Good(_, rnext) = o else {
+        return empty();
+    };
+    let pair = arrival_pair(source, destination, segment);
+    let found = entry_for(table, pair, carried(segment), segment);
+    let entry = found.entry;
+    let ids = entry.ids;
+    let key = next_key(table, pair, rnext, ids.send);
+    opened(pair, isn, sequence(segment), key, ids.recv)
+}
+
+// "A second call takes the same SYN and our ISN, judges it again and, only on accept, opens".
+pub fn open_passive(
+    table: &[u8],
+    source: &[u8],
+    destination: &[u8],
+    segment: &[u8],
+    isn: u32,
+    strict: bool,
+) -> Judged
+    ensures { λ r. ⌜ r ≡ openedPassively (now (table .entry)) (record { source = now (source .entry); destination = now (destination .entry); segment = now (segment .entry) }) isn strict ⌝ }
+{
+    let o = check_syn(table, source, destination, segment, strict);
+    let verdict = verdict_of(o);
+    let index = index_of(o);
+    let state = opened_by(table, source, destination, segment, isn, o);
+    Judged {
+        verdict,
+        index,
+        state,
+    }
+}

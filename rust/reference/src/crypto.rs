@@ -1,0 +1,350 @@
+//! "SHA-1 (FIPS 180-4), HMAC (RFC 2104), AES-128 encryption (FIPS 197) and CMAC (RFC 4493) are
+//! written here."
+
+/// SHA-1 of a message, FIPS 180-4 section 6.1.
+pub fn sha1(message: &[u8]) -> [u8; 20] {
+    // Section 5.3.1: the initial hash value.
+    let mut hash: [u32; 5] = [0x67452301, 0xefcdab89, 0x98badcfe, 0x10325476, 0xc3d2e1f0];
+
+    let whole_blocks = message.len() / 64 * 64;
+    for block in message[..whole_blocks].chunks_exact(64) {
+        sha1_block(&mut hash, block);
+    }
+
+    // Section 5.1.1: the bit 1, zeros up to 448 modulo 512 bits, the message's length in bits as 64
+    // bits.
+    let mut last = message[whole_blocks..].to_vec();
+    last.push(0x80);
+    while last.len() % 64 != 56 {
+        last.push(0);
+    }
+    let bits = (message.len() as u64).wrapping_mul(8);
+    last.extend_from_slice(&bits.to_be_bytes());
+    for block in last.chunks_exact(64) {
+        sha1_block(&mut hash, block);
+    }
+
+    let mut digest = [0; 20];
+    for (bytes, word) in digest.chunks_exact_mut(4).zip(hash) {
+        bytes.copy_from_slice(&word.to_be_bytes());
+    }
+    digest
+}
+
+/// One block of SHA-1, FIPS 180-4 section 6.1.2.
+///
+/// "Subtraction of sequence numbers wraps at 2^32, as does every addition in SHA-1."
+fn sha1_block(hash: &mut [u32; 5], block: &[u8]) {
+    // 1. The message schedule.
+    let mut w = [0u32; 80];
+    for (word, bytes) in w.iter_mut().zip(block.chunks_exact(4)) {
+        *word = u32::from_be_bytes([bytes[0], bytes[1], bytes[2], bytes[3]]);
+    }
+    for t in 16..80 {
+        w[t] = (w[t - 3] ^ w[t - 8] ^ w[t - 14] ^ w[t - 16]).rotate_left(1);
+    }
+
+    // 2. The working variables.
+    let [mut a, mut b, mut c, mut d, mut e] = *hash;
+
+    // 3. Eighty steps; f and K from sections 4.1.1 and 4.2.1.
+    for (t, word) in w.iter().enumerate() {
+        let (f, k) = match t {
+            0..=19 => ((b & c) ^ (!b & d), 0x5a827999),
+            20..=39 => (b ^ c ^ d, 0x6ed9eba1),
+            40..=59 => ((b & c) ^ (b & d) ^ (c & d), 0x8f1bbcdc),
+            _ => (b ^ c ^ d, 0xca62c1d6u32),
+        };
+        let sum = a
+            .rotate_left(5)
+            .wrapping_add(f)
+            .wrapping_add(e)
+            .wrapping_add(k)
+            .wrapping_add(*word);
+        e = d;
+        d = c;
+        c = b.rotate_left(30);
+        b = a;
+        a = sum;
+    }
+
+    // 4. The intermediate hash value.
+    for (old, new) in hash.iter_mut().zip([a, b, c, d, e]) {
+        *old = old.wrapping_add(new);
+    }
+}
+
+/// HMAC with SHA-1, RFC 2104 section 2: H(K XOR opad, H(K XOR ipad, text)).
+pub fn hmac_sha1(key: &[u8], message: &[u8]) -> [u8; 20] {
+    // "Applications that use keys longer than B bytes will first hash the key using H", then zeros
+    // are appended up to B = 64 bytes.
+    let mut block = [0u8; 64];
+    if key.len() > 64 {
+        block[..20].copy_from_slice(&sha1(key));
+    } else {
+        block[..key.len()].copy_from_slice(key);
+    }
+
+    let mut inner = Vec::with_capacity(64 + message.len());
+    inner.extend(block.iter().map(|byte| byte ^ 0x36));
+    inner.extend_from_slice(message);
+    let inner_digest = sha1(&inner);
+
+    let mut outer = Vec::with_capacity(64 + 20);
+    outer.extend(block.iter().map(|byte| byte ^ 0x5c));
+    outer.extend_from_slice(&inner_digest);
+    sha1(&outer)
+}
+
+/// Multiplication by x in GF(2^8), FIPS 197 section 4.2.1: a shift, then reduced by x^8 + x^4 + x^3
+/// + x + 1.
+const fn times_x(a: u8) -> u8 {
+    let shifted = a << 1;
+    if a & 0x80 != 0 {
+        shifted ^ 0x1b
+    } else {
+        shifted
+    }
+}
+
+/// Multiplication in GF(2^8), FIPS 197 section 4.2.
+const fn times(a: u8, b: u8) -> u8 {
+    let mut product = 0;
+    let mut power = a; // a times x^bit
+    let mut bit = 0;
+    while bit < 8 {
+        if b >> bit & 1 == 1 {
+            product ^= power;
+        }
+        power = times_x(power);
+        bit += 1;
+    }
+    product
+}
+
+/// The inverse in GF(2^8), with 0 for 0: a to the power 254, since the group has 255 elements.
+const fn inverse(a: u8) -> u8 {
+    let mut power = a; // a to the power 2^k
+    let mut product = 1;
+    let mut k = 1;
+    while k < 8 {
+        power = times(power, power);
+        product = times(product, power);
+        k += 1;
+    }
+    product // 2 + 4 + ... + 128 = 254
+}
+
+/// "The S-box has 256 entries and must follow FIPS 197's rule: inverse in the field, then the
+/// affine step."
+const fn s_box_entry(a: u8) -> u8 {
+    let b = inverse(a);
+    b ^ b.rotate_left(1) ^ b.rotate_left(2) ^ b.rotate_left(3) ^ b.rotate_left(4) ^ 0x63
+}
+
+/// The S-box, computed from its rule when this is compiled.
+pub const S_BOX: [u8; 256] = {
+    let mut table = [0; 256];
+    let mut a = 0;
+    while a < 256 {
+        table[a] = s_box_entry(a as u8);
+        a += 1;
+    }
+    table
+};
+
+/// "The key schedule gives eleven round keys of sixteen bytes each." FIPS 197 section 5.2 with Nk =
+/// 4.
+pub fn round_keys(key: &[u8; 16]) -> [[u8; 16]; 11] {
+    let mut keys = [[0; 16]; 11];
+    keys[0] = *key;
+    let mut constant = 1; // Rcon: x to the power round - 1
+    for round in 1..11 {
+        let before = keys[round - 1];
+        // The last word of the round before: RotWord, SubWord, then Rcon onto its first byte.
+        let mut word = [
+            S_BOX[before[13] as usize] ^ constant,
+            S_BOX[before[14] as usize],
+            S_BOX[before[15] as usize],
+            S_BOX[before[12] as usize],
+        ];
+        for column in 0..4 {
+            for row in 0..4 {
+                word[row] ^= before[4 * column + row];
+                keys[round][4 * column + row] = word[row];
+            }
+        }
+        constant = times_x(constant);
+    }
+    keys
+}
+
+/// AES-128 encryption of one block, FIPS 197 section 5.1. Byte 4 * column + row of the block stands
+/// in that row and column.
+pub fn aes128(key: &[u8; 16], block: &[u8; 16]) -> [u8; 16] {
+    encrypt(&round_keys(key), block)
+}
+
+fn encrypt(keys: &[[u8; 16]; 11], block: &[u8; 16]) -> [u8; 16] {
+    let mut state = xor(block, &keys[0]);
+    for (round, key) in keys.iter().enumerate().skip(1) {
+        let shifted = shift_rows(&sub_bytes(&state));
+        let mixed = if round < 10 {
+            mix_columns(&shifted)
+        } else {
+            shifted
+        };
+        state = xor(&mixed, key);
+    }
+    state
+}
+
+fn xor(a: &[u8; 16], b: &[u8; 16]) -> [u8; 16] {
+    let mut sum = *a;
+    for (byte, other) in sum.iter_mut().zip(b) {
+        *byte ^= other;
+    }
+    sum
+}
+
+/// SubBytes, FIPS 197 section 5.1.1.
+fn sub_bytes(state: &[u8; 16]) -> [u8; 16] {
+    let mut after = *state;
+    for byte in &mut after {
+        *byte = S_BOX[*byte as usize];
+    }
+    after
+}
+
+/// ShiftRows, FIPS 197 section 5.1.2: row r is shifted to the left by r columns.
+fn shift_rows(state: &[u8; 16]) -> [u8; 16] {
+    let mut after = [0; 16];
+    for column in 0..4 {
+        for row in 0..4 {
+            after[4 * column + row] = state[4 * ((column + row) % 4) + row];
+        }
+    }
+    after
+}
+
+/// MixColumns, FIPS 197 section 5.1.3: each column times 02 03 01 01, 01 02 03 01, 01 01 02 03, 03
+/// 01 01 02.
+fn mix_columns(state: &[u8; 16]) -> [u8; 16] {
+    let mut after = [0; 16];
+    for column in 0..4 {
+        for row in 0..4 {
+            let at = |down: usize| state[4 * column + (row + down) % 4];
+            let twice = times_x(at(0));
+            let thrice = times_x(at(1)) ^ at(1);
+            after[4 * column + row] = twice ^ thrice ^ at(2) ^ at(3);
+        }
+    }
+    after
+}
+
+/// The two subkeys of CMAC, RFC 4493 section 2.3.
+pub fn cmac_subkeys(key: &[u8; 16]) -> ([u8; 16], [u8; 16]) {
+    let l = u128::from_be_bytes(aes128(key, &[0; 16]));
+    let k1 = double(l);
+    let k2 = double(k1);
+    (k1.to_be_bytes(), k2.to_be_bytes())
+}
+
+/// "if MSB(L) is equal to 0 then K1 := L << 1; else K1 := (L << 1) XOR const_Rb".
+fn double(a: u128) -> u128 {
+    if a >> 127 == 0 {
+        a << 1
+    } else {
+        (a << 1) ^ 0x87
+    }
+}
+
+/// AES-CMAC, RFC 4493 section 2.4.
+pub fn aes128_cmac(key: &[u8; 16], message: &[u8]) -> [u8; 16] {
+    let keys = round_keys(key);
+    let (k1, k2) = cmac_subkeys(key);
+
+    // Steps 2 to 4: the last block is whole, or it is padded with the bit 1 and zeros; an empty
+    // message has one padded block.
+    let over = message.len() % 16;
+    let last_bytes = if over == 0 && !message.is_empty() {
+        16
+    } else {
+        over
+    };
+    let (front, end) = message.split_at(message.len() - last_bytes);
+    let mut last = [0; 16];
+    last[..last_bytes].copy_from_slice(end);
+    if last_bytes == 16 {
+        last = xor(&last, &k1);
+    } else {
+        last[last_bytes] = 0x80;
+        last = xor(&last, &k2);
+    }
+
+    // Steps 5 to 7.
+    let mut x = [0; 16];
+    for bytes in front.chunks_exact(16) {
+        let mut block = [0; 16];
+        block.copy_from_slice(bytes);
+        x = encrypt(&keys, &xor(&x, &block));
+    }
+    encrypt(&keys, &xor(&x, &last))
+}
+
+#[cfg(test)]
+mod tests {
+    use super::*;
+
+    /// FIPS 197 section 5.1.1, bit by bit: the inverse, then b'(i) = b(i) + b(i+4) + b(i+5) +
+    /// b(i+6) + b(i+7) + c(i), c = 63.
+    #[test]
+    fn the_s_box_follows_its_rule() {
+        for a in 0..=255u8 {
+            let inverse = (0..=255u8).find(|b| times(a, *b) == 1).unwrap_or(0);
+            let mut expected = 0;
+            for i in 0..8 {
+                let bit = |at: usize| inverse >> (at % 8) & 1;
+                let c = 0x63 >> i & 1;
+                expected |= (bit(i) ^ bit(i + 4) ^ bit(i + 5) ^ bit(i + 6) ^ bit(i + 7) ^ c) << i;
+            }
+            assert_eq!(S_BOX[a as usize], expected, "entry {a:02x}");
+        }
+    }
+
+    /// A few entries as FIPS 197 prints them in figure 7.
+    #[test]
+    fn the_s_box_as_printed() {
+        for (a, printed) in [
+            (0x00, 0x63),
+            (0x01, 0x7c),
+            (0x53, 0xed),
+            (0x9a, 0xb8),
+            (0xff, 0x16),
+        ] {
+            assert_eq!(S_BOX[a], printed);
+        }
+    }
+
+    /// FIPS 197 section 4.2: {57} times {83} is {c1}, {57} times {13} is {fe}.
+    #[test]
+    fn multiplication_as_printed() {
+        assert_eq!(times(0x57, 0x83), 0xc1);
+        assert_eq!(times(0x57, 0x13), 0xfe);
+    }
+
+    /// FIPS 197 appendix A.1: the last words of the key's expansion.
+    #[test]
+    fn the_key_schedule_as_printed() {
+        let key = 0x2b7e151628aed2a6abf7158809cf4f3cu128.to_be_bytes();
+        let keys = round_keys(&key);
+        assert_eq!(
+            u128::from_be_bytes(keys[1]),
+            0xa0fafe1788542cb123a339392a6c7605
+        );
+        assert_eq!(
+            u128::from_be_bytes(keys[10]),
+            0xd014f9a8c9ee2589e13f0cc8b6630ca6
+        );
+    }
+}

@@ -1,0 +1,31 @@
+//! TCP-AO by the rules of document 01, once more in plain Rust.
+//!
+//! This package was written from the papers alone: document 01, `BOUNDARY.md` for the bytes at the
+//! C boundary, and the public standards (FIPS 180-4, RFC 2104, FIPS 197, RFC 4493, RFC 5925, RFC
+//! 5926). It shares no line and no definition with the proved library, so that the two can be
+//! compared. It is meant to be read beside document 01: over each rule stands the sentence it comes
+//! from.
+//!
+//! [`calls`] has the calls with values in and out, [`boundary`] the same calls over lent bytes, as
+//! C sees them. Every call takes [`Rules`] first: `Rules::default()` are document 01's rules; with
+//! a [`Fault`] one of them is turned round on purpose.
+//!
+//! `NOTES.md` lists what document 01 leaves open and how it was decided here.
+
+#![forbid(unsafe_code)]
+#![warn(missing_docs)]
+
+pub mod answer;
+pub mod boundary;
+pub mod calls;
+pub mod crypto;
+pub mod faults;
+pub mod mac;
+pub mod position;
+pub mod segment;
+pub mod state;
+pub mod table;
+
+pub use answer::{Refusal, Verdict};
+pub use faults::{Fault, Rules};
+pub use state::State;

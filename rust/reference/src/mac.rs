@@ -1,0 +1,167 @@
+//! "Traffic keys" and "What the MAC covers".
+
+use crate::crypto;
+use crate::faults::{Fault, Rules};
+use crate::segment::WithAo;
+use crate::table::{Algorithm, Entry};
+
+/// The two ends of a segment. "'source' is whoever sent the segment."
+#[derive(Clone, Copy, Debug, PartialEq, Eq)]
+pub struct Ends<'a> {
+    /// The sender's address.
+    pub source: &'a [u8],
+    /// The receiver's address.
+    pub destination: &'a [u8],
+    /// The sender's port.
+    pub source_port: u16,
+    /// The receiver's port.
+    pub destination_port: u16,
+    /// The sender's ISN.
+    pub source_isn: u32,
+    /// The receiver's ISN. "For a bare SYN (SYN set, ACK clear) the destination ISN is zero."
+    pub destination_isn: u32,
+}
+
+/// "The context is source address, destination address, source port, destination port, source ISN,
+/// destination ISN; ... It has 20 bytes for IPv4, 44 for IPv6."
+pub fn context(ends: &Ends) -> Vec<u8> {
+    let mut bytes = Vec::with_capacity(44);
+    bytes.extend_from_slice(ends.source);
+    bytes.extend_from_slice(ends.destination);
+    bytes.extend_from_slice(&ends.source_port.to_be_bytes());
+    bytes.extend_from_slice(&ends.destination_port.to_be_bytes());
+    bytes.extend_from_slice(&ends.source_isn.to_be_bytes());
+    bytes.extend_from_slice(&ends.destination_isn.to_be_bytes());
+    bytes
+}
+
+/// "The input is one byte 1, the six bytes "TCP-AO", the context, and the output length in bits as
+/// two bytes (160 or 128): 29 or 53 bytes in all."
+pub fn traffic_key_input(algorithm: Algorithm, ends: &Ends) -> Vec<u8> {
+    let output_bits = 8 * algorithm.traffic_key_bytes() as u16;
+    let mut bytes = Vec::with_capacity(53);
+    bytes.push(1);
+    bytes.extend_from_slice(b"TCP-AO");
+    bytes.extend_from_slice(&context(ends));
+    bytes.extend_from_slice(&output_bits.to_be_bytes());
+    bytes
+}
+
+/// "Algorithm 1 applies HMAC-SHA-1 under the master key. Algorithm 2 applies AES-CMAC under the
+/// master key if that has 16 bytes; otherwise under AES-CMAC of the master key with an all-zero
+/// key."
+pub fn traffic_key(rules: Rules, algorithm: Algorithm, master_key: &[u8], ends: &Ends) -> Vec<u8> {
+    let input = traffic_key_input(algorithm, ends);
+    match algorithm {
+        Algorithm::HmacSha1 => crypto::hmac_sha1(master_key, &input).to_vec(),
+        Algorithm::AesCmac => {
+            let key = match <[u8; 16]>::try_from(master_key) {
+                Ok(sixteen) if !rules.has(Fault::EveryMasterKeyHashed) => sixteen,
+                _ => crypto::aes128_cmac(&[0; 16], master_key),
+            };
+            crypto::aes128_cmac(&key, &input).to_vec()
+        }
+    }
+}
+
+/// The bytes that the MAC is made of. "In this order: the extension (4 bytes); the IP pseudo-header
+/// as for the checksum, with the whole segment's length; the TCP header with checksum and MAC bytes
+/// zero; the data. With flag 0 only the header's first 20 bytes, data offset as sent, and TCP-AO
+/// remain."
+pub fn message(
+    rules: Rules,
+    covers_options: bool,
+    ends: &Ends,
+    extension: u32,
+    carrier: &WithAo,
+) -> Vec<u8> {
+    let WithAo {
+        segment,
+        header,
+        ao,
+    } = carrier;
+    let (header_part, data) = segment.split_at(header.bytes());
+
+    // "the TCP header with checksum and MAC bytes zero".
+    let mut zeroed = header_part.to_vec();
+    zeroed[16..18].fill(0);
+    zeroed[ao.at + 4..ao.at + ao.length].fill(0);
+
+    let covered = if covers_options {
+        zeroed
+    } else {
+        let mut first_20 = zeroed[..20].to_vec();
+        if rules.has(Fault::OffsetOfShortenedHeader) {
+            first_20[12] = (first_20[12] & 0x0f) | (9 << 4);
+        }
+        let ao_bytes = if rules.has(Fault::MacBytesLeftOut) {
+            4
+        } else {
+            ao.length
+        };
+        first_20.extend_from_slice(&zeroed[ao.at..ao.at + ao_bytes]);
+        first_20
+    };
+
+    // "with the whole segment's length".
+    let length = if rules.has(Fault::ShortenedLengthInPseudoHeader) {
+        covered.len() + data.len()
+    } else {
+        segment.len()
+    };
+
+    let mut bytes = Vec::with_capacity(44 + segment.len());
+    bytes.extend_from_slice(&extension.to_be_bytes());
+    bytes.extend_from_slice(&pseudo_header(ends, length));
+    bytes.extend_from_slice(&covered);
+    bytes.extend_from_slice(data);
+    bytes
+}
+
+/// "the IP pseudo-header as for the checksum": RFC 793 for IPv4, RFC 2460 section 8.1 for IPv6.
+pub fn pseudo_header(ends: &Ends, length: usize) -> Vec<u8> {
+    let mut bytes = Vec::with_capacity(40);
+    bytes.extend_from_slice(ends.source);
+    bytes.extend_from_slice(ends.destination);
+    if ends.source.len() == 4 {
+        // Zero, protocol, TCP length.
+        bytes.extend_from_slice(&[0, 6]);
+        bytes.extend_from_slice(&(length as u16).to_be_bytes());
+    } else {
+        // Upper-layer packet length, zero, next header.
+        bytes.extend_from_slice(&(length as u32).to_be_bytes());
+        bytes.extend_from_slice(&[0, 0, 0, 6]);
+    }
+    bytes
+}
+
+/// "The leftmost 12 bytes are the MAC."
+pub fn leftmost(algorithm: Algorithm, traffic_key: &[u8], message: &[u8]) -> [u8; 12] {
+    let mut mac = [0; 12];
+    match algorithm {
+        Algorithm::HmacSha1 => {
+            mac.copy_from_slice(&crypto::hmac_sha1(traffic_key, message)[..12]);
+        }
+        Algorithm::AesCmac => {
+            let mut key = [0; 16];
+            key.copy_from_slice(traffic_key);
+            mac.copy_from_slice(&crypto::aes128_cmac(&key, message)[..12]);
+        }
+    }
+    mac
+}
+
+/// The MAC that a segment must have under an entry; `key_ends` are the ends of the traffic key's
+/// context. They are the segment's own, but for a planted fault.
+pub fn mac(
+    rules: Rules,
+    entry: &Entry,
+    ends: &Ends,
+    key_ends: &Ends,
+    extension: u32,
+    carrier: &WithAo,
+) -> [u8; 12] {
+    let key = traffic_key(rules, entry.algorithm, entry.key, key_ends);
+    let covered = message(rules, entry.covers_options, ends, extension, carrier);
+    leftmost(entry.algorithm, &key, &covered)
+}

@@ -1,0 +1,302 @@
+//! "Key table (house bytes)": reading and checking the bytes, matching, and the searches.
+
+use crate::answer::Refusal;
+use crate::faults::{Fault, Rules};
+
+/// "At most 64 entries; none is allowed."
+pub const MOST_ENTRIES: usize = 64;
+
+/// A socket pair as our own end holds it. Addresses have 4 or 16 bytes.
+#[derive(Clone, Copy, Debug, PartialEq, Eq)]
+pub struct Pair<'a> {
+    /// Our address.
+    pub local: &'a [u8],
+    /// The peer's address.
+    pub remote: &'a [u8],
+    /// Our port.
+    pub local_port: u16,
+    /// The peer's port.
+    pub remote_port: u16,
+}
+
+/// "algorithm (1 HMAC-SHA-1-96, 2 AES-128-CMAC-96)".
+#[derive(Clone, Copy, Debug, PartialEq, Eq)]
+pub enum Algorithm {
+    /// 1, HMAC-SHA-1-96.
+    HmacSha1,
+    /// 2, AES-128-CMAC-96.
+    AesCmac,
+}
+
+impl Algorithm {
+    /// "Each algorithm has its own fixed numbers: traffic key bytes (20 and 16)".
+    pub fn traffic_key_bytes(self) -> usize {
+        match self {
+            Algorithm::HmacSha1 => 20,
+            Algorithm::AesCmac => 16,
+        }
+    }
+
+    /// "MAC bytes (12 and 12)".
+    pub fn mac_bytes(self) -> usize {
+        match self {
+            Algorithm::HmacSha1 => 12,
+            Algorithm::AesCmac => 12,
+        }
+    }
+}
+
+/// One side of an entry: a range of ports, "ends included", and a prefix of addresses.
+#[derive(Clone, Copy, Debug, PartialEq, Eq)]
+pub struct Side<'a> {
+    /// The lowest port.
+    pub low: u16,
+    /// The highest port.
+    pub high: u16,
+    /// 4 or 16 bytes; zero behind the prefix.
+    pub address: &'a [u8],
+    /// The prefix's length in bits.
+    pub prefix: usize,
+}
+
+impl Side<'_> {
+    /// "both ports lie in the ranges and, on each side, the first prefix-length bits agree. Prefix
+    /// 0 matches every address."
+    fn matches(&self, rules: Rules, address: &[u8], port: u16) -> bool {
+        let in_range = if rules.has(Fault::HighPortExcluded) {
+            self.low <= port && port < self.high
+        } else {
+            self.low <= port && port <= self.high
+        };
+        in_range && first_bits_agree(self.address, address, self.prefix)
+    }
+
+    /// Whether an address and a port exist that both sides match.
+    ///
+    /// Two ranges share a port exactly if the larger of the low ends is not above the smaller of
+    /// the high ends. Two prefixes share an address exactly if they agree as far as the shorter
+    /// one goes: the longer one's own address is then in both.
+    fn overlaps(&self, rules: Rules, other: &Side) -> bool {
+        let ports = self.low.max(other.low) <= self.high.min(other.high);
+        let shorter = self.prefix.min(other.prefix);
+        let addresses = if rules.has(Fault::NestedPrefixesDoNotClash) {
+            self.prefix == other.prefix && self.address == other.address
+        } else {
+            first_bits_agree(self.address, other.address, shorter)
+        };
+        ports && addresses
+    }
+}
+
+/// An entry of a table that was found well formed.
+#[derive(Clone, Copy, Debug, PartialEq, Eq)]
+pub struct Entry<'a> {
+    /// "flags (1: all options covered by the MAC; 0: only TCP-AO)".
+    pub covers_options: bool,
+    /// The algorithm.
+    pub algorithm: Algorithm,
+    /// The KeyID of segments that we sign with this entry.
+    pub send_id: u8,
+    /// The KeyID of segments that the peer signs with this entry.
+    pub recv_id: u8,
+    /// Our side.
+    pub local: Side<'a>,
+    /// The peer's side.
+    pub remote: Side<'a>,
+    /// The master key, 1 to 80 bytes.
+    pub key: &'a [u8],
+}
+
+impl Entry<'_> {
+    /// "An entry matches a socket pair of its family when both ports lie in the ranges and, on each
+    /// side, the first prefix-length bits agree."
+    pub fn matches(&self, rules: Rules, pair: &Pair) -> bool {
+        let family = self.local.address.len();
+        pair.local.len() == family
+            && pair.remote.len() == family
+            && self.local.matches(rules, pair.local, pair.local_port)
+            && self.remote.matches(rules, pair.remote, pair.remote_port)
+    }
+
+    /// "a socket pair exists that two entries both match while they share SendID or share RecvID."
+    pub fn clashes(&self, rules: Rules, other: &Entry) -> bool {
+        let shared = if rules.has(Fault::ClashBySendIdOnly) {
+            self.send_id == other.send_id
+        } else {
+            self.send_id == other.send_id || self.recv_id == other.recv_id
+        };
+        if !shared {
+            return false;
+        }
+        let same_family = self.local.address.len() == other.local.address.len();
+        let pair_exists = same_family
+            && self.local.overlaps(rules, &other.local)
+            && self.remote.overlaps(rules, &other.remote);
+        pair_exists || rules.has(Fault::ClashWithoutPair)
+    }
+}
+
+/// Whether the first `count` bits of two addresses of the same length agree.
+fn first_bits_agree(a: &[u8], b: &[u8], count: usize) -> bool {
+    let whole = count / 8;
+    let rest = count % 8;
+    a[..whole] == b[..whole] && (rest == 0 || (a[whole] ^ b[whole]) >> (8 - rest) == 0)
+}
+
+/// Whether every bit of an address behind its first `count` ones is zero.
+fn bits_behind_are_zero(address: &[u8], count: usize) -> bool {
+    let whole = count / 8;
+    let rest = count % 8;
+    let whole_bytes_from = if rest == 0 { whole } else { whole + 1 };
+    (rest == 0 || address[whole] << rest == 0)
+        && address[whole_bytes_from..].iter().all(|byte| *byte == 0)
+}
+
+/// Reads a table, or says what the first refused entry is refused with.
+///
+/// "The first that applies, in this order, is given; table entries are taken one after another,
+/// each through to 17 against those before it, with the entry's index from 0."
+pub fn read(rules: Rules, table: &[u8]) -> Result<Vec<Entry<'_>>, Refusal> {
+    let mut entries: Vec<Entry> = Vec::new();
+    let mut rest = table;
+    while !rest.is_empty() {
+        let index = entries.len() as u32;
+        let refused = |number| Refusal {
+            number,
+            index: index + rules.has(Fault::IndexFromOne) as u32,
+        };
+
+        let kind_known = rest[0] == 4 || rest[0] == 6;
+        if rules.has(Fault::KindBeforeSixtyFifth) && !kind_known {
+            return Err(refused(11));
+        }
+
+        // 12: "a 65th entry begins".
+        if entries.len() == MOST_ENTRIES {
+            return Err(refused(12));
+        }
+
+        // 11: "unknown kind". "One byte of kind, then a body whose length the kind fixes: kind 4
+        // (IPv4) has 103 bytes, kind 6 (IPv6) 127."
+        let (address_bytes, body_bytes) = match rest[0] {
+            4 => (4, 103),
+            6 => (16, 127),
+            _ => return Err(refused(11)),
+        };
+
+        // 10: "entry cut".
+        if rest.len() < 1 + body_bytes {
+            return Err(refused(10));
+        }
+
+        // 13 to 16.
+        let body = &rest[1..1 + body_bytes];
+        let entry = read_body(rules, address_bytes, body).map_err(refused)?;
+
+        // 17: "ID clash, at the later entry".
+        if entries.iter().any(|before| before.clashes(rules, &entry)) {
+            return Err(refused(17));
+        }
+
+        entries.push(entry);
+        rest = &rest[1 + body_bytes..];
+    }
+    Ok(entries)
+}
+
+/// Reads one body of 103 or 127 bytes with addresses of 4 or 16, or gives 13, 14, 15 or 16.
+///
+/// "The body is: flags (1: all options covered by the MAC; 0: only TCP-AO), algorithm (1
+/// HMAC-SHA-1-96, 2 AES-128-CMAC-96), SendID, RecvID; local port low and high, remote port low and
+/// high (two bytes each, big-endian, ends included); local address, its prefix length; remote
+/// address, its prefix length; key length 1 to 80; the key, padded with zeros to 80."
+fn read_body(rules: Rules, address_bytes: usize, body: &[u8]) -> Result<Entry<'_>, u8> {
+    let port = |at: usize| u16::from_be_bytes([body[at], body[at + 1]]);
+    let (local_part, rest) = body[12..].split_at(address_bytes + 1);
+    let (remote_part, key_part) = rest.split_at(address_bytes + 1);
+    let local = Side {
+        low: port(4),
+        high: port(6),
+        address: &local_part[..address_bytes],
+        prefix: local_part[address_bytes] as usize,
+    };
+    let remote = Side {
+        low: port(8),
+        high: port(10),
+        address: &remote_part[..address_bytes],
+        prefix: remote_part[address_bytes] as usize,
+    };
+
+    // 13: "flags or algorithm not listed".
+    let covers_options = match body[0] {
+        0 => false,
+        1 => true,
+        _ => return Err(13),
+    };
+    let algorithm = match body[1] {
+        1 => Algorithm::HmacSha1,
+        2 => Algorithm::AesCmac,
+        _ => return Err(13),
+    };
+
+    // 14: "low port above high".
+    let bad = |side: &Side| side.low > side.high;
+    if bad(&local) || (bad(&remote) && !rules.has(Fault::PortsOfLocalSideOnly)) {
+        return Err(14);
+    }
+
+    // 15: "prefix above 32 or 128, or address bits set past it".
+    if local.prefix > 8 * address_bytes || remote.prefix > 8 * address_bytes {
+        return Err(15);
+    }
+    let bits_set = |side: &Side| !bits_behind_are_zero(side.address, side.prefix);
+    if bits_set(&local) || (bits_set(&remote) && !rules.has(Fault::BitsOfLocalSideOnly)) {
+        return Err(15);
+    }
+
+    // 16: "key length 0 or above 80, or padding not zero".
+    let key_bytes = key_part[0] as usize;
+    if key_bytes == 0 || key_bytes > 80 {
+        return Err(16);
+    }
+    let (key, padding) = key_part[1..].split_at(key_bytes);
+    if padding.iter().any(|byte| *byte != 0) && !rules.has(Fault::PaddingNotLookedAt) {
+        return Err(16);
+    }
+
+    Ok(Entry {
+        covers_options,
+        algorithm,
+        send_id: body[2],
+        recv_id: body[3],
+        local,
+        remote,
+        key,
+    })
+}
+
+/// The entry matching the pair that has this SendID; by 17 there is at most one.
+pub fn by_send_id<'t>(
+    rules: Rules,
+    entries: &[Entry<'t>],
+    pair: &Pair,
+    send_id: u8,
+) -> Option<Entry<'t>> {
+    entries
+        .iter()
+        .find(|entry| entry.send_id == send_id && entry.matches(rules, pair))
+        .copied()
+}
+
+/// The entry matching the pair that has this RecvID; by 17 there is at most one.
+pub fn by_recv_id<'t>(
+    rules: Rules,
+    entries: &[Entry<'t>],
+    pair: &Pair,
+    recv_id: u8,
+) -> Option<Entry<'t>> {
+    entries
+        .iter()
+        .find(|entry| entry.recv_id == recv_id && entry.matches(rules, pair))
+        .copied()
+}

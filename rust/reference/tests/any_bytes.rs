@@ -1,0 +1,132 @@
+//! "Any bytes may come as segment, key table or state. Every call returns": the directed cases with
+//! bytes changed, cut off or put behind, under document 01's rules and under each planted fault.
+
+mod common;
+
+use common::*;
+use reference::{Fault, Rules};
+
+struct Random(u64);
+
+impl Random {
+    fn below(&mut self, bound: usize) -> usize {
+        self.0 = self
+            .0
+            .wrapping_mul(6_364_136_223_846_793_005)
+            .wrapping_add(1_442_695_040_888_963_407);
+        ((self.0 >> 33) % bound as u64) as usize
+    }
+}
+
+/// Changes a few bytes, mostly near the front, and now and then the length.
+fn disturb(random: &mut Random, bytes: &mut Vec<u8>) {
+    if bytes.len() > 5000 {
+        return;
+    }
+    for _ in 0..random.below(4) {
+        if bytes.is_empty() {
+            break;
+        }
+        let span = if random.below(2) == 0 {
+            bytes.len()
+        } else {
+            bytes.len().min(40)
+        };
+        let at = random.below(span);
+        bytes[at] = match random.below(3) {
+            0 => bytes[at] ^ 1 << random.below(8),
+            1 => random.below(256) as u8,
+            _ => [0, 1, 4, 6, 29, 0xff][random.below(6)],
+        };
+    }
+    match random.below(12) {
+        0 => bytes.truncate(random.below(bytes.len() + 1)),
+        1 => bytes.extend((0..random.below(20)).map(|i| i as u8)),
+        _ => {}
+    }
+}
+
+fn disturbed(random: &mut Random, case: &Case) -> Case {
+    let mut case = case.clone();
+    disturb(random, &mut case.table);
+    disturb(random, &mut case.state);
+    match &mut case.call {
+        Call::CheckTable => {}
+        Call::OpenActive { local, remote, .. } => {
+            disturb(random, local);
+            disturb(random, remote);
+        }
+        Call::JudgeSyn {
+            source,
+            destination,
+            segment,
+            ..
+        }
+        | Call::OpenPassive {
+            source,
+            destination,
+            segment,
+            ..
+        }
+        | Call::Judge {
+            source,
+            destination,
+            segment,
+        } => {
+            if random.below(8) == 0 {
+                disturb(random, source);
+                disturb(random, destination);
+            }
+            disturb(random, segment);
+        }
+        Call::Sign { segment, room } => {
+            disturb(random, segment);
+            *room = (segment.len() + random.below(40)).saturating_sub(4);
+        }
+        Call::Ask { recv_id } => *recv_id = random.below(8) as u8,
+    }
+    case
+}
+
+/// Every call returns, with a number that it can give, and leaves the lengths and, when refused,
+/// the bytes as they were.
+#[test]
+fn every_call_returns() {
+    let cases: Vec<Case> = cases()
+        .into_iter()
+        .filter(|case| case.table.len() < 1000)
+        .collect();
+    let mut random = Random(20_261_115);
+    for round in 0..20_000 {
+        let case = disturbed(&mut random, &cases[round % cases.len()]);
+        let outcome = run(RIGHT, &case);
+        let number = number(outcome.word);
+        let allowed: Vec<u8> = match case.call {
+            Call::CheckTable => vec![0],
+            Call::OpenActive { .. } => vec![0, 18, 19, 35],
+            Call::JudgeSyn { .. } => vec![0, 1, 19, 20, 21, 22, 24, 25, 26, 27, 29],
+            Call::OpenPassive { .. } => vec![0, 1, 18, 19, 20, 21, 22, 24, 25, 26, 27, 29],
+            Call::Judge { .. } => [0].into_iter().chain(18..=29).collect(),
+            Call::Sign { .. } => [0, 18].into_iter().chain(30..=37).collect(),
+            Call::Ask { .. } => vec![0, 18, 35],
+        };
+        assert!((10..=17).contains(&number) || allowed.contains(&number));
+        assert_eq!(outcome.word as u32 >> 8, 0);
+        if number != 0 && !(10..=17).contains(&number) {
+            assert_eq!(outcome.word >> 32, 0);
+        }
+        let counted = (20..=29).contains(&number) && case.call.name() == "judge";
+        if number != 0 && !counted {
+            assert_eq!(outcome.state, case.state);
+        }
+        if counted {
+            assert_eq!(outcome.state[..72], case.state[..72]);
+        }
+        if number != 0 {
+            assert!(outcome.out.iter().all(|byte| *byte == 0xee));
+        }
+
+        let fault = Fault::ALL[random.below(Fault::ALL.len())];
+        run(Rules::with(fault), &case);
+    }
+}

@@ -1,0 +1,69 @@
+//! Every number of every call, and what each refusal leaves as it was.
+
+mod common;
+
+use common::*;
+use std::collections::{BTreeMap, BTreeSet};
+
+/// Each directed case gives its number and value; a refusal or a pass leaves the buffers as they
+/// were, "except that drops 20 to 29 on an open connection add one to that number's count."
+#[test]
+fn each_case_gives_its_number() {
+    for case in cases() {
+        let outcome = run(RIGHT, &case);
+        let call = case.call.name();
+        let (number, value) = case.answer;
+        let expected = (value as u64) << 32 | number as u64;
+        assert_eq!(outcome.word, expected, "{call}: {}", case.name);
+
+        if number == 0 {
+            continue;
+        }
+        let mut state = case.state.clone();
+        if call == "judge" && state.len() == 152 && state[1] == 1 && (20..=29).contains(&number) {
+            let at = 72 + 8 * (number as usize - 20);
+            let count = u64::from_be_bytes(state[at..at + 8].try_into().unwrap());
+            let count = if count == u64::MAX { count } else { count + 1 };
+            state[at..at + 8].copy_from_slice(&count.to_be_bytes());
+        }
+        assert_eq!(outcome.state, state, "{call}: {}", case.name);
+        assert!(outcome.out.iter().all(|byte| *byte == 0xee));
+    }
+}
+
+/// The cases meet each number of each call that can give it, and no call gives another.
+#[test]
+fn each_number_of_each_call_is_met() {
+    let mut met: BTreeMap<&str, BTreeSet<u8>> = BTreeMap::new();
+    for case in cases() {
+        let number = number(run(RIGHT, &case).word);
+        met.entry(case.call.name()).or_default().insert(number);
+    }
+    let tables: Vec<u8> = (10..=17).collect();
+    let set = |others: &[u8]| -> BTreeSet<u8> { tables.iter().chain(others).copied().collect() };
+    let syn = [0, 1, 19, 20, 21, 22, 24, 25, 26, 27, 29];
+    assert_eq!(met["check_table"], set(&[0]));
+    assert_eq!(met["open_active"], set(&[0, 18, 19, 35]));
+    assert_eq!(met["judge_syn"], set(&syn));
+    assert_eq!(met["open_passive"], set(&[&syn[..], &[18]].concat()));
+    let judged: Vec<u8> = [0].into_iter().chain(18..=29).collect();
+    assert_eq!(met["judge"], set(&judged));
+    let signed: Vec<u8> = [0, 18].into_iter().chain(30..=37).collect();
+    assert_eq!(met["sign"], set(&signed));
+    assert_eq!(met["ask"], set(&[0, 18, 35]));
+}
+
+/// While opening, each of 20 to 29 is met but 28, which an opening connection does not give.
+#[test]
+fn numbers_of_an_opening_connection() {
+    let mut met = BTreeSet::new();
+    for case in cases() {
+        if case.call.name() == "judge" && case.state.len() == 152 && case.state[1] != 1 {
+            met.insert(number(run(RIGHT, &case).word));
+        }
+    }
+    for expected in (10..=17).chain(20..=27).chain([0, 29]) {
+        assert!(met.contains(&expected), "{expected}");
+    }
+    assert!(!met.contains(&28));
+}
