@@ -1,12 +1,14 @@
--- Laws for reading an entry's bytes: how long they are, and an array that a part of them was copied into.
-use Prim.Native.Nat.{ℕ, zero, suc, _+_, _*_, _-_, _≤_, _<_, min}
+-- Laws for reading an entry's bytes: how long they are, the part of a table that begins with them, and an array that some were copied into.
+use Prim.Native.Nat.{ℕ, zero, suc, _+_, _*_, _-_, _/_, _%_, _^_, _≤_}
 use mathlib.Core.Path.{_≡_, refl, sym, ap, _∙_}
 use mathlib.Core.List.{List, [], _∷_, _++_, append-nil}
 use native.Mathlib.Omega.{arith}
 use native.Mathlib.Nat.{sub-zero, zero-add, add-sub-cancel-left}
-use lib.ListN.{length, take, drop, replicate, length-take, length-drop}
-use lib.Seq.{paste, take-length, drop-nil}
-use Rattle.keys.specs.Entry.{body, size, width}
+use lib.ListN.{length, getD, take, drop, replicate, length-take, length-drop}
+use lib.Seq.{paste, take-length, take-all}
+use Rattle.wire.specs.Prefix.{agree}
+use Rattle.wire.specs.PrefixLaws.{agree-take, agree-by}
+use Rattle.keys.specs.Entry.{size, width, padded}
 use Rattle.keys.specs.EntryLaws.{width-le, body-is}
 
 -- an entry that is there whole, whose addresses have w bytes
@@ -40,3 +42,28 @@ laid-whole m at e x h q =
     let l = length-take m (drop at e) in
     let z : m - length (take m (drop at e)) ≡ 0 = omega arith in
     laid-part m at m e x q ∙ ap (λ (k : ℕ). take m (drop at e) ++ blank k) z ∙ append-nil (take m (drop at e))
+
+-- the part of a list from `at` on, as the code cuts it
+abbrev pub tail : List ℕ → ℕ → List ℕ
+tail t at = take (length t - at) (drop at t)
+
+pub tail-is : (t : List ℕ) (at : ℕ) → tail t at ≡ drop at t
+tail-is t at = take-all (length t - at) (drop at t) (let l = length-drop at t in omega arith)
+
+zero-at : (m i : ℕ) → getD (blank m) i 0 ≡ 0
+zero-at zero i = refl
+zero-at (suc m) zero = refl
+zero-at (suc m) (suc i) = zero-at m i
+
+padded-at : (s : List ℕ) (m i : ℕ) → getD (s ++ blank m) i 0 ≡ getD s i 0
+padded-at [] m i = zero-at m i
+padded-at (x ∷ s) m zero = refl
+padded-at (x ∷ s) m (suc i) = padded-at s m i
+
+-- n bits of the bytes from `at` on, against n bits of the w of them that an entry's address has
+pub agree-padded : (e x : List ℕ) (at w n : ℕ) → n ≤ 8 * w → agree n (tail e at) x ≡ agree n (padded (take w (drop at e))) x
+agree-padded e x at w n h =
+    let s = take w (drop at e) in
+    ap (λ (a : List ℕ). agree n a x) (tail-is e at)
+    ∙ sym (agree-take n w (drop at e) x h)
+    ∙ agree-by n s (padded s) x (λ i l. ap (λ (b : ℕ). b / 2 ^ (7 - i % 8) % 2) (sym (padded-at s (16 - length s) (i / 8))))

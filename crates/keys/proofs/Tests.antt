@@ -1,18 +1,20 @@
 -- Laws for functions that go through tests or lines one after another.
 use Prim.Native.Nat.{ℕ, _+_, _*_, _≤_, _<_, max, min}
 use mathlib.Core.Bool.{Bool, true, false, cond, not, _&&_}
-use mathlib.Core.Path.{_≡_, refl, sym, ap, _∙_}
-use mathlib.Core.List.{List, [], _∷_, _++_}
+use mathlib.Core.Path.{_≡_, refl, sym, ap, _∙_, subst}
+use mathlib.Core.List.{List, _++_}
 use native.Mathlib.Omega.{arith}
 use native.Mathlib.Numerals.{add-one}
 use lib.ListN.{length, getD, drop, drop-of-length-le}
 use lib.Seq.{drop-cons}
 use borrow.Author.Tests.{eq-eqb, ne-eqb, le-leb, lt-leb, lt-ltb, le-ltb}
+use Rattle.octets.specs.Octets.{get16}
 use Rattle.wire.specs.Prefix.{agree, clearPast}
-use Rattle.keys.specs.Entry.{width}
+use Rattle.keys.specs.Entry.{width, sideOf}
 use Rattle.keys.specs.Match.{fixed, meet}
 use Rattle.keys.specs.Table.{Line, first, zeros, sideLines}
-use Rattle.keys.specs.LoadLaws.{lacks, passed-first, first-passed, first-given}
+use Rattle.keys.specs.LineLaws.{lacks, passed-first, first-passed, first-given}
+use Rattle.keys.proofs.Bytes.{tail, agree-padded}
 use Rattle.keys.specs.declared.entry.Side.{Side}
 
 pub and-last : (b : Bool) → (b && true) ≡ b
@@ -30,18 +32,22 @@ passing a b n m l e z q = q ∙ sym (first-passed a b (passed-first a l (sym e �
 pub agree-by : (a b : List ℕ) (n m : ℕ) (r : Bool) → r ≡ agree n a b → n ≡ m → r ≡ agree m a b
 agree-by a b n m r e q = e ∙ ap (λ (k : ℕ). agree k a b) q
 
--- two sides
+-- a side read from an entry's bytes against another
 
-pub meet-no : (f : ℕ) (a b : Side) (h l : ℕ) → h ≡ min (a .high) (b .high) → l ≡ max (a .low) (b .low) → h < l → false ≡ meet f a b
-unfolding meet
-meet-no f a b h l e g k = rw (lt-leb (max (a .low) (b .low)) (min (a .high) (b .high)) (omega arith))
+module _ (f : ℕ) (e : List ℕ) (ports at : ℕ) (b : Side) (x y h l : ℕ) (xe : x ≡ get16 e (ports + 2)) (he : h ≡ min x (b .high)) (ye : y ≡ get16 e ports) (le : l ≡ max y (b .low)) where
+  pub ports-apart : h < l → false ≡ meet f (sideOf (width f) ports at e) b
+  unfolding meet sideOf
+  ports-apart k =
+      rw (lt-leb (max (get16 e ports) (b .low)) (min (get16 e (ports + 2)) (b .high)) (subst (λ (n : ℕ). n < max (get16 e ports) (b .low)) (he ∙ ap (λ (n : ℕ). min n (b .high)) xe) (subst (λ (n : ℕ). h < n) (le ∙ ap (λ (n : ℕ). max n (b .low)) ye) k)))
 
-pub meet-is : (f : ℕ) (a b : Side) (h l n m k : ℕ) (r : Bool) → h ≡ min (a .high) (b .high) → l ≡ max (a .low) (b .low) → l ≤ h
-    → n ≡ fixed f (a .bits) → m ≡ fixed f (b .bits) → k ≡ min n m → r ≡ agree k (a .address) (b .address) → r ≡ meet f a b
-unfolding meet
-meet-is f a b h l n m k r e g j p q o s =
-    rw (le-leb (max (a .low) (b .low)) (min (a .high) (b .high)) (omega arith), and-last)
-    (agree-by (a .address) (b .address) k _ r s (o ∙ (λ i. min (p i) (q i))))
+  pub sides-meet : (w p q n : ℕ) (r : Bool) → l ≤ h → w ≡ width f → p ≡ fixed f (getD e (at + w) 0) → q ≡ fixed f (b .bits) → n ≡ min p q → r ≡ agree n (tail e at) (b .address)
+      → r ≡ meet f (sideOf (width f) ports at e) b
+  unfolding meet sideOf
+  sides-meet w p q n r k we pe qe ne re =
+      let m = min (fixed f (getD e (at + width f) 0)) (fixed f (b .bits)) in
+      let z : n ≡ m = ne ∙ (λ i. min ((pe ∙ ap (λ (v : ℕ). fixed f (getD e (at + v) 0)) we) i) (qe i)) in
+      rw (le-leb (max (get16 e ports) (b .low)) (min (get16 e (ports + 2)) (b .high)) (subst (λ (v : ℕ). max (get16 e ports) (b .low) ≤ v) (he ∙ ap (λ (v : ℕ). min v (b .high)) xe) (subst (λ (v : ℕ). v ≤ h) (le ∙ ap (λ (v : ℕ). max v (b .low)) ye) k)), and-last)
+      (agree-by (tail e at) (b .address) n m r re z ∙ agree-padded e (b .address) at (width f) m (omega arith))
 
 -- 15 of one side, whose family's addresses have w bytes
 

@@ -1,27 +1,25 @@
 -- How the walks over a table's entries go on, turn by turn, and what one finds at its place.
 -- Each invariant says that what is left answers as the whole table does.
-use Prim.Native.Nat.{ℕ, zero, suc, _+_, _*_, _-_, _≤_, _<_}
+use Prim.Native.Nat.{ℕ, zero, suc, _+_, _-_, _≤_, _<_}
 use mathlib.Core.Bool.{Bool, true, false, cond, not, _&&_, _||_}
-use mathlib.Core.Path.{_≡_, refl, sym, ap, _∙_, subst}
-use mathlib.Core.List.{List, [], _∷_, _++_, append-nil}
+use mathlib.Core.Path.{_≡_, refl, sym, ap, _∙_}
+use mathlib.Core.List.{List, [], _∷_, _++_}
 use native.Mathlib.Omega.{arith}
 use native.Mathlib.Nat.{sub-zero}
-use native.Mathlib.Numerals.{add-one}
 use lib.ListN.{length, getD, take, drop, drop-of-length-le, length-drop, length-append}
 use lib.Seq.{take-all, take-nil, take-append-add, append-snoc}
-use lib.Dec.{leb, eqb}
-use borrow.Author.Tests.{eq-eqb, ne-eqb, le-leb, lt-leb, leb-true, leb-false}
-use Rattle.keys.specs.Entry.{known, body, size, width, idsOf, selectorOf, entryOf, Item, item, sound, items, entriesOf, entries}
-use Rattle.keys.specs.EntryLaws.{itemAt, kind-is, items-at, items-end, sound-inside, entries-next, entries-stop}
-use Rattle.keys.specs.Match.{matches, overlap, share, clash}
-use Rattle.keys.specs.Table.{Line, line, first, entryLines, clashing, ownLines, itemLines, lines, refusing, judged, loaded, nobody, found, hasId, answers}
-use Rattle.keys.specs.LoadLaws.{first-passed, item-good}
+use lib.Dec.{leb}
+use borrow.Author.Tests.{eq-eqb, ne-eqb, le-leb, lt-leb}
+use Rattle.keys.specs.Entry.{known, size, width, idsOf, selectorOf, entryOf, Item, item, itemAt, sound, items, entries}
+use Rattle.keys.specs.EntryLaws.{kind-is, items-at, items-end, sound-inside, entries-next, entries-stop}
+use Rattle.keys.specs.Match.{overlap, share, clash}
+use Rattle.keys.specs.Table.{Line, line, first, entryLines, clashing, itemLines, lines, refusing, judged, loaded, nobody, found}
+use Rattle.keys.specs.LineLaws.{first-passed, item-good}
+use Rattle.keys.proofs.Bytes.{tail, tail-is}
 use Rattle.keys.proofs.Tests.{given, passing}
 use Rattle.keys.specs.declared.entry.Ids.{Ids}
 use Rattle.keys.specs.declared.entry.Selector.{Selector}
 use Rattle.keys.specs.declared.entry.Entry.{Entry}
-use Rattle.keys.specs.declared.entry.Pair.{Pair}
-use Rattle.keys.specs.declared.table.By.{By}
 use Rattle.keys.specs.declared.table.Loaded.{Loaded}
 use Rattle.keys.specs.declared.table.Loaded.the-variants.{Valid, Refused}
 use Rattle.keys.specs.declared.table.Found.{Found}
@@ -48,30 +46,23 @@ module _ (t : List ℕ) (at : ℕ) where
   pub sound-is : (r : Bool) (n : ℕ) → r ≡ known (getD t at 0) → r ≡ true → n ≡ size (getD t at 0) → at ≤ length t → leb n (length t - at) ≡ sound (itemAt t at)
   sound-is r n e h q k = whole-is n q k ∙ ap (λ (b : Bool). b && itemAt t at .whole) (sym (known-is r true e h))
 
-  -- the part of the table from `at` on
-  abbrev tail : List ℕ
-  tail = take (length t - at) (drop at t)
-
-  tail-is : tail ≡ drop at t
-  tail-is = take-all (length t - at) (drop at t) (let l = length-drop at t in omega arith)
-
-  pub tail-whole : at + size (getD t at 0) ≤ length t → size (getD tail 0 0) ≤ length tail
+  pub tail-whole : at + size (getD t at 0) ≤ length t → size (getD (tail t at) 0 0) ≤ length (tail t at)
   tail-whole h =
-      let k : size (getD tail 0 0) ≡ size (getD t at 0) = ap (λ (s : List ℕ). size (getD s 0 0)) tail-is ∙ ap size (kind-is t at) in
-      let l : length tail ≡ length t - at = ap length tail-is ∙ length-drop at t in
+      let k : size (getD (tail t at) 0 0) ≡ size (getD t at 0) = ap (λ (s : List ℕ). size (getD s 0 0)) (tail-is t at) ∙ ap size (kind-is t at) in
+      let l : length (tail t at) ≡ length t - at = ap length (tail-is t at) ∙ length-drop at t in
       omega arith
 
-  pub ids-at : (i : Ids) → i ≡ idsOf tail → i ≡ itemAt t at .entry .ids
+  pub ids-at : (i : Ids) → i ≡ idsOf (tail t at) → i ≡ itemAt t at .entry .ids
   unfolding item entryOf
-  ids-at i e = e ∙ ap idsOf tail-is
+  ids-at i e = e ∙ ap idsOf (tail-is t at)
 
-  pub selector-at : (s : Selector) → s ≡ selectorOf (width (getD tail 0 0)) tail → s ≡ itemAt t at .entry .selector
+  pub selector-at : (s : Selector) → s ≡ selectorOf (width (getD (tail t at) 0 0)) (tail t at) → s ≡ itemAt t at .entry .selector
   unfolding item entryOf
-  selector-at s e = e ∙ ap (λ (x : List ℕ). selectorOf (width (getD x 0 0)) x) tail-is
+  selector-at s e = e ∙ ap (λ (x : List ℕ). selectorOf (width (getD x 0 0)) x) (tail-is t at)
 
-  pub entry-at : (e : Entry) → e ≡ entryOf tail → e ≡ itemAt t at .entry
+  pub entry-at : (e : Entry) → e ≡ entryOf (tail t at) → e ≡ itemAt t at .entry
   unfolding item
-  entry-at e q = q ∙ ap entryOf tail-is
+  entry-at e q = q ∙ ap entryOf (tail-is t at)
 
 -- a first test, and a second one of what passed it
 

@@ -1,7 +1,7 @@
--- What the table's bytes mean: document 01, "Key table (house bytes)". All that a later kind, flag or algorithm moves is here.
+-- What the table's bytes mean: document 01, "Key table (house bytes)". A later kind of entry moves this file.
 -- Any list of bytes has a meaning: a byte that is not there counts as 0, and the numbers 10 to 17 (specs/Table.antt) say what is refused.
 use Prim.Native.Nat.{ℕ, zero, suc, _+_, _*_, _-_, _%_}
-use mathlib.Core.Bool.{Bool, true, false, cond, _&&_, _||_}
+use mathlib.Core.Bool.{Bool, cond, _&&_, _||_}
 use mathlib.Core.List.{List, [], _∷_, _++_}
 use lib.ListN.{length, getD, take, drop, replicate}
 use lib.Dec.{leb, eqb}
@@ -81,6 +81,10 @@ item s =
       whole = leb (size (getD s 0 0)) (length s);
       entry = entryOf s;
     }
+
+-- at byte `at` of a table
+abbrev pub itemAt : List ℕ → ℕ → Item
+itemAt t at = item (drop at t)
 
 abbrev pub sound : Item → Bool
 sound x = x .kind-known && x .whole

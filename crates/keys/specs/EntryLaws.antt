@@ -1,20 +1,18 @@
 -- Laws of what the table's bytes mean: where the next entry begins, and what every entry's fields are.
 -- Assumes nothing but, where it says `Octets`, that the bytes are below 256.
-use Prim.Native.Nat.{ℕ, zero, suc, _+_, _*_, _-_, _≤_, _<_, min}
-use mathlib.Core.Bool.{Bool, true, false, cond, _&&_, _||_}
+use Prim.Native.Nat.{ℕ, zero, suc, _+_, _*_, _-_, _≤_, _<_}
+use mathlib.Core.Bool.{Bool, true, false, cond}
 use mathlib.Core.Path.{_≡_, refl, sym, ap, _∙_}
 use mathlib.Core.List.{List, [], _∷_, _++_}
 use mathlib.Core.Logic.{_⊎_, inl, inr, ⊎-elim}
 use native.Mathlib.Omega.{arith}
 use lib.ListN.{length, getD, take, drop, replicate, length-append, length-take, length-drop, length-replicate, drop-of-length-le}
-use lib.Seq.{drop-nil, drop-cons, drop-drop, getD-drop}
+use lib.Seq.{drop-nil, drop-drop, getD-drop}
 use lib.Dec.{leb, eqb}
 use borrow.Author.Tests.{eqb-true, leb-true, leb-false}
-use Rattle.octets.specs.Octets.{get16}
 use Rattle.keys.specs.Algorithm.{macBytes}
-use Rattle.keys.specs.Entry.{known, body, size, width, padded, sideOf, selectorOf, idsOf, secretOf, entryOf, Item, item, sound, items, entriesOf, entries}
+use Rattle.keys.specs.Entry.{known, body, size, width, sideOf, selectorOf, secretOf, entryOf, Item, item, itemAt, sound, items, entriesOf, entries}
 use Rattle.keys.specs.MatchLaws.{or-true, and-true, Octets, Family, SideFields, Fields}
-use Rattle.keys.specs.declared.entry.Side.{Side}
 use Rattle.keys.specs.declared.entry.Entry.{Entry}
 
 -- sizes
@@ -48,9 +46,6 @@ items-from (b ∷ t) h = ap (λ (l : List Item). item (b ∷ t) ∷ cond (sound 
     dropped b t = let e : 1 + body b ≡ suc (body b) = omega arith in rw e
 
 -- at byte `at` of a table
-
-abbrev pub itemAt : List ℕ → ℕ → Item
-itemAt t at = item (drop at t)
 
 module _ (t : List ℕ) (at : ℕ) where
   pub kind-is : getD (drop at t) 0 0 ≡ getD t at 0

@@ -4,6 +4,8 @@ pub mod EntryLaws
 pub mod Match
 pub mod MatchLaws
 pub mod Table
+pub mod LineLaws
+pub mod PlaceLaws
 pub mod LoadLaws
 pub mod SearchLaws
 pub mod Mirror

@@ -1,7 +1,7 @@
 -- The loader's answer exactly: when a table is valid, and when it is refused with 17, in document 01's words ("Key table", "Numbers given back").
 -- Assumes nothing but, where it says `Octets`, that the bytes are below 256.
-use Prim.Native.Nat.{ℕ, zero, suc, _+_, _*_, _≤_, _<_}
-use mathlib.Core.Bool.{Bool, true, false, cond, not, _&&_, _||_}
+use Prim.Native.Nat.{ℕ, zero, suc, _+_, _≤_, _<_}
+use mathlib.Core.Bool.{Bool, true, false, cond, not}
 use mathlib.Core.Path.{_≡_, refl, sym, ap, _∙_, subst}
 use mathlib.Core.List.{List, [], _∷_, _++_, append-nil}
 use mathlib.Core.Logic.{_⊎_, inl, inr, ⊎-elim}
@@ -10,76 +10,15 @@ use native.Mathlib.Nat.{add-zero}
 use lib.ListN.{length}
 use lib.Seq.{append-snoc}
 use lib.Dec.{eqb, ltb}
-use borrow.Author.Tests.{eq-eqb, ne-eqb, eqb-true, eqb-false, ltb-true, ltb-false, not-true, not-false}
+use borrow.Author.Tests.{ne-eqb, eqb-false, ltb-true, ltb-false, not-false}
 use Rattle.keys.specs.Entry.{Item, sound, items, entriesOf, entries}
 use Rattle.keys.specs.EntryLaws.{Each, entries-fields}
-use Rattle.keys.specs.Match.{clash}
 use Rattle.keys.specs.MatchLaws.{and-true, Octets, Fields, Conflict, clash-conflict, conflict-clash}
-use Rattle.keys.specs.Table.{Line, line, first, entryLines, clashing, ownLines, itemLines, lines, refusing, judged, loaded}
+use Rattle.keys.specs.Table.{Line, line, first, clashing, ownLines, lines, judged, loaded}
 use Rattle.keys.specs.declared.entry.Entry.{Entry}
-use Rattle.keys.specs.declared.table.Loaded.{Loaded}
 use Rattle.keys.specs.declared.table.Loaded.the-variants.{Valid, Refused}
-
--- lines
-
-abbrev pub Passed : List Line → Type 0
-Passed [] = Unit {0}
-Passed (x ∷ l) = (x .applies ≡ false) × Passed l
-
--- no line has the number
-abbrev pub lacks : ℕ → List Line → Bool
-lacks n [] = true
-lacks n (x ∷ l) = not (eqb (x .number) n) && lacks n l
-
-lacks-head : (n m : ℕ) (b : Bool) → (not (eqb m n) && b) ≡ true → (m ≡ n → ⊥) × (b ≡ true)
-lacks-head n m b e = go (eqb m n) refl
-  where
-    go : (c : Bool) → eqb m n ≡ c → (m ≡ n → ⊥) × (b ≡ true)
-    go true q = let z : _≡_ {A = ℕ} 0 1 = cc (rw q at e) in absurd (omega arith)
-    go false q = (eqb-false m n q, rw q at e)
-
-pub first-passed : (a b : List Line) → Passed a → first (a ++ b) ≡ first b
-unfolding first
-first-passed [] b p = refl
-first-passed (x ∷ a) b p = rw (p .0) (first-passed a b (p .1))
-
--- a number that some lines give is given
-pub first-given : (a b : List Line) → (first a ≡ 0 → ⊥) → first (a ++ b) ≡ first a
-unfolding first
-first-given [] b h = absurd (h refl)
-first-given (x ∷ a) b h = go (x .applies) refl (λ k. first-given a b k)
-  where
-    go : (c : Bool) → x .applies ≡ c → ((first a ≡ 0 → ⊥) → first (a ++ b) ≡ first a) → first (x ∷ (a ++ b)) ≡ first (x ∷ a)
-    go true q ih = rw q
-    go false q ih = rw q (ih (λ z. h (rw q z)))
-
-pub passed-first : (l : List Line) → lacks 0 l ≡ true → first l ≡ 0 → Passed l
-unfolding first
-passed-first [] k e = tt
-passed-first (x ∷ l) k e = go (x .applies) refl (lacks-head 0 (x .number) (lacks 0 l) k) (λ h. passed-first l h)
-  where
-    go : (c : Bool) → x .applies ≡ c → (x .number ≡ 0 → ⊥) × (lacks 0 l ≡ true) → (lacks 0 l ≡ true → first l ≡ 0 → Passed l) → Passed (x ∷ l)
-    go true q h ih = absurd (h .0 (rw q at e))
-    go false q h ih = (q, ih (h .1) (rw q at e))
-
--- a number that only the last line has is given if no other line applies and the last does
-last-first : (n : ℕ) (b : Bool) (l : List Line) → lacks n l ≡ true → (n ≡ 0 → ⊥) → first (l ++ (line n b ∷ [])) ≡ n → Passed l × (b ≡ true)
-unfolding first
-last-first n true [] k z e = (tt, refl)
-last-first n false [] k z e = absurd (z (sym e))
-last-first n b (x ∷ l) k z e = go (x .applies) refl (lacks-head n (x .number) (lacks n l) k) (λ h. last-first n b l h z)
-  where
-    go : (c : Bool) → x .applies ≡ c → (x .number ≡ n → ⊥) × (lacks n l ≡ true) → (lacks n l ≡ true → first (l ++ (line n b ∷ [])) ≡ n → Passed l × (b ≡ true)) → Passed (x ∷ l) × (b ≡ true)
-    go true q h ih = absurd (h .0 (rw q at e))
-    go false q h ih = let r = ih (h .1) (rw q at e) in ((q, r .0), r .1)
-
-first-last : (n : ℕ) (b : Bool) (l : List Line) → Passed l → first (l ++ (line n b ∷ [])) ≡ cond b n 0
-unfolding first
-first-last n b l p = first-passed l (line n b ∷ []) p
-
--- an entry that by itself is given none of 13 to 16
-abbrev pub Formed : Entry → Type 0
-Formed e = Passed (entryLines e)
+use Rattle.keys.specs.LineLaws.{Passed, passed-first, last-first, first-last, passed-split, Formed}
+use Rattle.keys.specs.PlaceLaws.{At, each-at, at-seam, at-left, at-below, Apart, Clear, NoConflict, clear-apart, apart-clear, clashing-in, in-clashing, apart-no-conflict, no-conflict-apart}
 
 -- the walk
 
@@ -97,16 +36,6 @@ data Stops (limit : ℕ) : ℕ → List Entry → List Item → ℕ → Type 0 w
   stop : {i : ℕ} {before : List Entry} {x : Item} {l : List Item} → Passed (frontLines limit i x) → clashing (x .entry) before ≡ true → Stops limit i before (x ∷ l) i
   go-on : {i k : ℕ} {before : List Entry} {x : Item} {l : List Item} → Passed (frontLines limit i x) → clashing (x .entry) before ≡ false
       → Stops limit (i + 1) (before ++ (x .entry ∷ [])) l k → Stops limit i before (x ∷ l) k
-
-pub passed-split : (a b : List Line) → Passed (a ++ b) → Passed a × Passed b
-passed-split [] b p = (tt, p)
-passed-split (x ∷ a) b p = let r = passed-split a b (p .1) in ((p .0, r .0), r .1)
-
--- an item to which none of 11, 10 and 13 to 17 applies is there whole, and of a known kind
-pub item-good : (before : List Entry) (x : Item) → first (itemLines before x) ≡ 0 → sound x ≡ true
-item-good before x e =
-    let p = passed-split (ownLines x) (line 17 (clashing (x .entry) before) ∷ []) (passed-first (itemLines before x) refl e) .0 in
-    rw (not-false (x .kind-known) (p .0), not-false (x .whole) (p .1 .0))
 
 module _ (limit : ℕ) where
   good-step : (i : ℕ) (before : List Entry) (x : Item) → Passed (frontLines limit i x) → clashing (x .entry) before ≡ false → first (lines limit i before x) ≡ 0
@@ -154,120 +83,6 @@ module _ (limit : ℕ) where
   unfolding judged
   stops-judged (stop {i} {before} {x} p c) = rw (stop-step i before x p c)
   stops-judged (go-on {i} {k} {before} {x} p c s) = rw (good-step i before x p c) (stops-judged s)
-
--- places in a list of entries, counted from 0
-
-pub data At : List Entry → ℕ → Entry → Type 0 where
-  here : {e : Entry} {l : List Entry} → At (e ∷ l) 0 e
-  there : {e f : Entry} {l : List Entry} {i : ℕ} → At l i e → At (f ∷ l) (suc i) e
-
-pub each-at : (P : Entry → Type 0) {l : List Entry} {i : ℕ} {e : Entry} → Each P l → At l i e → P e
-each-at P p here = p .0
-each-at P p (there a) = each-at P (p .1) a
-
-pub at-same : {l : List Entry} {i : ℕ} {e f : Entry} → At l i e → At l i f → e ≡ f
-at-same here here = refl
-at-same (there a) (there b) = at-same a b
-
-at-seam : (a : List Entry) (e : Entry) (b : List Entry) → At (a ++ (e ∷ b)) (length a) e
-at-seam [] e b = here
-at-seam (x ∷ a) e b = there (at-seam a e b)
-
-at-left : {a : List Entry} {i : ℕ} {e : Entry} (b : List Entry) → At a i e → At (a ++ b) i e
-at-left b here = here
-at-left b (there p) = there (at-left b p)
-
-at-below : {l : List Entry} {i : ℕ} {e : Entry} → At l i e → i < length l
-at-below here = omega arith
-at-below (there a) = let h = at-below a in omega arith
-
--- no entry clashes with one before it
-
-abbrev Before : Entry → List Entry → Type 0
-Before f l = Each (λ e. clash f e ≡ false) l
-
-abbrev pub Apart : List Entry → Type 0
-Apart [] = Unit {0}
-Apart (f ∷ l) = Before f l × Apart l
-
--- each entry clears those in front of it, `pre` and then one another
-abbrev Clear : List Entry → List Entry → Type 0
-Clear pre [] = Unit {0}
-Clear pre (e ∷ l) = (clashing e pre ≡ false) × Clear (pre ++ (e ∷ [])) l
-
-or-no : (a b : Bool) → (a || b) ≡ false → (a ≡ false) × (b ≡ false)
-or-no false b e = (refl, e)
-or-no true b e = let z : _≡_ {A = ℕ} 0 1 = cc in absurd (omega arith)
-
-before-snoc : (f e : Entry) (l : List Entry) → Before f l → clash f e ≡ false → Before f (l ++ (e ∷ []))
-before-snoc f e [] b c = (c, tt)
-before-snoc f e (g ∷ l) b c = (b .0, before-snoc f e l (b .1) c)
-
-apart-snoc : (e : Entry) (l : List Entry) → Apart l → clashing e l ≡ false → Apart (l ++ (e ∷ []))
-unfolding clashing
-apart-snoc e [] a c = (tt, tt)
-apart-snoc e (f ∷ l) a c = let h = or-no (clash f e) (clashing e l) c in (before-snoc f e l (a .0) (h .0), apart-snoc e l (a .1) (h .1))
-
-clear-apart : (pre l : List Entry) → Apart pre → Clear pre l → Apart (pre ++ l)
-clear-apart pre [] a c = rw append-nil a
-clear-apart pre (e ∷ l) a c = subst Apart (append-snoc pre e l) (clear-apart (pre ++ (e ∷ [])) l (apart-snoc e pre a (c .0)) (c .1))
-
-unclashed : (pre : List Entry) (e : Entry) (l : List Entry) → Apart (pre ++ (e ∷ l)) → clashing e pre ≡ false
-unfolding clashing
-unclashed [] e l a = refl
-unclashed (f ∷ pre) e l a = rw (first-clear pre (a .0)) (unclashed pre e l (a .1))
-  where
-    first-clear : (p : List Entry) → Before f (p ++ (e ∷ l)) → clash f e ≡ false
-    first-clear [] b = b .0
-    first-clear (g ∷ p) b = first-clear p (b .1)
-
-apart-clear : (pre l : List Entry) → Apart (pre ++ l) → Clear pre l
-apart-clear pre [] a = tt
-apart-clear pre (e ∷ l) a = (unclashed pre e l a, apart-clear (pre ++ (e ∷ [])) l (subst Apart (sym (append-snoc pre e l)) a))
-
-clashing-in : (e : Entry) (l : List Entry) → clashing e l ≡ true → (i : ℕ) × (f : Entry) × At l i f × (clash f e ≡ true)
-unfolding clashing
-clashing-in e [] c = let z : _≡_ {A = ℕ} 0 1 = cc in absurd (omega arith)
-clashing-in e (f ∷ l) c = go (clash f e) refl (λ h. clashing-in e l h)
-  where
-    go : (b : Bool) → clash f e ≡ b → (clashing e l ≡ true → (i : ℕ) × (g : Entry) × At l i g × (clash g e ≡ true)) → (i : ℕ) × (g : Entry) × At (f ∷ l) i g × (clash g e ≡ true)
-    go true q ih = (0, f, here, q)
-    go false q ih = let r = ih (rw q at c) in (suc (r .0), r .1, there (r .2), r .3)
-
-in-clashing : (e : Entry) {f : Entry} {l : List Entry} {i : ℕ} → At l i f → clash f e ≡ true → clashing e l ≡ true
-unfolding clashing
-in-clashing e here c = rw c
-in-clashing e (there {f} a) c = or-second (clash f e) (in-clashing e a c)
-  where
-    or-second : (x : Bool) {y : Bool} → y ≡ true → (x || y) ≡ true
-    or-second true h = refl
-    or-second false h = h
-
-pub apart-at : {l : List Entry} {j k : ℕ} {e f : Entry} → Apart l → At l j e → At l k f → j < k → clash e f ≡ false
-apart-at a here here h = absurd (omega arith)
-apart-at a (here {e} {l}) (there q) h = each-at (λ g. clash e g ≡ false) (a .0) q
-apart-at a (there p) here h = absurd (omega arith)
-apart-at a (there p) (there q) h = apart-at (a .1) p q (omega arith)
-
--- "a socket pair exists that two entries both match while they share SendID or share RecvID": there is none in the list
-abbrev pub NoConflict : List Entry → Type 0
-NoConflict l = (j k : ℕ) (e f : Entry) → At l j e → At l k f → j < k → Conflict e f → ⊥
-
-pub apart-no-conflict : (l : List Entry) → Apart l → NoConflict l
-apart-no-conflict l a j k e f p q h c = let z : _≡_ {A = ℕ} 0 1 = cc (conflict-clash e f c, apart-at a p q h) in omega arith
-
-before-of : (e : Entry) (l : List Entry) → Fields (e .selector) → Each (λ f. Fields (f .selector)) l → ((k : ℕ) (f : Entry) → At l k f → Conflict e f → ⊥) → Before e l
-before-of e [] fe fl n = tt
-before-of e (f ∷ l) fe fl n = (go (clash e f) refl, before-of e l fe (fl .1) (λ k g a. n (suc k) g (there a)))
-  where
-    go : (b : Bool) → clash e f ≡ b → clash e f ≡ false
-    go true q = absurd (n 0 f here (clash-conflict e f fe (fl .0) q))
-    go false q = q
-
-pub no-conflict-apart : (l : List Entry) → Each (λ f. Fields (f .selector)) l → NoConflict l → Apart l
-no-conflict-apart [] fl n = tt
-no-conflict-apart (e ∷ l) fl n =
-    (before-of e l (fl .0) (fl .1) (λ k f a. n 0 (suc k) e f here (there a) (omega arith)), no-conflict-apart l (fl .1) (λ j k f g a b h. n (suc j) (suc k) f g (there a) (there b) (omega arith)))
 
 -- what a walk says of the entries
 

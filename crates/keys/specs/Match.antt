@@ -2,7 +2,7 @@
 -- Only the family's bytes of an address are looked at, whatever prefix length an entry has: `fixed`. The family is compared and no more,
 -- so that a pair of a family other than 4 and 6 matches no entry of any table.
 use Prim.Native.Nat.{ℕ, _*_, max, min}
-use mathlib.Core.Bool.{Bool, true, false, _&&_, _||_}
+use mathlib.Core.Bool.{Bool, true, _&&_, _||_}
 use mathlib.Core.List.{List, [], _∷_}
 use lib.Dec.{leb, eqb}
 use Rattle.wire.specs.Prefix.{agree}
@@ -58,9 +58,10 @@ meeting f a b =
 unfoldable pub meet : ℕ → Side → Side → Bool
 meet f a b = every (meeting f a b)
 
+-- the remote side first: it mostly tells entries apart
 abbrev pub overlapping : Selector → Selector → List Bool
 overlapping a b =
-    eqb (a .family) (b .family) ∷ meet (a .family) (a .local) (b .local) ∷ meet (a .family) (a .remote) (b .remote) ∷ []
+    eqb (a .family) (b .family) ∷ meet (a .family) (a .remote) (b .remote) ∷ meet (a .family) (a .local) (b .local) ∷ []
 
 unfoldable pub overlap : Selector → Selector → Bool
 overlap a b = every (overlapping a b)

@@ -1,16 +1,16 @@
 -- The clash exactly: two entries overlap exactly if a socket pair exists that both match (document 01, "Key table"; RFC 5925, section 3.1), with the pair.
 -- That the pair is one (`IsPair`) is asked of the entries' fields (`Fields`), which every entry that bytes mean has (specs/EntryLaws.antt); nothing else is assumed.
-use Prim.Native.Nat.{ℕ, suc, zero, _*_, _≤_, _<_, max, min}
+use Prim.Native.Nat.{ℕ, _*_, _<_, max, min}
 use mathlib.Core.Bool.{Bool, true, false, cond, _&&_, _||_}
-use mathlib.Core.Path.{_≡_, refl, sym, ap, _∙_}
+use mathlib.Core.Path.{_≡_, refl, sym, _∙_}
 use mathlib.Core.List.{List, [], _∷_}
 use mathlib.Core.Logic.{_⊎_, inl, inr, ⊎-elim}
 use native.Mathlib.Omega.{arith}
 use lib.ListN.{length, getD}
 use lib.Dec.{leb, eqb}
-use borrow.Author.Tests.{eq-eqb, ne-eqb, eqb-true, le-leb, leb-true, leb-false}
+use borrow.Author.Tests.{eq-eqb, eqb-true, le-leb, leb-true, leb-false}
 use Rattle.wire.specs.Prefix.{agree}
-use Rattle.wire.specs.PrefixLaws.{agree-refl, agree-sym, agree-less, agree-meet}
+use Rattle.wire.specs.PrefixLaws.{agree-refl, agree-sym, agree-meet}
 use Rattle.keys.specs.Entry.{width}
 use Rattle.keys.specs.Match.{every, fixed, holding, holds, matching, matches, sameness, samePair, meeting, meet, overlapping, overlap, share, clash}
 use Rattle.keys.specs.declared.entry.Side.{Side}
@@ -141,24 +141,6 @@ module _ (f : ℕ) (a b : Side) where
 -- both sides
 
 module _ (s r : Selector) where
-  -- a pair that both match is a reason to overlap
-  pub overlap-found : (p : Pair) → matches s p ≡ true → matches r p ≡ true → overlap s r ≡ true
-  unfolding matches overlap
-  overlap-found p ms mr =
-      let a = every-true (matching s p) ms in
-      let b = every-true (matching r p) mr in
-      let k : r .family ≡ s .family = eqb-true _ _ (b .0) ∙ sym (eqb-true _ _ (a .0)) in
-      true-every (overlapping s r) (
-        eq-eqb _ _ (sym k),
-        (
-          meet-found (s .family) (s .local) (r .local) (p .«local_port») (p .local) (a .1 .0) (rw k at (b .1 .0)),
-          (
-            meet-found (s .family) (s .remote) (r .remote) (p .«remote_port») (p .remote) (a .1 .1 .0) (rw k at (b .1 .1 .0)),
-            tt,
-          ),
-        ),
-      )
-
   -- the pair that two overlapping entries both match
   abbrev pub witness : Pair
   witness =
@@ -175,8 +157,8 @@ module _ (s r : Selector) where
   overlap-matches e =
       let o = every-true (overlapping s r) e in
       let k : s .family ≡ r .family = eqb-true _ _ (o .0) in
-      let l = meet-holds (s .family) (s .local) (r .local) (o .1 .0) in
-      let m = meet-holds (s .family) (s .remote) (r .remote) (o .1 .1 .0) in (
+      let l = meet-holds (s .family) (s .local) (r .local) (o .1 .1 .0) in
+      let m = meet-holds (s .family) (s .remote) (r .remote) (o .1 .0) in (
         true-every (matching s witness) (eq-eqb (s .family) (s .family) refl, (l .0, (m .0, tt))),
         true-every (matching r witness) (eq-eqb _ _ (sym k), (rw (sym k) (l .1), (rw (sym k) (m .1), tt))),
       )
@@ -194,6 +176,24 @@ module _ (s r : Selector) where
         local-octets = l .2;
         remote-octets = m .2;
       }
+
+  -- a pair that both match is a reason to overlap
+  pub overlap-found : (p : Pair) → matches s p ≡ true → matches r p ≡ true → overlap s r ≡ true
+  unfolding matches overlap
+  overlap-found p ms mr =
+      let a = every-true (matching s p) ms in
+      let b = every-true (matching r p) mr in
+      let k : r .family ≡ s .family = eqb-true _ _ (b .0) ∙ sym (eqb-true _ _ (a .0)) in
+      true-every (overlapping s r) (
+        eq-eqb _ _ (sym k),
+        (
+          meet-found (s .family) (s .remote) (r .remote) (p .«remote_port») (p .remote) (a .1 .1 .0) (rw k at (b .1 .1 .0)),
+          (
+            meet-found (s .family) (s .local) (r .local) (p .«local_port») (p .local) (a .1 .0) (rw k at (b .1 .0)),
+            tt,
+          ),
+        ),
+      )
 
 -- entries
 

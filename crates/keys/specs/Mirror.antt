@@ -1,5 +1,4 @@
 -- Entries that mirror each other: document 01, "Key table (house bytes)", "Two entries mirror each other on a connection if ..".
-use Prim.Native.Nat.{ℕ}
 use mathlib.Core.Bool.{true}
 use mathlib.Core.Path.{_≡_}
 use Rattle.keys.specs.Entry.{keyOf}

@@ -1,7 +1,7 @@
 -- Laws of mirrored entries: seen from the other end they are mirrored too, and only the socket pair counts.
 use mathlib.Core.Bool.{true}
 use mathlib.Core.Path.{_≡_, refl, sym, _∙_}
-use Rattle.keys.specs.Match.{matches, sameness, samePair}
+use Rattle.keys.specs.Match.{sameness, samePair}
 use Rattle.keys.specs.MatchLaws.{every-true, true-every, matches-same}
 use Rattle.keys.specs.Mirror.{exchanged, Mirror}
 use Rattle.keys.specs.declared.entry.Entry.{Entry}

@@ -1,24 +1,25 @@
 -- What a search of a valid table finds: at most one entry answers a pair and an ID, and where one does, the search gives it.
 -- Also what every entry of a valid table has. Of any bytes, with no assumption beside those written.
-use Prim.Native.Nat.{ℕ, zero, suc, _+_, _*_, _≤_, _<_}
-use mathlib.Core.Bool.{Bool, true, false, cond, not, _&&_, _||_}
+use Prim.Native.Nat.{ℕ, suc, _+_, _*_, _≤_, _<_}
+use mathlib.Core.Bool.{Bool, true, false, _||_}
 use mathlib.Core.Path.{_≡_, refl, sym, ap, _∙_, subst}
 use mathlib.Core.List.{List, [], _∷_}
 use mathlib.Core.Logic.{_⊎_, inl, inr, ⊎-elim}
 use native.Mathlib.Omega.{arith}
 use native.Mathlib.Nat.{add-zero, eq-or-lt-of-le}
 use lib.ListN.{length, drop}
-use lib.Dec.{eqb, ltb}
-use borrow.Author.Tests.{eq-eqb, eqb-true, eqb-false, ltb-true, ltb-false, not-false}
+use lib.Dec.{ltb}
+use borrow.Author.Tests.{eq-eqb, eqb-true, ltb-true, ltb-false, not-false}
 use Rattle.wire.specs.Prefix.{clearPast}
 use Rattle.keys.specs.Algorithm.{macBytes}
 use Rattle.keys.specs.Entry.{width, entries}
-use Rattle.keys.specs.EntryLaws.{Each, Shape, entries-shape}
+use Rattle.keys.specs.EntryLaws.{Shape, entries-shape}
 use Rattle.keys.specs.Match.{matches, clash}
 use Rattle.keys.specs.MatchLaws.{and-true, Family, clash-of}
-use Rattle.keys.specs.Table.{zeros, loaded, ValidTable, nobody, found, anyOf, hasId, answers, sendEntry, recvEntry, anyEntry, maxEntries}
-use Rattle.keys.specs.LoadLaws.{At, here, there, each-at, at-same, Formed, Apart, apart-at, valid-formed}
-use Rattle.keys.specs.declared.entry.Side.{Side}
+use Rattle.keys.specs.Table.{zeros, ValidTable, nobody, found, anyOf, hasId, answers, sendEntry, recvEntry, anyEntry, maxEntries}
+use Rattle.keys.specs.LineLaws.{Formed}
+use Rattle.keys.specs.PlaceLaws.{At, here, there, each-at, Apart, apart-at}
+use Rattle.keys.specs.LoadLaws.{valid-formed}
 use Rattle.keys.specs.declared.entry.Ids.{Ids}
 use Rattle.keys.specs.declared.entry.Entry.{Entry}
 use Rattle.keys.specs.declared.entry.Pair.{Pair}

@@ -1,8 +1,6 @@
 // The two algorithms of RFC 5926 and their fixed numbers: document 01, "Traffic keys", "Each algorithm has its own fixed numbers".
 // An algorithm that is not listed has 0 for each, and no valid table holds one.
 ghost use mathlib.Core.Path.{_≡_};
-ghost use mathlib.Core.Bool.{cond};
-ghost use lib.Dec.{eqb};
 ghost use Rattle.keys.specs.Algorithm.{trafficKeyBytes, macBytes, outputBits};
 
 // Algorithm 1.

@@ -3,5 +3,5 @@
 pub mod algorithm;
 pub mod entry;
 pub mod matching;
-pub mod numbers;
+mod numbers;
 pub mod table;

@@ -1,12 +1,15 @@
 // Whom an entry matches, and when two overlap: document 01, "Key table (house bytes)". Only the family's bytes of an address are looked at.
-// Assumes nothing: every value of the types is an input.
+// Every value of the types is an input. Where an entry is read from its bytes, it is there whole.
 ghost use mathlib.Core.Path.{_≡_};
-ghost use Prim.Native.Nat.{max, min};
-ghost use Rattle.keys.specs.Match.{fixed, holds, matches as matchesOf, samePair, meet, overlap, share};
+ghost use Prim.Native.Nat.{_+_, _≤_, max, min};
+ghost use lib.ListN.{length, getD};
+ghost use Rattle.keys.specs.Entry.{size, width, sideOf, selectorOf};
+ghost use Rattle.keys.specs.Match.{fixed, holds, matches as matchesOf, meet, overlap, share};
 use crate::entry::Ids;
 use crate::entry::Pair;
 use crate::entry::Selector;
 use crate::entry::Side;
+use crate::entry::width_of;
 
 fn larger(a: u16, b: u16) -> u16
     ensures { λ r. ⌜ r ≡ max a b ⌝ }
@@ -66,30 +69,35 @@ pub fn matches(s: Selector, p: Pair) -> bool
     side_holds(s.family, s.remote, p.remote_port, b)
 }
 
-// Two sides have a port and an address in common.
-fn sides_meet(family: u8, a: Side, b: Side) -> bool
-    ensures { λ r. ⌜ r ≡ meet family a b ⌝ }
+// Whether a side of an entry, read from its bytes, has a port and an address in common with another side.
+// Its ports stand at `ports`, its address at `at`. Nothing is copied: the loader asks this of many pairs.
+fn side_meets(e: &[u8], family: u8, ports: usize, at: usize, b: Side) -> bool
+    requires { ⌜ (ports + 4 ≤ length (now e)) × (at + width family + 1 ≤ length (now e)) ⌝ }
+    ensures { λ r. ⌜ r ≡ meet family (sideOf (width family) ports at (now (e .entry))) b ⌝ }
 {
-    if smaller(a.high, b.high) < larger(a.low, b.low) {
+    if smaller(octets::load16(e, ports + 2), b.high) < larger(octets::load16(e, ports), b.low) {
         return false;
     }
-    let x = a.address;
     let y = b.address;
-    let n = shorter(fixed_bits(family, a.bits), fixed_bits(family, b.bits));
-    wire::prefix::agrees(&x, &y, n)
+    let x = fixed_bits(family, e[at + width_of(family)]);
+    let n = shorter(x, fixed_bits(family, b.bits));
+    wire::prefix::agrees(&e[at..], &y, n)
 }
 
-// Some socket pair is matched by both.
-pub(crate) fn overlaps(a: Selector, b: Selector) -> bool
-    ensures { λ r. ⌜ r ≡ overlap a b ⌝ }
+// Some socket pair is matched by the entry whose bytes begin with e's, and by b.
+pub(crate) fn overlaps(e: &[u8], b: Selector) -> bool
+    requires { ⌜ size (getD (now e) 0 0) ≤ length (now e) ⌝ }
+    ensures { λ r. ⌜ r ≡ overlap (selectorOf (width (getD (now (e .entry)) 0 0)) (now (e .entry))) b ⌝ }
 {
-    if a.family != b.family {
+    let family = e[0];
+    let other = b.family;
+    if family != other {
         return false;
     }
-    if !sides_meet(a.family, a.local, b.local) {
+    if !side_meets(e, family, 9, 14 + width_of(family), b.remote) {
         return false;
     }
-    sides_meet(a.family, a.remote, b.remote)
+    side_meets(e, family, 5, 13, b.local)
 }
 
 pub(crate) fn shares(a: Ids, b: Ids) -> bool

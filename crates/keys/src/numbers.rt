@@ -1,7 +1,6 @@
 // What is wrong with an entry by itself: the numbers 13 to 16 of document 01, "Numbers given back".
 // Assumes nothing: every value of the types is an input. 0 says that no number applies.
 ghost use mathlib.Core.Path.{_≡_};
-ghost use Prim.Native.Nat.{_≤_};
 ghost use mathlib.Core.List.{_++_};
 ghost use lib.ListN.{drop};
 ghost use Rattle.keys.specs.Table.{first, zeros, secretLines, portLines, sideLines, keyLines, entryLines};

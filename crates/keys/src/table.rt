@@ -4,8 +4,7 @@ ghost use mathlib.Core.Path.{_≡_};
 ghost use mathlib.Core.Bool.{_&&_};
 ghost use Prim.Native.Nat.{_+_, _≤_, _<_};
 ghost use lib.ListN.{length, take, getD};
-ghost use Rattle.keys.specs.Entry.{size, sound, entries};
-ghost use Rattle.keys.specs.EntryLaws.{itemAt};
+ghost use Rattle.keys.specs.Entry.{size, itemAt, sound, entries};
 ghost use Rattle.keys.specs.Match.{share, overlap};
 ghost use Rattle.keys.specs.Table.{first, itemLines, clashing, loaded, checked, nobody, found, hasId, answers, sendEntry, recvEntry, anyEntry};
 use crate::entry::Entry;
@@ -64,7 +63,7 @@ fn clash_at(table: &[u8], at: usize, ids: Ids, selector: Selector) -> bool
     if !crate::matching::shares(ids_of(&table[at..]), ids) {
         return false;
     }
-    crate::matching::overlaps(selector_of(&table[at..]), selector)
+    crate::matching::overlaps(&table[at..], selector)
 }
 
 // Whether one of the first i entries clashes with e.

@@ -14,7 +14,7 @@ use Rattle.keys.specs.declared.entry.Entry.{Entry}
 use Rattle.keys.specs.Entry.{known, width, padded, entries}
 use Rattle.keys.specs.EntryLaws.{width-le}
 use Rattle.keys.specs.MatchLaws.{and-true}
-use Rattle.keys.specs.LoadLaws.{At as EntryAt}
+use Rattle.keys.specs.PlaceLaws.{At as EntryAt}
 use Rattle.keys.specs.Mirror.{Mirror}
 use Rattle.keys.specs.Table.{ValidTable, recvEntry}
 use Rattle.keys.specs.SearchLaws.{hit, recv-found, send-holder}

@@ -10,7 +10,7 @@ use Rattle.keys.specs.declared.entry.Pair.{Pair}
 use Rattle.keys.specs.declared.entry.Entry.{Entry}
 use Rattle.keys.specs.Entry.{known, entries}
 use Rattle.keys.specs.Table.{ValidTable, recvEntry}
-use Rattle.keys.specs.LoadLaws.{At as EntryAt}
+use Rattle.keys.specs.PlaceLaws.{At as EntryAt}
 use Rattle.keys.specs.Mirror.{Mirror}
 use Rattle.rules.specs.declared.Place.the-variants.{At}
 use Rattle.rules.specs.declared.Line.{Line}

@@ -10,7 +10,7 @@ use Rattle.wire.specs.Options.{optionsOf, readFrom}
 use Rattle.keys.specs.declared.entry.Entry.{Entry}
 use Rattle.keys.specs.Algorithm.{macBytes}
 use Rattle.keys.specs.Entry.{known, body, width, sideOf, selectorOf, idsOf, secretOf, entryOf, item, items, entriesOf, entries}
-use Rattle.keys.specs.LoadLaws as Places
+use Rattle.keys.specs.PlaceLaws as Places
 use Rattle.keys.specs.Match.{holds, matches, share, clash}
 use Rattle.keys.specs.Table.{first, clashing, judged, loaded, found, answers}
 use Rattle.rules.specs.declared.Line.{Line}

@@ -11,15 +11,15 @@ use Rattle.rules.specs.declared.Outcome.the-variants.{Good}
 use Rattle.rules.specs.Numbers.{Test, first}
 use Rattle.rules.specs.NumberLaws.{eachGives, first-append}
 use Rattle.rules.specs.Calls.{unrefused, refusal}
-use Rattle.tcpao.proofs.Joined.{isFinal, Else, decided, past, none}
+use Rattle.tcpao.proofs.Joined.{isFinal, Else, decided, behind}
 
 -- a group that gave a number gives it whatever stands behind
 pub stop : (a : List (Test Outcome)) (y : Outcome) {z : Outcome} → z ≡ first a unrefused → Else z → z ≡ first a y
-stop a y e h = decided a e [] y h ∙ first-append a [] y
+stop a y e h = decided a [] y e h ∙ first-append a [] y
 
 -- one that gave none leaves it to what stands behind
 pub pass : (a : List (Test Outcome)) {z w y : Outcome} {x r : ℕ} → eachGives isFinal a ≡ true → z ≡ first a unrefused → z ≡ Good x r → w ≡ y → w ≡ first a y
-pass a {y = y} f e g q = past a [] y (none a e f g) q ∙ first-append a [] y
+pass a {y = y} f e g q = behind a [] y e f g q ∙ first-append a [] y
 
 -- the table's numbers are refusals
 pub final-refusal : (c : Loaded) → isFinal (refusal c) ≡ true

@@ -1,16 +1,16 @@
 -- What is known behind each group of tests, and the arriving segment's pair, flow and entry. Assumes nothing.
 use Prim.Native.Nat.{ℕ, _-_, _≤_}
-use mathlib.Core.Path.{_≡_, refl, sym, ap, _∙_}
-use mathlib.Core.Bool.{Bool, true, false, cond, _&&_, _||_}
-use mathlib.Core.List.{List, [], _∷_, _++_}
+use mathlib.Core.Path.{_≡_, refl, _∙_}
+use mathlib.Core.Bool.{Bool, true, false, cond, _&&_}
+use mathlib.Core.List.{List}
 use mathlib.Core.Logic.{_⊎_, inl, inr, ⊎-elim}
 use native.Mathlib.Omega.{arith}
-use lib.ListN.{length, take, replicate}
+use lib.ListN.{length, replicate}
 use lib.Seq.{take-at}
 use lib.Dec.{eqb}
 use borrow.Author.Tests.{eqb-true, not-false}
 use Rattle.wire.specs.Header.{sourcePort, destinationPort, sequence, wellSized}
-use Rattle.keys.specs.Entry.{width, padded}
+use Rattle.keys.specs.Entry.{width}
 use Rattle.keys.specs.Table.{checked, nobody, recvEntry}
 use Rattle.keys.specs.MatchLaws.{or-true, and-true}
 use Rattle.keys.specs.SearchLaws.{valid-proper, recv-holder, recv-nobody}
@@ -21,14 +21,12 @@ use Rattle.keys.specs.declared.table.Loaded.the-variants.{Valid, Refused}
 use Rattle.rules.specs.declared.Line.{Line}
 use Rattle.rules.specs.declared.Place.{Place}
 use Rattle.rules.specs.declared.Outcome.{Outcome}
-use Rattle.rules.specs.declared.Outcome.the-variants.{Good}
 use Rattle.rules.specs.Numbers.{first}
 use Rattle.rules.specs.NumberLaws.{NoneApplies, eachGives}
 use Rattle.rules.specs.Mac.{Flow}
-use Rattle.rules.specs.Segment.{rnextKeyId}
-use Rattle.rules.specs.Connection.{sized, pairOf, arrivalPair, arrivingSyn, localAddress, remoteAddress, value}
+use Rattle.rules.specs.Connection.{sized, arrivalPair, arrivingSyn}
 use Rattle.rules.specs.Calls.{isRefused, refusal, keyTests}
-use Rattle.tcpao.specs.Groups.{inputTests, stateTests, formTests}
+use Rattle.tcpao.specs.Groups.{inputTests, stateTests, formTests, goodAt}
 use Rattle.tcpao.specs.Arriving.{arrivingOn}
 use Rattle.tcpao.proofs.Joined.{isFinal}
 
@@ -68,8 +66,8 @@ module _ (t : List ℕ) (p : Pair) (id : ℕ) where
 
 -- 25 to 29 by values that are equal to the definitions'
 pub keyed-is : (s : List ℕ) {missing m unknown u : Outcome} {found e : Found} {g f : Flow} {place x : Place} → missing ≡ m → unknown ≡ u → found ≡ e → g ≡ f → place ≡ x → {r : Outcome}
-    → r ≡ first (keyTests missing unknown found g place s) (Good (value place) (rnextKeyId s)) → r ≡ first (keyTests m u e f x s) (Good (value x) (rnextKeyId s))
-keyed-is s pm pu pe pf px q = q ∙ (λ i. first (keyTests (pm i) (pu i) (pe i) (pf i) (px i) s) (Good (value (px i)) (rnextKeyId s)))
+    → r ≡ first (keyTests missing unknown found g place s) (goodAt place s) → r ≡ first (keyTests m u e f x s) (goodAt x s)
+keyed-is s pm pu pe pf px q = q ∙ (λ i. first (keyTests (pm i) (pu i) (pe i) (pf i) (px i) s) (goodAt (px i) s))
 
 -- addresses of one size
 module _ (a b : List ℕ) (e : sized a b ≡ true) where

@@ -1,7 +1,7 @@
 -- What the tests of a segment's form come to: 20, 21 and 22 (30 when signing is 20 by another number). Assumes nothing.
 use Prim.Native.Nat.{ℕ}
 use mathlib.Core.Path.{_≡_, refl, sym, ap, _∙_}
-use mathlib.Core.Bool.{Bool, true, false, cond, _&&_}
+use mathlib.Core.Bool.{Bool, true, false, _&&_}
 use mathlib.Core.List.{List, [], _∷_, _++_}
 use native.Mathlib.Omega.{arith}
 use lib.Dec.{ltb}
@@ -9,9 +9,7 @@ use borrow.Author.Tests.{not-true, not-false}
 use Rattle.wire.specs.Tests.{any}
 use Rattle.wire.specs.Header.{sizeFaults, wellSized, area}
 use Rattle.wire.specs.Options.{optionsOf, isMalformed, aoIn, md5In}
-use Rattle.wire.specs.declared.options.Seen.{Seen}
 use Rattle.wire.specs.declared.options.Options.{Options}
-use Rattle.wire.specs.declared.options.Options.the-variants.{Malformed, Found}
 use Rattle.rules.specs.declared.Outcome.{Outcome}
 use Rattle.rules.specs.Numbers.{Test, test, tests, first}
 use Rattle.rules.specs.Calls.{refuse, unrefused, lengthTests, optionTests}

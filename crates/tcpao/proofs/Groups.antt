@@ -1,6 +1,6 @@
 -- `check` and `checkSyn` as the code takes them: group after group, then the tests by key. Assumes nothing.
 use Prim.Native.Nat.{ℕ}
-use mathlib.Core.Path.{_≡_, refl, ap, _∙_}
+use mathlib.Core.Path.{_≡_, ap, _∙_}
 use mathlib.Core.Bool.{Bool}
 use mathlib.Core.List.{List, _++_}
 use Rattle.wire.specs.Header.{sequence}
@@ -9,14 +9,13 @@ use Rattle.keys.specs.Table.{recvEntry}
 use Rattle.rules.specs.declared.Line.{Line}
 use Rattle.rules.specs.declared.Place.the-variants.{At}
 use Rattle.rules.specs.declared.Outcome.{Outcome}
-use Rattle.rules.specs.declared.Outcome.the-variants.{Good}
 use Rattle.rules.specs.Numbers.{Test, first}
 use Rattle.rules.specs.NumberLaws.{NoneApplies}
 use Rattle.rules.specs.Mac.{Flow}
-use Rattle.rules.specs.Segment.{keyId, rnextKeyId}
-use Rattle.rules.specs.Connection.{Arrival, arrivalPair, arriving, arrivingSyn, placeOn, value}
-use Rattle.rules.specs.Calls.{refuse, unrefused, keyTests, synTests, synMissing, synUnknown, check, checkSyn}
-use Rattle.tcpao.specs.Groups.{inputTests, stateTests, formTests, arrivalTests}
+use Rattle.rules.specs.Segment.{keyId}
+use Rattle.rules.specs.Connection.{Arrival, arrivalPair, arrivingSyn, placeOn}
+use Rattle.rules.specs.Calls.{unrefused, keyTests, synTests, synMissing, synUnknown, check, checkSyn}
+use Rattle.tcpao.specs.Groups.{inputTests, stateTests, formTests, arrivalTests, keyedTests, synKeyedTests, goodAt}
 use Rattle.tcpao.specs.Arriving.{arrivingOn}
 use Rattle.tcpao.proofs.Joined.{Else, decided, past}
 use Rattle.tcpao.proofs.Checks.{input-sized, flow-back}
@@ -24,13 +23,13 @@ use Rattle.tcpao.proofs.Checks.{input-sized, flow-back}
 -- three groups before the last
 module _ (a b c d : List (Test Outcome)) (o : Outcome) {x : Outcome} where
   first-group : x ≡ first a unrefused → Else x → x ≡ first (a ++ (b ++ (c ++ d))) o
-  first-group g e = decided a g (b ++ (c ++ d)) o e
+  first-group g e = decided a (b ++ (c ++ d)) o g e
 
   second-group : NoneApplies a → x ≡ first b unrefused → Else x → x ≡ first (a ++ (b ++ (c ++ d))) o
-  second-group n g e = past a (b ++ (c ++ d)) o n (decided b g (c ++ d) o e)
+  second-group n g e = past a (b ++ (c ++ d)) o n (decided b (c ++ d) o g e)
 
   third-group : NoneApplies a → NoneApplies b → x ≡ first c unrefused → Else x → x ≡ first (a ++ (b ++ (c ++ d))) o
-  third-group n m g e = past a (b ++ (c ++ d)) o n (past b (c ++ d) o m (decided c g d o e))
+  third-group n m g e = past a (b ++ (c ++ d)) o n (past b (c ++ d) o m (decided c d o g e))
 
   last-group : NoneApplies a → NoneApplies b → NoneApplies c → x ≡ first d o → x ≡ first (a ++ (b ++ (c ++ d))) o
   last-group n m k q = past a (b ++ (c ++ d)) o n (past b (c ++ d) o m (past c d o k q))
@@ -41,10 +40,10 @@ module _ (t : List ℕ) (l : Line) (reference : ℕ) (a : Arrival) where
   before = stateTests t (a .source) (a .destination) l
 
   abbrev keyed : List (Test Outcome)
-  keyed = keyTests (refuse 25) (refuse 26) (recvEntry t (l .pair) (keyId (a .segment))) (arriving l (a .segment)) (placeOn l reference (sequence (a .segment))) (a .segment)
+  keyed = keyedTests t l reference (a .segment)
 
   abbrev answer : Outcome
-  answer = Good (value (placeOn l reference (sequence (a .segment)))) (rnextKeyId (a .segment))
+  answer = goodAt (placeOn l reference (sequence (a .segment))) (a .segment)
 
   module _ {x : Outcome} where
     pub check-state : x ≡ first before unrefused → Else x → x ≡ check t l reference a
@@ -69,6 +68,7 @@ module _ (t : List ℕ) (a : Arrival) (strict : Bool) where
   abbrev synBefore : List (Test Outcome)
   synBefore = inputTests t (a .source) (a .destination)
 
+  -- by the definition the flow of a bare SYN is made of the arrival itself
   abbrev synKeyed : Pair → Flow → List (Test Outcome)
   synKeyed p f = keyTests (synMissing t p) (synUnknown strict) (recvEntry t p (keyId (a .segment))) f (At (sequence (a .segment))) (a .segment)
 
@@ -76,7 +76,7 @@ module _ (t : List ℕ) (a : Arrival) (strict : Bool) where
   synAll = synKeyed (arrivalPair a) (arrivingSyn a)
 
   abbrev synAnswer : Outcome
-  synAnswer = Good (sequence (a .segment)) (rnextKeyId (a .segment))
+  synAnswer = goodAt (At (sequence (a .segment))) (a .segment)
 
   module _ {x : Outcome} where
     pub syn-input : x ≡ first synBefore unrefused → Else x → x ≡ checkSyn t a strict
@@ -94,7 +94,7 @@ module _ (t : List ℕ) (a : Arrival) (strict : Bool) where
 
       -- the code has the pair p, and the flow from it
       pub syn-keyed : NoneApplies (formTests (a .segment)) → NoneApplies (synTests (a .segment)) → {p : Pair} → p ≡ arrivalPair a
-          → x ≡ first (synKeyed p (arrivingOn p (sequence (a .segment)) 0)) synAnswer → x ≡ checkSyn t a strict
+          → x ≡ first (synKeyedTests t p strict (a .segment)) synAnswer → x ≡ checkSyn t a strict
       unfolding checkSyn
       syn-keyed m k e q =
           let flow = ap (λ (p : Pair). arrivingOn p (sequence (a .segment)) 0) e ∙ flow-back (a .source) (a .destination) (input-sized t (a .source) (a .destination) n) (a .segment) in

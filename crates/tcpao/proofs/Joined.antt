@@ -49,12 +49,17 @@ final-kept (t ∷ a) o p e f = go (t .applies) refl (final-kept a o p)
 pub past : (a b : List (Test Outcome)) (o : Outcome) → NoneApplies a → {z : Outcome} → z ≡ first b o → z ≡ first (a ++ b) o
 past a b o n q = q ∙ sym (first-append a b o ∙ first-none a (first b o) n)
 
--- the code asks a group by itself, and goes on where it gives Good
-module _ (a : List (Test Outcome)) {x : Outcome} (gave : x ≡ first a unrefused) where
-  -- the group's number is given
-  pub decided : (b : List (Test Outcome)) (o : Outcome) → Else x → x ≡ first (a ++ b) o
-  decided b o e = gave ∙ final-kept a unrefused (first b o) (ap isFinal (sym gave) ∙ else-final x e) refl ∙ sym (first-append a b o)
+-- the code asks a group by itself. Where it gives Good, no test of it applies, if there is no Good among its outcomes
+pub passed : (a : List (Test Outcome)) {x : Outcome} → x ≡ first a unrefused → eachGives isFinal a ≡ true → {p r : ℕ} → x ≡ Good p r → NoneApplies a
+passed a gave f e = none-applied isFinal a unrefused f (ap isFinal (sym gave ∙ e))
 
-  -- the group gives none, if it has no Good among its outcomes
+module _ (a b : List (Test Outcome)) (o : Outcome) {x : Outcome} (gave : x ≡ first a unrefused) where
+  -- else the group's number is given
+  pub decided : Else x → x ≡ first (a ++ b) o
+  decided e = gave ∙ final-kept a unrefused (first b o) (ap isFinal (sym gave) ∙ else-final x e) refl ∙ sym (first-append a b o)
+
   pub none : eachGives isFinal a ≡ true → {p r : ℕ} → x ≡ Good p r → NoneApplies a
-  none f e = none-applied isFinal a unrefused f (ap isFinal (sym gave ∙ e))
+  none f e = passed a gave f e
+
+  pub behind : eachGives isFinal a ≡ true → {p r : ℕ} → x ≡ Good p r → {z : Outcome} → z ≡ first b o → z ≡ first (a ++ b) o
+  behind f e q = past a b o (none f e) q

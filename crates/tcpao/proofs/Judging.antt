@@ -16,14 +16,12 @@ use Rattle.rules.specs.declared.Outcome.the-variants.{Good, Passed, Bad}
 use Rattle.rules.specs.declared.Verdict.{Verdict}
 use Rattle.rules.specs.declared.Line.{Line}
 use Rattle.rules.specs.declared.State.{State}
-use Rattle.rules.specs.declared.Judged.{Judged}
-use Rattle.rules.specs.declared.Checked.{Checked}
-use Rattle.rules.specs.NumberLaws.{NoneApplies, first-none, eachGives, none-applied}
+use Rattle.rules.specs.NumberLaws.{first-none, eachGives, none-applied}
 use Rattle.rules.specs.JudgeLaws.{none-of}
-use Rattle.rules.specs.Segment.{keyId, rnextKeyId}
-use Rattle.rules.specs.Connection.{Arrival, sized, arrivalPair, isOpen, placeOn, value, available, nextKey, opened, empty}
+use Rattle.rules.specs.Segment.{keyId}
+use Rattle.rules.specs.Connection.{Arrival, sized, arrivalPair, available, nextKey, opened, empty}
 use Rattle.rules.specs.Calls.{refuse, synMissing, synUnknown, judgeTests, check, judgeSynTests, checkSyn, verdictOf, indexOf, afterJudging, judgedBy, judged, judgedSyn, openedBy, openedPassively}
-use Rattle.tcpao.specs.Arriving.{AtNumber, Taken, TakenBy}
+use Rattle.tcpao.specs.Arriving.{AtNumber, TakenBy}
 use Rattle.tcpao.proofs.Joined.{yes, no, isFinal, Else}
 use Rattle.tcpao.proofs.Checks.{refusal-final}
 

@@ -24,9 +24,10 @@ use Rattle.rules.specs.declared.Outcome.{Outcome}
 use Rattle.rules.specs.declared.Outcome.the-variants.{Good}
 use Rattle.rules.specs.Numbers.{first}
 use Rattle.rules.specs.Mac.{Flow, segmentMac}
-use Rattle.rules.specs.Segment.{ao, rnextKeyId}
+use Rattle.rules.specs.Segment.{ao}
 use Rattle.rules.specs.Connection.{located, value, extensionOf}
 use Rattle.rules.specs.Calls.{refuse, macDiffers, keyTests}
+use Rattle.tcpao.specs.Groups.{goodAt}
 use Rattle.tcpao.specs.TagLaws.{tagOf, tag-mac}
 use Rattle.tcpao.proofs.Joined.{yes, no}
 
@@ -64,7 +65,7 @@ mac-is secret f extension at s {end} e n q =
 module _ (missing unknown : Outcome) (found : Search) (f : Flow) (x : Place) (s : List ℕ) {o : Occurrence} (is : o ≡ ao s) where
   -- what is given, by document 01
   abbrev Given : Outcome → Type 0
-  Given z = z ≡ first (keyTests missing unknown found f x s) (Good (value x) (rnextKeyId s))
+  Given z = z ≡ first (keyTests missing unknown found f x s) (goodAt x s)
 
   pub given-missing : o .count ≡ 0 → Given missing
   given-missing e = yes _ _ (eq-eqb _ _ (ap (λ (k : Occurrence). k .count) (sym is) ∙ e)) refl
@@ -93,7 +94,7 @@ module _ (missing unknown : Outcome) (found : Search) (f : Flow) (x : Place) (s 
           differs =
               ap not
               (mac
-              ∙ (λ i. sameBytes (take ((cut i)) (drop (20 + is i .at + 4) s)) (segmentMac (found .entry .secret) f ((ext ∙ ap (λ (k : Place). extensionOf (value k)) (sym here)) i) (20 + is i .at) s)))
+              ∙ (λ i. sameBytes (take (cut i) (drop (20 + is i .at + 4) s)) (segmentMac (found .entry .secret) f ((ext ∙ ap (λ (k : Place). extensionOf (value k)) (sym here)) i) (20 + is i .at) s)))
             where
               cut : found .entry .secret .«mac_bytes» ≡ ao s .len - 4
               cut = omega (arith, long, ap (λ (k : Occurrence). k .len) is)

@@ -7,7 +7,7 @@ pub mod TagLaws
 pub mod Layout
 pub mod WordLaws
 pub mod LayoutLaws
-pub mod Groups
 pub mod Arriving
+pub mod Groups
 pub mod SignGroups
 pub mod SignedBytes

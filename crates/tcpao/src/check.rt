@@ -5,11 +5,12 @@ ghost use mathlib.Core.Bool.{true, false, cond};
 ghost use Rattle.wire.specs.Header.{sequence as sequenceOf, wellSized};
 ghost use Rattle.keys.specs.Table.{checked, recvEntry};
 ghost use Rattle.rules.specs.Numbers.{first};
-ghost use Rattle.rules.specs.Segment.{ao, keyId, rnextKeyId};
-ghost use Rattle.rules.specs.Connection.{sized, arrivalPair, isOpen, arriving, placeOn, value};
-ghost use Rattle.rules.specs.Calls.{refuse, isRefused, keyTests, synMissing, synUnknown, check as checkOf, checkSyn};
+ghost use Rattle.rules.specs.Segment.{ao, keyId};
+ghost use Rattle.rules.specs.Connection.{sized, arrivalPair, isOpen, placeOn};
+ghost use Rattle.rules.specs.Calls.{isRefused, synMissing, synUnknown, check as checkOf, checkSyn};
 ghost use Rattle.tcpao.specs.Way.{flowOf};
 ghost use Rattle.tcpao.specs.Arriving.{arrivingOn};
+ghost use Rattle.tcpao.specs.Groups.{keyedTests, synKeyedTests, goodAt};
 use crate::faults::arrival_faults;
 use crate::faults::form_faults;
 use crate::faults::input_faults;
@@ -78,7 +79,7 @@ pub fn entry_for(table: &[u8], pair: Pair, option: Occurrence, segment: &[u8]) -
 // 25 to 29 with a state, on a table that is not refused.
 fn keyed(table: &[u8], segment: &[u8], line: Line, reference: u64) -> Outcome
     requires { ⌜ (isRefused (checked (now table)) ≡ false) × (wellSized (now segment) ≡ true) ⌝ }
-    ensures { λ r. ⌜ r ≡ first (keyTests (refuse 25) (refuse 26) (recvEntry (now (table .entry)) (line .pair) (keyId (now (segment .entry)))) (arriving line (now (segment .entry))) (placeOn line reference (sequenceOf (now (segment .entry)))) (now (segment .entry))) (Outcome.Good (value (placeOn line reference (sequenceOf (now (segment .entry))))) (rnextKeyId (now (segment .entry)))) ⌝ }
+    ensures { λ r. ⌜ r ≡ first (keyedTests (now (table .entry)) line reference (now (segment .entry))) (goodAt (placeOn line reference (sequenceOf (now (segment .entry)))) (now (segment .entry))) ⌝ }
 {
     let pair = line.pair;
     let option = carried(segment);
@@ -159,7 +160,7 @@ pub fn arrival_pair(source: &[u8], destination: &[u8], segment: &[u8]) -> Pair
 // 25 to 29 of a bare SYN without a state. "For a bare SYN .. the destination ISN is zero."
 fn keyed_syn(table: &[u8], segment: &[u8], pair: Pair, strict: bool) -> Outcome
     requires { ⌜ (isRefused (checked (now table)) ≡ false) × (wellSized (now segment) ≡ true) ⌝ }
-    ensures { λ r. ⌜ r ≡ first (keyTests (synMissing (now (table .entry)) pair) (synUnknown strict) (recvEntry (now (table .entry)) pair (keyId (now (segment .entry)))) (arrivingOn pair (sequenceOf (now (segment .entry))) 0) (Place.At (sequenceOf (now (segment .entry)))) (now (segment .entry))) (Outcome.Good (sequenceOf (now (segment .entry))) (rnextKeyId (now (segment .entry)))) ⌝ }
+    ensures { λ r. ⌜ r ≡ first (synKeyedTests (now (table .entry)) pair strict (now (segment .entry))) (goodAt (Place.At (sequenceOf (now (segment .entry)))) (now (segment .entry))) ⌝ }
 {
     let option = carried(segment);
     let found = entry_for(table, pair, option, segment);

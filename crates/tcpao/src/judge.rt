@@ -27,7 +27,7 @@ use rules::Verdict;
 use wire::header::sequence;
 
 // "A verdict is accept with its extension, pass, or drop with a number."
-pub fn verdict_of(o: Outcome) -> Verdict
+fn verdict_of(o: Outcome) -> Verdict
     ensures { λ r. ⌜ r ≡ verdictOf o ⌝ }
 {
     match o {
@@ -38,7 +38,7 @@ pub fn verdict_of(o: Outcome) -> Verdict
 }
 
 // The entry's index beside 10 to 17, else 0.
-pub fn index_of(o: Outcome) -> usize
+fn index_of(o: Outcome) -> usize
     ensures { λ r. ⌜ r ≡ indexOf o ⌝ }
 {
     match o {
@@ -49,7 +49,7 @@ pub fn index_of(o: Outcome) -> usize
 }
 
 // "if RNextKeyID differs from the outgoing SendID, and an entry matching the pair has that SendID, it becomes the outgoing key (7.5.2.e)"
-pub fn next_key(table: &[u8], pair: Pair, rnext: u8, current: u8) -> u8
+fn next_key(table: &[u8], pair: Pair, rnext: u8, current: u8) -> u8
     ensures { λ r. ⌜ r ≡ nextKey (now (table .entry)) pair rnext current ⌝ }
 {
     if rnext == current {

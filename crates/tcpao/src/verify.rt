@@ -3,15 +3,16 @@
 ghost use mathlib.Core.Path.{_≡_};
 ghost use mathlib.Core.Bool.{true};
 ghost use Prim.Native.Nat.{_+_, _≤_};
-ghost use lib.ListN.{length, getD, take, drop};
+ghost use lib.ListN.{length, take, drop};
 ghost use Rattle.wire.specs.Bytes.{sameBytes};
 ghost use Rattle.wire.specs.Header.{headerEnd, wellSized};
 ghost use Rattle.rules.specs.Numbers.{first};
 ghost use Rattle.rules.specs.Mac.{segmentMac};
-ghost use Rattle.rules.specs.Segment.{ao, keyId, rnextKeyId};
-ghost use Rattle.rules.specs.Connection.{value, extensionOf};
+ghost use Rattle.rules.specs.Segment.{ao, keyId};
+ghost use Rattle.rules.specs.Connection.{extensionOf};
 ghost use Rattle.rules.specs.Calls.{keyTests};
 ghost use Rattle.tcpao.specs.Way.{flowOf};
+ghost use Rattle.tcpao.specs.Groups.{goodAt};
 use crate::tag::segment_tag;
 use crate::way::Way;
 use keys::entry::Secret;
@@ -83,7 +84,7 @@ pub fn verified(
     segment: &[u8],
 ) -> Outcome
     requires { ⌜ (option ≡ ao (now segment)) × (wellSized (now segment) ≡ true) × (found .entry .secret .«mac_bytes» ≤ 16) ⌝ }
-    ensures { λ r. ⌜ r ≡ first (keyTests missing unknown found (flowOf way) place (now (segment .entry))) (Outcome.Good (value place) (rnextKeyId (now (segment .entry)))) ⌝ }
+    ensures { λ r. ⌜ r ≡ first (keyTests missing unknown found (flowOf way) place (now (segment .entry))) (goodAt place (now (segment .entry))) ⌝ }
 {
     if option.count == 0 {
         return missing;

@@ -11,7 +11,6 @@ use Rattle.keys.proofs.table.answers_at.Statement.{statement}
 use Rattle.keys.proofs.table.answers_at.Tie as tie
 
 ids-of-requires : tie.Need-ids-of-requires
-unfolding answers
 ids-of-requires c κs =
     let a = c .before .before .args in
     tail-whole (a .table .now) (a .at) (c .before .before .pre)
@@ -23,7 +22,6 @@ returns c =
     and-no _ _ _ (c .before .has-id .ensures ∙ ap (λ (x : Ids). hasId (a .by) x) (ids-at (a .table .now) (a .at) _ (c .before .before .ids-of .ensures))) (not-true _ (c .if1 .taken))
 
 selector-of-requires : tie.Need-selector-of-requires
-unfolding answers
 selector-of-requires c κs =
     let a = c .before .before .before .before .before .before .args in
     tail-whole (a .table .now) (a .at) (c .before .before .before .before .before .before .pre)

@@ -1,3 +1,4 @@
+-- The source of what arrives is our remote side.
 use mathlib.Core.Path.{_∙_}
 use borrow.Author.Needs.{needs}
 use Rattle.rules.specs.Connection.{pairOf}

@@ -1,3 +1,4 @@
+-- One search, by the KeyID that the segment carries.
 use Prim.Native.Nat.{ℕ}
 use mathlib.Core.Path.{ap, _∙_}
 use borrow.Author.Needs.{needs}

@@ -1,3 +1,4 @@
+-- What `verified` is given is what the definition's tests look at.
 use Prim.Native.Nat.{ℕ, _≤_}
 use mathlib.Core.Path.{sym, ap, subst, _∙_}
 use borrow.Author.Needs.{needs}

@@ -1,3 +1,4 @@
+-- By the stage.
 use borrow.Author.Needs.{needs}
 use mathlib.Core.Path.{sym, _∙_}
 use Rattle.tcpao.proofs.check.peer_isn.Statement.{statement}

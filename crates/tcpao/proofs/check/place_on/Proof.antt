@@ -1,3 +1,4 @@
+-- By the stage.
 use borrow.Author.Needs.{needs}
 use mathlib.Core.Path.{refl, sym, _∙_}
 use Rattle.tcpao.proofs.Joined.{yes, no}

@@ -1,3 +1,4 @@
+-- One search.
 use borrow.Author.Needs.{needs}
 use mathlib.Core.Path.{sym, _∙_}
 use Rattle.tcpao.proofs.check.syn_missing.Statement.{statement}

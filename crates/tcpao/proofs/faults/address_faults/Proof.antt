@@ -1,3 +1,4 @@
+-- The sizes, one after the other.
 use borrow.Author.Tests.{eq-eqb, ne-eqb}
 use Rattle.tcpao.proofs.faults.address_faults.Statement.{statement}
 use Rattle.tcpao.proofs.faults.address_faults.Tie as tie

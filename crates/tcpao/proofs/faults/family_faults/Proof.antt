@@ -1,3 +1,4 @@
+-- The families are the kinds 4 and 6.
 use borrow.Author.Tests.{eq-eqb, ne-eqb}
 use Rattle.keys.specs.Entry.{known}
 use Rattle.tcpao.proofs.faults.family_faults.Statement.{statement}

@@ -1,3 +1,4 @@
+-- The size decides; then what the option reader found.
 use borrow.Author.Needs.{needs}
 use mathlib.Core.Path.{refl, sym, _∙_}
 use borrow.Author.Tests.{not-true, not-false}

@@ -1,3 +1,4 @@
+-- SYN, and no ACK.
 use borrow.Author.Needs.{needs}
 use mathlib.Core.Bool.{not}
 use mathlib.Core.Path.{sym, ap, _∙_}

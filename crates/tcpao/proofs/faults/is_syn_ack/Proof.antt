@@ -1,3 +1,4 @@
+-- SYN, and ACK.
 use borrow.Author.Needs.{needs}
 use mathlib.Core.Path.{sym, _∙_}
 use Rattle.tcpao.proofs.faults.is_syn_ack.Statement.{statement}

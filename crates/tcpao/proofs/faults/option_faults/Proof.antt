@@ -1,3 +1,4 @@
+-- The tests, in their order.
 use borrow.Author.Tests.{lt-ltb, le-ltb}
 use native.Mathlib.Omega.{arith}
 use Rattle.tcpao.proofs.faults.option_faults.Statement.{statement}

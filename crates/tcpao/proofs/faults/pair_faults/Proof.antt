@@ -1,3 +1,4 @@
+-- The tests, in their order: both addresses, both ports.
 use borrow.Author.Needs.{needs}
 use borrow.Author.Tests.{eq-eqb, ne-eqb}
 use mathlib.Core.Bool.{not}

@@ -1,3 +1,4 @@
+-- By the stage, then by the flags.
 use borrow.Author.Needs.{needs}
 use mathlib.Core.Path.{sym, _∙_}
 use Rattle.tcpao.proofs.faults.stage_faults.Statement.{statement}

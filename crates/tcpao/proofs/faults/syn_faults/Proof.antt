@@ -1,3 +1,4 @@
+-- One test.
 use borrow.Author.Needs.{needs}
 use mathlib.Core.Path.{sym, _∙_}
 use Rattle.tcpao.proofs.faults.syn_faults.Statement.{statement}

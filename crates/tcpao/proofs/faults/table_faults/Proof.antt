@@ -1,8 +1,6 @@
+-- What the loader answers, as an outcome.
 use borrow.Author.Needs.{needs}
-use mathlib.Core.Path.{sym, ap, _∙_}
-use Rattle.rules.specs.Numbers.{first}
-use Rattle.rules.specs.Calls.{unrefused, isRefused, refusal}
-use Rattle.tcpao.proofs.Joined.{yes, no}
+use mathlib.Core.Path.{sym, _∙_}
 use Rattle.tcpao.proofs.faults.table_faults.Statement.{statement}
 use Rattle.tcpao.proofs.faults.table_faults.Tie as tie
 

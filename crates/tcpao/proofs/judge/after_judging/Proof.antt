@@ -1,3 +1,4 @@
+-- By the outcome.
 use mathlib.Core.Path.{sym, ap, _∙_}
 use borrow.Author.Needs.{needs}
 use Rattle.rules.specs.Calls.{afterJudging}

@@ -1,3 +1,4 @@
+-- By the stage.
 use mathlib.Core.Path.{refl, sym, _∙_}
 use borrow.Author.Needs.{needs}
 use Rattle.tcpao.proofs.Joined.{yes, no}

@@ -1,3 +1,4 @@
+-- The answer and the state, from what `check` gives.
 use borrow.Author.Needs.{needs}
 use Rattle.tcpao.proofs.Judging.{at-number, judged-is}
 use Rattle.tcpao.proofs.judge.judge.Statement.{statement}

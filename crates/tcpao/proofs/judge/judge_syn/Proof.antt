@@ -1,3 +1,4 @@
+-- The answer, from what `check_syn` gives.
 use borrow.Author.Needs.{needs}
 use Rattle.tcpao.proofs.Judging.{syn-is}
 use Rattle.tcpao.proofs.judge.judge_syn.Statement.{statement}

@@ -1,3 +1,4 @@
+-- The key rule, by its two tests.
 use borrow.Author.Needs.{needs}
 use Rattle.tcpao.proofs.Judging.{same-key, other-key}
 use Rattle.tcpao.proofs.judge.next_key.Statement.{statement}

@@ -1,3 +1,4 @@
+-- The answer and the state, from what `check_syn` gives.
 use borrow.Author.Needs.{needs}
 use Rattle.tcpao.proofs.Judging.{taken-by, passively-is}
 use Rattle.tcpao.proofs.judge.open_passive.Statement.{statement}

@@ -1,3 +1,4 @@
+-- Only an acceptance opens.
 use borrow.Author.Needs.{needs}
 use Rattle.keys.specs.Table.{recvEntry}
 use Rattle.rules.specs.Segment.{keyId}

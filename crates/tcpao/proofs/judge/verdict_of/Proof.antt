@@ -1,3 +1,4 @@
+-- By the outcome.
 use borrow.Author.Needs.{needs}
 use mathlib.Core.Path.{sym, ap, _∙_}
 use Rattle.rules.specs.declared.Verdict.the-variants.{Accept}

@@ -1,3 +1,4 @@
+-- What the option reader found.
 use borrow.Author.Needs.{needs}
 use mathlib.Core.Path.{refl}
 use Rattle.wire.specs.declared.options.Options.the-variants.{Malformed, Found}

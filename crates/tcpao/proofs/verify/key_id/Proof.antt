@@ -1,4 +1,5 @@
-use Prim.Native.Nat.{ℕ, _+_}
+-- The option lies inside the header, so its place fits.
+use Prim.Native.Nat.{_+_}
 use mathlib.Core.Path.{ap, _∙_}
 use native.Mathlib.Omega.{arith}
 use borrow.Author.Needs.{needs}

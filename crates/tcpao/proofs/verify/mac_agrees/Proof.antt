@@ -1,4 +1,5 @@
-use Prim.Native.Nat.{ℕ, _+_, _-_}
+-- The tag's first bytes are the segment's MAC (specs/TagLaws); they are compared with those that it carries.
+use Prim.Native.Nat.{_+_, _-_}
 use mathlib.Core.Path.{_≡_, sym, _∙_}
 use native.Mathlib.Omega.{arith}
 use borrow.Author.Needs.{needs}

@@ -1,3 +1,4 @@
+-- The tests 25 to 29, in their order: the laws of Keyed.
 use borrow.Author.Needs.{needs}
 use native.Mathlib.Omega.{arith}
 use Rattle.tcpao.specs.Way.{flowOf}
