@@ -1,0 +1,409 @@
+//! A connection's state and the calls on it. Document 01, "A connection's life".
+
+use crate::answer::{Answer, Refusal, Verdict};
+use crate::raw;
+use crate::table::KeyTable;
+use std::fmt;
+use std::net::{IpAddr, SocketAddr};
+
+/// What a bare SYN gets that has TCP-AO with a KeyID for which the table has no entry.
+#[derive(Clone, Copy, Debug, PartialEq, Eq, Hash)]
+pub enum UnknownKeyId {
+    /// It passes: TCP may go on without TCP-AO.
+    Pass,
+    /// It is dropped with 26.
+    Drop,
+}
+
+impl UnknownKeyId {
+    fn setting(self) -> u8 {
+        match self {
+            UnknownKeyId::Pass => 0,
+            UnknownKeyId::Drop => 1,
+        }
+    }
+}
+
+/// An address as the archive takes it: 4 or 16 bytes.
+struct Octets {
+    bytes: [u8; 16],
+    len: usize,
+}
+
+impl Octets {
+    fn of(address: IpAddr) -> Octets {
+        match address {
+            IpAddr::V4(address) => {
+                let mut bytes = [0; 16];
+                bytes[..4].copy_from_slice(&address.octets());
+                Octets { bytes, len: 4 }
+            }
+            IpAddr::V6(address) => Octets {
+                bytes: address.octets(),
+                len: 16,
+            },
+        }
+    }
+
+    fn as_slice(&self) -> &[u8] {
+        &self.bytes[..self.len]
+    }
+}
+
+/// Judges an arriving bare SYN without a connection. [`Connection::open_passive`] judges it again.
+///
+/// ```
+/// use embankery::{judge_syn, Entry, KeyTable, Refusal, UnknownKeyId, Verdict};
+///
+/// let table = KeyTable::new([&Entry::ipv4().remote([10, 0, 0, 0], 8).key(b"key").build()?])?;
+/// let mut syn = [0; 20];
+/// syn[12] = 0x50; // data offset: five words
+/// syn[13] = 0x02; // SYN
+///
+/// // An entry matches peers from 10.0.0.0/8, so these must sign.
+/// let verdict = judge_syn(&table, [10, 0, 0, 1], [192, 0, 2, 1], &syn, UnknownKeyId::Drop);
+/// assert_eq!(verdict, Verdict::Drop(Refusal::OptionMissing));
+///
+/// // None matches other peers, so TCP may go on without TCP-AO.
+/// let verdict = judge_syn(&table, [192, 0, 2, 9], [192, 0, 2, 1], &syn, UnknownKeyId::Drop);
+/// assert_eq!(verdict, Verdict::Pass);
+/// # Ok::<(), embankery::Refusal>(())
+/// ```
+pub fn judge_syn(
+    table: &KeyTable,
+    source: impl Into<IpAddr>,
+    destination: impl Into<IpAddr>,
+    segment: &[u8],
+    unknown: UnknownKeyId,
+) -> Verdict {
+    Answer(raw::judge_syn(
+        table.as_bytes(),
+        Octets::of(source.into()).as_slice(),
+        Octets::of(destination.into()).as_slice(),
+        segment,
+        unknown.setting(),
+    ))
+    .verdict()
+}
+
+/// One end of a connection: the state that each call is given and changes.
+///
+/// It holds no key; the table goes beside it to each call, and may change between calls. A value is
+/// always a state of IPv4 or IPv6. Copies are apart from each other: of two that both sign, the peer
+/// sees one sender.
+///
+/// ```
+/// use embankery::{Connection, Entry, KeyTable, UnknownKeyId, Verdict};
+/// # fn segment(from: u16, to: u16, number: u32, flags: u8) -> Vec<u8> {
+/// #     let mut bytes = [from.to_be_bytes(), to.to_be_bytes()].concat();
+/// #     bytes.extend(number.to_be_bytes());
+/// #     bytes.extend([0, 0, 0, 0, 0x50, flags, 0, 0, 0, 0, 0, 0]);
+/// #     bytes
+/// # }
+///
+/// let here = ([192, 0, 2, 1], 40_000);
+/// let there = ([192, 0, 2, 2], 179);
+/// let ours = KeyTable::new([&Entry::ipv4().send_id(1).recv_id(2).key(b"key").build()?])?;
+/// let theirs = KeyTable::new([&Entry::ipv4().send_id(2).recv_id(1).key(b"key").build()?])?;
+///
+/// // We open actively and sign our SYN; `segment` has ports, sequence number and flags.
+/// let mut us = Connection::open_active(&ours, here, there, 1_000, 1)?;
+/// let syn = us.sign(&ours, &segment(here.1, there.1, 1_000, 0x02))?;
+///
+/// // The peer opens passively with it and signs its SYN+ACK, which opens our end.
+/// let mut peer =
+///     Connection::open_passive(&theirs, here.0, there.0, &syn, 2_000, UnknownKeyId::Drop)?
+///         .expect("an entry has this KeyID");
+/// let syn_ack = peer.sign(&theirs, &segment(there.1, here.1, 2_000, 0x12))?;
+/// assert!(!us.is_open());
+/// assert_eq!(us.judge(&ours, there.0, here.0, &syn_ack), Verdict::Accept { extension: 0 });
+/// assert!(us.is_open() && peer.is_open());
+/// assert_eq!((us.peer_isn(), us.seen_reference()), (2_000, 2_000));
+/// # Ok::<(), embankery::Refusal>(())
+/// ```
+#[derive(Clone, PartialEq, Eq, Hash)]
+pub struct Connection {
+    bytes: [u8; Connection::BYTES],
+}
+
+// Where the fields stand in a state's bytes.
+const FAMILY: usize = 0;
+const STAGE: usize = 1;
+const SEND_ID: usize = 2;
+const ASKED_ID: usize = 3;
+const LOCAL_PORT: usize = 4;
+const REMOTE_PORT: usize = 6;
+const ISN: usize = 8;
+const PEER_ISN: usize = 12;
+const LOCAL: usize = 16;
+const REMOTE: usize = 32;
+const SENT: usize = 48;
+const SEEN: usize = 56;
+const ACCEPTED: usize = 64;
+const DROPS: usize = 72;
+
+/// The drops that are counted, in the order of their counts.
+const COUNTED: [u8; 10] = [20, 21, 22, 23, 24, 25, 26, 27, 28, 29];
+
+/// No option makes a header longer than by the whole option area.
+const LONGEST_OPTIONS: usize = 40;
+
+impl Connection {
+    /// How many bytes a state has.
+    pub const BYTES: usize = 152;
+
+    /// Opens actively: a bare SYN with the sequence number `isn` may then be signed, under the
+    /// entry that has this SendID. Refused with 35 if no entry that matches has it, with 19 if one
+    /// address is IPv4 and the other IPv6.
+    ///
+    /// ```
+    /// use embankery::{Connection, Entry, KeyTable, Refusal};
+    ///
+    /// let table = KeyTable::new([&Entry::ipv4().send_id(1).recv_id(2).key(b"key").build()?])?;
+    /// let (here, there) = (([10, 0, 0, 1], 40_000), ([10, 0, 0, 2], 179));
+    /// let connection = Connection::open_active(&table, here, there, 1_000, 1)?;
+    /// assert_eq!(connection.asked_id(), 2);
+    /// assert_eq!(Connection::open_active(&table, here, there, 1_000, 7), Err(Refusal::NoEntry));
+    /// # Ok::<(), embankery::Refusal>(())
+    /// ```
+    pub fn open_active(
+        table: &KeyTable,
+        local: impl Into<SocketAddr>,
+        remote: impl Into<SocketAddr>,
+        isn: u32,
+        send_id: u8,
+    ) -> Result<Connection, Refusal> {
+        let (local, remote) = (local.into(), remote.into());
+        let mut bytes = [0; Connection::BYTES];
+        Answer(raw::open_active(
+            table.as_bytes(),
+            Octets::of(local.ip()).as_slice(),
+            Octets::of(remote.ip()).as_slice(),
+            local.port(),
+            remote.port(),
+            isn,
+            send_id,
+            &mut bytes,
+        ))
+        .done()?;
+        Ok(Connection { bytes })
+    }
+
+    /// Opens passively with an arriving bare SYN, which is judged as by [`judge_syn`]; `isn` is our
+    /// own. The SYN+ACK may then be signed. `None` means that the SYN only passed: TCP may go on
+    /// without TCP-AO, and there is no connection here. A SYN that is dropped is an error.
+    pub fn open_passive(
+        table: &KeyTable,
+        source: impl Into<IpAddr>,
+        destination: impl Into<IpAddr>,
+        segment: &[u8],
+        isn: u32,
+        unknown: UnknownKeyId,
+    ) -> Result<Option<Connection>, Refusal> {
+        let mut bytes = [0; Connection::BYTES];
+        let answer = Answer(raw::open_passive(
+            table.as_bytes(),
+            Octets::of(source.into()).as_slice(),
+            Octets::of(destination.into()).as_slice(),
+            segment,
+            isn,
+            unknown.setting(),
+            &mut bytes,
+        ));
+        match answer.verdict() {
+            Verdict::Accept { .. } => Ok(Some(Connection { bytes })),
+            Verdict::Pass => Ok(None),
+            Verdict::Drop(refusal) => Err(refusal),
+        }
+    }
+
+    /// Judges an arriving segment, of which `source` is the peer's address. Acceptance moves the
+    /// arriving direction's reference and may change the outgoing key; a drop changes nothing but,
+    /// once open, its count.
+    pub fn judge(
+        &mut self,
+        table: &KeyTable,
+        source: impl Into<IpAddr>,
+        destination: impl Into<IpAddr>,
+        segment: &[u8],
+    ) -> Verdict {
+        Answer(raw::judge(
+            table.as_bytes(),
+            Octets::of(source.into()).as_slice(),
+            Octets::of(destination.into()).as_slice(),
+            segment,
+            &mut self.bytes,
+        ))
+        .verdict()
+    }
+
+    /// Signs a segment that has neither TCP-AO nor TCP MD5. The result's checksum is zero: the sum
+    /// is the caller's to fill in.
+    pub fn sign(&mut self, table: &KeyTable, segment: &[u8]) -> Result<Vec<u8>, Refusal> {
+        // Longer segments are refused before the output's length matters.
+        let longest = segment.len().min(usize::from(u16::MAX));
+        let mut out = vec![0; longest + LONGEST_OPTIONS];
+        let length = self.sign_into(table, segment, &mut out)?;
+        out.truncate(length);
+        Ok(out)
+    }
+
+    /// Signs as [`sign`](Connection::sign) does, into a buffer, and gives how many bytes it wrote
+    /// at the buffer's front. What stands behind them stays. A buffer that is too short gets 37.
+    ///
+    /// ```
+    /// use embankery::{Connection, Entry, KeyTable, Refusal};
+    ///
+    /// let table = KeyTable::new([&Entry::ipv4().key(b"key").build()?])?;
+    /// let (here, there) = (([10, 0, 0, 1], 1), ([10, 0, 0, 2], 2));
+    /// let mut connection = Connection::open_active(&table, here, there, 0, 0)?;
+    /// let syn = [0, 1, 0, 2, 0, 0, 0, 0, 0, 0, 0, 0, 0x50, 0x02, 0, 0, 0, 0, 0, 0];
+    /// let mut out = [0xAA; 40];
+    /// assert_eq!(connection.sign_into(&table, &syn, &mut out[..35]), Err(Refusal::OutputTooShort));
+    /// assert_eq!(out, [0xAA; 40]);
+    /// assert_eq!(connection.sign_into(&table, &syn, &mut out), Ok(36));
+    /// assert_eq!(out[36..], [0xAA; 4]);
+    /// # Ok::<(), embankery::Refusal>(())
+    /// ```
+    pub fn sign_into(
+        &mut self,
+        table: &KeyTable,
+        segment: &[u8],
+        out: &mut [u8],
+    ) -> Result<usize, Refusal> {
+        let answer = Answer(raw::sign(table.as_bytes(), segment, out, &mut self.bytes));
+        Ok(answer.done()? as usize)
+    }
+
+    /// Asks the peer, in what is signed from now on, to sign under the entry with this RecvID.
+    /// Refused with 35 if no entry that matches has it.
+    pub fn ask(&mut self, table: &KeyTable, recv_id: u8) -> Result<(), Refusal> {
+        Answer(raw::ask(table.as_bytes(), recv_id, &mut self.bytes)).done()?;
+        Ok(())
+    }
+
+    /// The state's bytes, to be kept and read again with [`from_bytes`](Connection::from_bytes).
+    pub fn as_bytes(&self) -> &[u8; Connection::BYTES] {
+        &self.bytes
+    }
+
+    /// A connection from its bytes. Bytes that every call would refuse with 18 are refused with 18:
+    /// those that are not 152, or whose family is neither IPv4 nor IPv6. All others are a state, so
+    /// an old copy is one too: it takes back the references, keys and counts.
+    ///
+    /// ```
+    /// use embankery::{Connection, Refusal};
+    ///
+    /// let mut bytes = [0; Connection::BYTES];
+    /// assert_eq!(Connection::from_bytes(&bytes), Err(Refusal::State));
+    /// bytes[0] = 6;
+    /// assert_eq!(Connection::from_bytes(&bytes)?.as_bytes(), &bytes);
+    /// assert_eq!(Connection::from_bytes(&bytes[1..]), Err(Refusal::State));
+    /// # Ok::<(), embankery::Refusal>(())
+    /// ```
+    pub fn from_bytes(bytes: &[u8]) -> Result<Connection, Refusal> {
+        match <[u8; Connection::BYTES]>::try_from(bytes) {
+            Ok(bytes) if matches!(bytes[FAMILY], 4 | 6) => Ok(Connection { bytes }),
+            _ => Err(Refusal::State),
+        }
+    }
+
+    /// The `N` bytes at a field's place.
+    fn field<const N: usize>(&self, at: usize) -> [u8; N] {
+        let mut field = [0; N];
+        field.copy_from_slice(&self.bytes[at..at + N]);
+        field
+    }
+
+    fn address(&self, at: usize) -> IpAddr {
+        match self.bytes[FAMILY] {
+            4 => IpAddr::from(self.field::<4>(at)),
+            _ => IpAddr::from(self.field::<16>(at)),
+        }
+    }
+
+    /// Our address and port.
+    pub fn local(&self) -> SocketAddr {
+        let port = u16::from_be_bytes(self.field(LOCAL_PORT));
+        SocketAddr::new(self.address(LOCAL), port)
+    }
+
+    /// The peer's address and port.
+    pub fn remote(&self) -> SocketAddr {
+        let port = u16::from_be_bytes(self.field(REMOTE_PORT));
+        SocketAddr::new(self.address(REMOTE), port)
+    }
+
+    /// Whether the connection is open. Before that it is opening: actively, and its SYN+ACK has not
+    /// been accepted yet.
+    pub fn is_open(&self) -> bool {
+        self.bytes[STAGE] == 1
+    }
+
+    /// The SendID of the outgoing key (RFC 5925's current_key).
+    pub fn send_id(&self) -> u8 {
+        self.bytes[SEND_ID]
+    }
+
+    /// The RecvID asked of the peer (RFC 5925's rnext_key).
+    pub fn asked_id(&self) -> u8 {
+        self.bytes[ASKED_ID]
+    }
+
+    /// Our initial sequence number.
+    pub fn isn(&self) -> u32 {
+        u32::from_be_bytes(self.field(ISN))
+    }
+
+    /// The peer's initial sequence number; 0 until it is known.
+    pub fn peer_isn(&self) -> u32 {
+        u32::from_be_bytes(self.field(PEER_ISN))
+    }
+
+    /// The reference of the direction that we sign: the furthest 64-bit position signed.
+    pub fn sent_reference(&self) -> u64 {
+        u64::from_be_bytes(self.field(SENT))
+    }
+
+    /// The reference of the arriving direction: the furthest 64-bit position accepted.
+    pub fn seen_reference(&self) -> u64 {
+        u64::from_be_bytes(self.field(SEEN))
+    }
+
+    /// How many segments were accepted since opening. This and the counts of drops stop at 2^64-1.
+    pub fn accepted(&self) -> u64 {
+        u64::from_be_bytes(self.field(ACCEPTED))
+    }
+
+    /// How many segments were dropped with this number since opening, if it is one of those
+    /// counted: 20 to 29.
+    pub fn dropped(&self, number: u8) -> Option<u64> {
+        let slot = COUNTED.iter().position(|counted| *counted == number)?;
+        Some(u64::from_be_bytes(self.field(DROPS + 8 * slot)))
+    }
+
+    /// The counts of all drops, each beside its number.
+    pub fn drops(&self) -> impl Iterator<Item = (u8, u64)> + '_ {
+        COUNTED
+            .into_iter()
+            .filter_map(|number| Some((number, self.dropped(number)?)))
+    }
+}
+
+impl fmt::Debug for Connection {
+    fn fmt(&self, f: &mut fmt::Formatter) -> fmt::Result {
+        f.debug_struct("Connection")
+            .field("local", &self.local())
+            .field("remote", &self.remote())
+            .field("is_open", &self.is_open())
+            .field("send_id", &self.send_id())
+            .field("asked_id", &self.asked_id())
+            .field("isn", &self.isn())
+            .field("peer_isn", &self.peer_isn())
+            .field("sent_reference", &self.sent_reference())
+            .field("seen_reference", &self.seen_reference())
+            .field("accepted", &self.accepted())
+            .field("drops", &self.drops().collect::<Vec<_>>())
+            .finish()
+    }
+}

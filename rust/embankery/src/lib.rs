@@ -1,0 +1,33 @@
+//! TCP-AO (RFC 5925, RFC 5926) for a program between IP and a small TCP.
+//!
+//! The work is done by the archive `libembankery.a`, in which every function is proved to meet its
+//! contract; this package only turns Rust values into the archive's bytes and its answers into Rust
+//! values. It is not proved, and it has no rule of its own but the two that say so:
+//! [`EntryBuilder::build`] on addresses of two families, [`Connection::from_bytes`] on 18.
+//!
+//! A [`KeyTable`] is made of [`Entry`]s. A [`Connection`] is opened, judges what arrives and signs
+//! what leaves. What a segment gets is a [`Verdict`]; what goes wrong is a [`Refusal`], with the
+//! number of document 01. No call panics, whatever it is given.
+//!
+//! # A first program
+//!
+#![doc = concat!("```\n", include_str!("../../../examples/first.rs"), "```")]
+//!
+//! # What is not promised
+//!
+//! Nothing is promised of how long a call takes. Keys are not wiped from memory. The TCP checksum,
+//! TCP's own rules and the exchange of keys are the caller's.
+
+#![deny(unsafe_code)]
+#![warn(missing_docs)]
+
+mod answer;
+mod connection;
+pub mod mac;
+#[allow(unsafe_code)]
+mod raw;
+mod table;
+
+pub use answer::{Refusal, Verdict};
+pub use connection::{judge_syn, Connection, UnknownKeyId};
+pub use table::{Algorithm, Covered, Entry, EntryBuilder, KeyTable};

@@ -1,0 +1,303 @@
+//! The archive's calls (include/embankery.h) over slices: the only unsafe code of this package.
+//!
+//! The header leaves to its caller what C needs: pointers that are good for their lengths and not
+//! null, a buffer lent for writing that overlaps no other buffer of the call, and no other thread
+//! that writes to a buffer meanwhile. Slices always have this: a slice is valid for its length and
+//! never null, also when it is empty, and a `&mut` slice is borrowed from everybody else. The calls
+//! keep no pointer. They ask nothing of the bytes.
+
+/// The declarations, as the header has them.
+pub mod c {
+    extern "C" {
+        pub fn tcpao_check_table(table: *const u8, table_len: usize) -> u64;
+        pub fn tcpao_open_active(
+            table: *const u8,
+            table_len: usize,
+            local: *const u8,
+            local_len: usize,
+            remote: *const u8,
+            remote_len: usize,
+            local_port: u16,
+            remote_port: u16,
+            isn: u32,
+            send_id: u8,
+            state: *mut u8,
+            state_len: usize,
+        ) -> u64;
+        pub fn tcpao_judge_syn(
+            table: *const u8,
+            table_len: usize,
+            source: *const u8,
+            source_len: usize,
+            destination: *const u8,
+            destination_len: usize,
+            segment: *const u8,
+            segment_len: usize,
+            setting: u8,
+        ) -> u64;
+        pub fn tcpao_open_passive(
+            table: *const u8,
+            table_len: usize,
+            source: *const u8,
+            source_len: usize,
+            destination: *const u8,
+            destination_len: usize,
+            segment: *const u8,
+            segment_len: usize,
+            isn: u32,
+            setting: u8,
+            state: *mut u8,
+            state_len: usize,
+        ) -> u64;
+        pub fn tcpao_judge(
+            table: *const u8,
+            table_len: usize,
+            source: *const u8,
+            source_len: usize,
+            destination: *const u8,
+            destination_len: usize,
+            segment: *const u8,
+            segment_len: usize,
+            state: *mut u8,
+            state_len: usize,
+        ) -> u64;
+        pub fn tcpao_sign(
+            table: *const u8,
+            table_len: usize,
+            segment: *const u8,
+            segment_len: usize,
+            out: *mut u8,
+            out_len: usize,
+            state: *mut u8,
+            state_len: usize,
+        ) -> u64;
+        pub fn tcpao_ask(
+            table: *const u8,
+            table_len: usize,
+            recv_id: u8,
+            state: *mut u8,
+            state_len: usize,
+        ) -> u64;
+        pub fn mac_sha1(
+            message: *const u8,
+            message_len: usize,
+            out: *mut u8,
+            out_len: usize,
+        ) -> u64;
+        pub fn mac_hmac_sha1(
+            key: *const u8,
+            key_len: usize,
+            message: *const u8,
+            message_len: usize,
+            out: *mut u8,
+            out_len: usize,
+        ) -> u64;
+        pub fn mac_aes128(
+            key: *const u8,
+            key_len: usize,
+            block: *const u8,
+            block_len: usize,
+            out: *mut u8,
+            out_len: usize,
+        ) -> u64;
+        pub fn mac_aes128_cmac(
+            key: *const u8,
+            key_len: usize,
+            message: *const u8,
+            message_len: usize,
+            out: *mut u8,
+            out_len: usize,
+        ) -> u64;
+    }
+}
+
+pub fn check_table(table: &[u8]) -> u64 {
+    // SAFETY: one slice, read only.
+    unsafe { c::tcpao_check_table(table.as_ptr(), table.len()) }
+}
+
+#[allow(clippy::too_many_arguments)] // the boundary's own arguments
+pub fn open_active(
+    table: &[u8],
+    local: &[u8],
+    remote: &[u8],
+    local_port: u16,
+    remote_port: u16,
+    isn: u32,
+    send_id: u8,
+    state: &mut [u8],
+) -> u64 {
+    // SAFETY: each pointer stands beside its own slice's length; only `state`, borrowed for this
+    // call alone, is written.
+    unsafe {
+        c::tcpao_open_active(
+            table.as_ptr(),
+            table.len(),
+            local.as_ptr(),
+            local.len(),
+            remote.as_ptr(),
+            remote.len(),
+            local_port,
+            remote_port,
+            isn,
+            send_id,
+            state.as_mut_ptr(),
+            state.len(),
+        )
+    }
+}
+
+pub fn judge_syn(
+    table: &[u8],
+    source: &[u8],
+    destination: &[u8],
+    segment: &[u8],
+    setting: u8,
+) -> u64 {
+    // SAFETY: each pointer stands beside its own slice's length; nothing is written.
+    unsafe {
+        c::tcpao_judge_syn(
+            table.as_ptr(),
+            table.len(),
+            source.as_ptr(),
+            source.len(),
+            destination.as_ptr(),
+            destination.len(),
+            segment.as_ptr(),
+            segment.len(),
+            setting,
+        )
+    }
+}
+
+pub fn open_passive(
+    table: &[u8],
+    source: &[u8],
+    destination: &[u8],
+    segment: &[u8],
+    isn: u32,
+    setting: u8,
+    state: &mut [u8],
+) -> u64 {
+    // SAFETY: each pointer stands beside its own slice's length; only `state`, borrowed for this
+    // call alone, is written.
+    unsafe {
+        c::tcpao_open_passive(
+            table.as_ptr(),
+            table.len(),
+            source.as_ptr(),
+            source.len(),
+            destination.as_ptr(),
+            destination.len(),
+            segment.as_ptr(),
+            segment.len(),
+            isn,
+            setting,
+            state.as_mut_ptr(),
+            state.len(),
+        )
+    }
+}
+
+pub fn judge(
+    table: &[u8],
+    source: &[u8],
+    destination: &[u8],
+    segment: &[u8],
+    state: &mut [u8],
+) -> u64 {
+    // SAFETY: each pointer stands beside its own slice's length; only `state`, borrowed for this
+    // call alone, is written.
+    unsafe {
+        c::tcpao_judge(
+            table.as_ptr(),
+            table.len(),
+            source.as_ptr(),
+            source.len(),
+            destination.as_ptr(),
+            destination.len(),
+            segment.as_ptr(),
+            segment.len(),
+            state.as_mut_ptr(),
+            state.len(),
+        )
+    }
+}
+
+pub fn sign(table: &[u8], segment: &[u8], out: &mut [u8], state: &mut [u8]) -> u64 {
+    // SAFETY: each pointer stands beside its own slice's length; only `out` and `state` are
+    // written, two borrows that overlap neither each other nor the rest.
+    unsafe {
+        c::tcpao_sign(
+            table.as_ptr(),
+            table.len(),
+            segment.as_ptr(),
+            segment.len(),
+            out.as_mut_ptr(),
+            out.len(),
+            state.as_mut_ptr(),
+            state.len(),
+        )
+    }
+}
+
+pub fn ask(table: &[u8], recv_id: u8, state: &mut [u8]) -> u64 {
+    // SAFETY: each pointer stands beside its own slice's length; only `state`, borrowed for this
+    // call alone, is written.
+    unsafe {
+        c::tcpao_ask(
+            table.as_ptr(),
+            table.len(),
+            recv_id,
+            state.as_mut_ptr(),
+            state.len(),
+        )
+    }
+}
+
+pub fn sha1(message: &[u8], out: &mut [u8]) -> u64 {
+    // SAFETY: each pointer stands beside its own slice's length; only `out` is written.
+    unsafe { c::mac_sha1(message.as_ptr(), message.len(), out.as_mut_ptr(), out.len()) }
+}
+
+pub fn hmac_sha1(key: &[u8], message: &[u8], out: &mut [u8]) -> u64 {
+    // SAFETY: each pointer stands beside its own slice's length; only `out` is written.
+    unsafe {
+        c::mac_hmac_sha1(
+            key.as_ptr(),
+            key.len(),
+            message.as_ptr(),
+            message.len(),
+            out.as_mut_ptr(),
+            out.len(),
+        )
+    }
+}
+
+pub fn aes128(key: &[u8], block: &[u8], out: &mut [u8]) -> u64 {
+    // SAFETY: each pointer stands beside its own slice's length; only `out` is written.
+    unsafe {
+        c::mac_aes128(
+            key.as_ptr(),
+            key.len(),
+            block.as_ptr(),
+            block.len(),
+            out.as_mut_ptr(),
+            out.len(),
+        )
+    }
+}
+
+pub fn aes128_cmac(key: &[u8], message: &[u8], out: &mut [u8]) -> u64 {
+    // SAFETY: each pointer stands beside its own slice's length; only `out` is written.
+    unsafe {
+        c::mac_aes128_cmac(
+            key.as_ptr(),
+            key.len(),
+            message.as_ptr(),
+            message.len(),
+            out.as_mut_ptr(),
+            out.len(),
+        )
+    }
+}

@@ -1,0 +1,320 @@
+//! The key table and its entries. Document 01, "Key table".
+
+use crate::answer::{Answer, Refusal};
+use crate::raw;
+use std::fmt;
+use std::net::{IpAddr, Ipv4Addr, Ipv6Addr};
+use std::ops::RangeInclusive;
+
+/// A key table that the archive has checked: none of 10 to 17 applies to it.
+///
+/// ```
+/// use embankery::{Entry, KeyTable};
+///
+/// let old = Entry::ipv4().send_id(1).recv_id(1).key(b"last year's key").build()?;
+/// let new = Entry::ipv4().send_id(2).recv_id(2).key(b"this year's key").build()?;
+/// let table = KeyTable::new([&old, &new])?;
+/// assert_eq!(table.len(), 2);
+///
+/// // Both match every IPv4 connection, so they must not share an ID.
+/// let refusal = KeyTable::new([&old, &old]).unwrap_err();
+/// assert_eq!((refusal.number(), refusal.entry()), (17, Some(1)));
+/// # Ok::<(), embankery::Refusal>(())
+/// ```
+#[derive(Clone, PartialEq, Eq)]
+pub struct KeyTable {
+    bytes: Vec<u8>,
+    len: usize,
+}
+
+impl KeyTable {
+    /// A table of these entries, in this order. None is allowed: such a table matches no connection.
+    pub fn new<'a>(entries: impl IntoIterator<Item = &'a Entry>) -> Result<KeyTable, Refusal> {
+        let mut bytes = Vec::new();
+        for entry in entries {
+            bytes.extend_from_slice(entry.as_bytes());
+        }
+        KeyTable::from_bytes(bytes)
+    }
+
+    /// A table from its bytes, of which document 01 fixes each.
+    ///
+    /// ```
+    /// use embankery::{Entry, KeyTable};
+    ///
+    /// let entry = Entry::ipv6().send_id(7).recv_id(9).key(b"key").build()?;
+    /// let table = KeyTable::from_bytes(entry.as_bytes())?;
+    /// assert_eq!(table, KeyTable::new([&entry])?);
+    /// assert_eq!(KeyTable::from_bytes([5]).unwrap_err().number(), 11);
+    /// # Ok::<(), embankery::Refusal>(())
+    /// ```
+    pub fn from_bytes(bytes: impl Into<Vec<u8>>) -> Result<KeyTable, Refusal> {
+        let bytes = bytes.into();
+        let len = Answer(raw::check_table(&bytes)).done()? as usize;
+        Ok(KeyTable { bytes, len })
+    }
+
+    /// The table's bytes. They hold the master keys.
+    pub fn as_bytes(&self) -> &[u8] {
+        &self.bytes
+    }
+
+    /// How many entries there are.
+    pub fn len(&self) -> usize {
+        self.len
+    }
+
+    /// Whether there are none.
+    pub fn is_empty(&self) -> bool {
+        self.len == 0
+    }
+}
+
+/// Shows no key.
+impl fmt::Debug for KeyTable {
+    fn fmt(&self, f: &mut fmt::Formatter) -> fmt::Result {
+        f.debug_struct("KeyTable")
+            .field("len", &self.len)
+            .finish_non_exhaustive()
+    }
+}
+
+/// The MAC algorithm of an entry, with its key derivation (RFC 5926).
+#[derive(Clone, Copy, Debug, PartialEq, Eq, Hash)]
+#[non_exhaustive]
+pub enum Algorithm {
+    /// 1: HMAC-SHA-1-96.
+    HmacSha1_96,
+    /// 2: AES-128-CMAC-96.
+    Aes128Cmac96,
+}
+
+/// Which of a segment's options the MAC covers.
+#[derive(Clone, Copy, Debug, PartialEq, Eq, Hash)]
+pub enum Covered {
+    /// Flag 0: TCP-AO only, so that others may change on the way.
+    OnlyTcpAo,
+    /// Flag 1: all of them.
+    AllOptions,
+}
+
+/// One entry of a key table (an MKT), made by [`Entry::ipv4`] or [`Entry::ipv6`].
+///
+/// ```
+/// use embankery::{Algorithm, Covered, Entry};
+///
+/// let entry = Entry::ipv4()
+///     .local([192, 0, 2, 1], 32)
+///     .remote([198, 51, 100, 0], 24)
+///     .local_ports(179..=179)
+///     .send_id(61)
+///     .recv_id(84)
+///     .algorithm(Algorithm::Aes128Cmac96)
+///     .covered(Covered::OnlyTcpAo)
+///     .key(b"testvector")
+///     .build()?;
+/// assert_eq!(entry.as_bytes().len(), 104);
+/// # Ok::<(), embankery::Refusal>(())
+/// ```
+#[derive(Clone, PartialEq, Eq)]
+pub struct Entry {
+    bytes: Vec<u8>,
+}
+
+// Where the IDs stand in an entry's bytes.
+const SEND_ID: usize = 3;
+const RECV_ID: usize = 4;
+
+impl Entry {
+    /// An entry for IPv4. Until the builder is told otherwise it matches every address and port,
+    /// has SendID and RecvID 0, HMAC-SHA-1-96, all options covered, and no key, which [`build`]
+    /// refuses.
+    ///
+    /// [`build`]: EntryBuilder::build
+    pub fn ipv4() -> EntryBuilder {
+        EntryBuilder::new(Ipv4Addr::UNSPECIFIED.into())
+    }
+
+    /// An entry for IPv6, otherwise as [`Entry::ipv4`] has it.
+    pub fn ipv6() -> EntryBuilder {
+        EntryBuilder::new(Ipv6Addr::UNSPECIFIED.into())
+    }
+
+    /// The entry's bytes in a table. They hold the master key.
+    pub fn as_bytes(&self) -> &[u8] {
+        &self.bytes
+    }
+}
+
+/// Shows no key.
+impl fmt::Debug for Entry {
+    fn fmt(&self, f: &mut fmt::Formatter) -> fmt::Result {
+        f.debug_struct("Entry")
+            .field("send_id", &self.bytes[SEND_ID])
+            .field("recv_id", &self.bytes[RECV_ID])
+            .finish_non_exhaustive()
+    }
+}
+
+/// A side of the connections that an entry is for.
+#[derive(Clone)]
+struct Side {
+    address: IpAddr,
+    prefix: u8,
+    ports: RangeInclusive<u16>,
+}
+
+/// What an [`Entry`] is made from. Nothing is tested before [`build`](EntryBuilder::build).
+#[derive(Clone)]
+#[must_use = "an entry is made by build()"]
+pub struct EntryBuilder {
+    any: IpAddr,
+    local: Side,
+    remote: Side,
+    send_id: u8,
+    recv_id: u8,
+    algorithm: Algorithm,
+    covered: Covered,
+    key: Vec<u8>,
+}
+
+impl EntryBuilder {
+    fn new(any: IpAddr) -> EntryBuilder {
+        let side = Side {
+            address: any,
+            prefix: 0,
+            ports: 0..=u16::MAX,
+        };
+        EntryBuilder {
+            any,
+            local: side.clone(),
+            remote: side,
+            send_id: 0,
+            recv_id: 0,
+            algorithm: Algorithm::HmacSha1_96,
+            covered: Covered::AllOptions,
+            key: Vec::new(),
+        }
+    }
+
+    /// Our own address; its first `prefix` bits count, and the others must be zero.
+    pub fn local(mut self, address: impl Into<IpAddr>, prefix: u8) -> EntryBuilder {
+        self.local.address = address.into();
+        self.local.prefix = prefix;
+        self
+    }
+
+    /// The peer's address; its first `prefix` bits count, and the others must be zero.
+    pub fn remote(mut self, address: impl Into<IpAddr>, prefix: u8) -> EntryBuilder {
+        self.remote.address = address.into();
+        self.remote.prefix = prefix;
+        self
+    }
+
+    /// Our own ports, both ends included.
+    pub fn local_ports(mut self, ports: RangeInclusive<u16>) -> EntryBuilder {
+        self.local.ports = ports;
+        self
+    }
+
+    /// The peer's ports, both ends included.
+    pub fn remote_ports(mut self, ports: RangeInclusive<u16>) -> EntryBuilder {
+        self.remote.ports = ports;
+        self
+    }
+
+    /// The KeyID in segments that we sign by this entry. The peer has it as RecvID.
+    pub fn send_id(mut self, id: u8) -> EntryBuilder {
+        self.send_id = id;
+        self
+    }
+
+    /// The KeyID in segments that the peer signs by this entry. The peer has it as SendID.
+    pub fn recv_id(mut self, id: u8) -> EntryBuilder {
+        self.recv_id = id;
+        self
+    }
+
+    /// The MAC algorithm, the same at both ends.
+    pub fn algorithm(mut self, algorithm: Algorithm) -> EntryBuilder {
+        self.algorithm = algorithm;
+        self
+    }
+
+    /// Which options the MAC covers, the same at both ends.
+    pub fn covered(mut self, covered: Covered) -> EntryBuilder {
+        self.covered = covered;
+        self
+    }
+
+    /// The master key, 1 to 80 bytes, the same at both ends.
+    pub fn key(mut self, key: impl AsRef<[u8]>) -> EntryBuilder {
+        self.key = key.as_ref().to_vec();
+        self
+    }
+
+    /// The entry, if the archive allows it: a bad port range is refused with 14, a bad prefix with
+    /// 15, a key without bytes or with more than 80 with 16. An address of the other family is
+    /// refused with 19, which is this builder's own rule: no table could hold it.
+    ///
+    /// ```
+    /// use embankery::{Entry, Refusal};
+    ///
+    /// let entry = |key: &[u8]| Entry::ipv4().local([10, 0, 0, 0], 8).key(key);
+    /// assert!(entry(&[1; 80]).build().is_ok());
+    /// assert_eq!(entry(&[1; 81]).build(), Err(Refusal::Key { entry: 0 }));
+    /// assert_eq!(entry(b"key").remote([10, 0, 0, 0], 33).build(), Err(Refusal::Prefix { entry: 0 }));
+    /// assert_eq!(entry(b"key").remote([0u16; 8], 0).build(), Err(Refusal::AddressSizes));
+    /// ```
+    pub fn build(self) -> Result<Entry, Refusal> {
+        let family = |address: IpAddr| address.is_ipv4() == self.any.is_ipv4();
+        if !family(self.local.address) || !family(self.remote.address) {
+            return Err(Refusal::AddressSizes);
+        }
+        let bytes = self.bytes();
+        Answer(raw::check_table(&bytes)).done()?;
+        Ok(Entry { bytes })
+    }
+
+    /// The bytes, in document 01's order. A key that does not fit is cut to 80 bytes, with a length
+    /// above 80 beside it that the archive refuses.
+    fn bytes(&self) -> Vec<u8> {
+        const KEY_BYTES: usize = 80;
+        let kind = if self.any.is_ipv4() { 4 } else { 6 };
+        let flags = match self.covered {
+            Covered::OnlyTcpAo => 0,
+            Covered::AllOptions => 1,
+        };
+        let algorithm = match self.algorithm {
+            Algorithm::HmacSha1_96 => 1,
+            Algorithm::Aes128Cmac96 => 2,
+        };
+        let mut bytes = vec![kind, flags, algorithm, self.send_id, self.recv_id];
+        for side in [&self.local, &self.remote] {
+            bytes.extend(side.ports.start().to_be_bytes());
+            bytes.extend(side.ports.end().to_be_bytes());
+        }
+        for side in [&self.local, &self.remote] {
+            match side.address {
+                IpAddr::V4(address) => bytes.extend(address.octets()),
+                IpAddr::V6(address) => bytes.extend(address.octets()),
+            }
+            bytes.push(side.prefix);
+        }
+        bytes.push(self.key.len().min(255) as u8);
+        let end = bytes.len() + KEY_BYTES;
+        bytes.extend(self.key.iter().take(KEY_BYTES));
+        bytes.resize(end, 0);
+        bytes
+    }
+}
+
+/// Shows no key.
+impl fmt::Debug for EntryBuilder {
+    fn fmt(&self, f: &mut fmt::Formatter) -> fmt::Result {
+        f.debug_struct("EntryBuilder")
+            .field("send_id", &self.send_id)
+            .field("recv_id", &self.recv_id)
+            .finish_non_exhaustive()
+    }
+}

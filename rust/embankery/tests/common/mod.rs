@@ -1,0 +1,162 @@
+//! What the tests share: segments, and both ends of an open connection.
+#![allow(dead_code)] // each test file uses a part
+
+use embankery::{Algorithm, Connection, Covered, Entry, KeyTable, UnknownKeyId, Verdict};
+use std::net::IpAddr;
+
+pub const SYN: u8 = 0x02;
+pub const ACK: u8 = 0x10;
+pub const PORTS: [u16; 2] = [40_000, 179];
+pub const ISNS: [u32; 2] = [1_000, 2_000];
+/// SendID at the first end and RecvID at the second; the other way round.
+pub const IDS: [u8; 2] = [1, 2];
+
+/// Bytes to try things with: the same at each run.
+pub struct Bytes(pub u64);
+
+impl Bytes {
+    pub fn byte(&mut self) -> u8 {
+        self.0 ^= self.0 << 13;
+        self.0 ^= self.0 >> 7;
+        self.0 ^= self.0 << 17;
+        (self.0 >> 32) as u8
+    }
+
+    pub fn take(&mut self, n: usize) -> Vec<u8> {
+        (0..n).map(|_| self.byte()).collect()
+    }
+
+    pub fn below(&mut self, n: usize) -> usize {
+        usize::from(u16::from_be_bytes([self.byte(), self.byte()])) % n
+    }
+}
+
+/// A segment with its checksum zero. `options` are whole words.
+pub fn segment(ports: [u16; 2], number: u32, flags: u8, options: &[u8], data: &[u8]) -> Vec<u8> {
+    assert_eq!(options.len() % 4, 0);
+    let offset = (5 + options.len() / 4) as u8;
+    let mut segment = [ports[0].to_be_bytes(), ports[1].to_be_bytes()].concat();
+    segment.extend(number.to_be_bytes());
+    segment.extend([0, 0, 0, 7, offset << 4, flags, 0xFF, 0xFF, 0, 0, 0, 0]);
+    segment.extend(options);
+    segment.extend(data);
+    segment
+}
+
+/// What may differ from line to line.
+#[derive(Clone, Copy, Debug)]
+pub struct Kind {
+    pub ipv6: bool,
+    pub algorithm: Algorithm,
+    pub covered: Covered,
+}
+
+pub const FIRST_KIND: Kind = Kind {
+    ipv6: false,
+    algorithm: Algorithm::HmacSha1_96,
+    covered: Covered::AllOptions,
+};
+
+pub fn kinds() -> Vec<Kind> {
+    let mut kinds = Vec::new();
+    for ipv6 in [false, true] {
+        for algorithm in [Algorithm::HmacSha1_96, Algorithm::Aes128Cmac96] {
+            for covered in [Covered::OnlyTcpAo, Covered::AllOptions] {
+                kinds.push(Kind {
+                    ipv6,
+                    algorithm,
+                    covered,
+                });
+            }
+        }
+    }
+    kinds
+}
+
+/// The two ends of a connection, of which end 0 opened actively. Both are open.
+pub struct Ends {
+    pub addresses: [IpAddr; 2],
+    pub tables: [KeyTable; 2],
+    pub ends: [Connection; 2],
+    pub syn: Vec<u8>,
+    pub syn_ack: Vec<u8>,
+    /// End 0 when it was opening.
+    pub opening: Connection,
+}
+
+impl Ends {
+    pub fn open(kind: Kind) -> Ends {
+        let addresses: [IpAddr; 2] = if kind.ipv6 {
+            [[0xFD00, 0, 0, 0, 0, 0, 0, 1], [0xFD00, 0, 0, 0, 0, 0, 0, 2]].map(IpAddr::from)
+        } else {
+            [[10, 0, 0, 1], [10, 0, 0, 2]].map(IpAddr::from)
+        };
+        let bits = if kind.ipv6 { 128 } else { 32 };
+        let table = |end: usize| {
+            let entry = if kind.ipv6 {
+                Entry::ipv6()
+            } else {
+                Entry::ipv4()
+            };
+            let entry = entry
+                .local(addresses[end], bits)
+                .remote(addresses[1 - end], bits)
+                .send_id(IDS[end])
+                .recv_id(IDS[1 - end])
+                .algorithm(kind.algorithm)
+                .covered(kind.covered)
+                .key(b"a key of both ends")
+                .build()
+                .unwrap();
+            KeyTable::new([&entry]).unwrap()
+        };
+        let tables = [table(0), table(1)];
+        let here = (addresses[0], PORTS[0]);
+        let there = (addresses[1], PORTS[1]);
+        let mut a = Connection::open_active(&tables[0], here, there, ISNS[0], IDS[0]).unwrap();
+        let opening = a.clone();
+        let syn = segment(PORTS, ISNS[0], SYN, &[], &[]);
+        let syn = a.sign(&tables[0], &syn).unwrap();
+        let mut b = Connection::open_passive(
+            &tables[1],
+            addresses[0],
+            addresses[1],
+            &syn,
+            ISNS[1],
+            UnknownKeyId::Drop,
+        )
+        .unwrap()
+        .unwrap();
+        let syn_ack = segment([PORTS[1], PORTS[0]], ISNS[1], SYN | ACK, &[], &[]);
+        let syn_ack = b.sign(&tables[1], &syn_ack).unwrap();
+        let verdict = a.judge(&tables[0], addresses[1], addresses[0], &syn_ack);
+        assert_eq!(verdict, Verdict::Accept { extension: 0 });
+        Ends {
+            addresses,
+            tables,
+            ends: [a, b],
+            syn,
+            syn_ack,
+            opening,
+        }
+    }
+
+    /// End 0 signs.
+    pub fn sign(&mut self, segment: &[u8]) -> Result<Vec<u8>, embankery::Refusal> {
+        self.ends[0].sign(&self.tables[0], segment)
+    }
+
+    /// End 1 judges what comes from end 0.
+    pub fn judge(&mut self, segment: &[u8]) -> Verdict {
+        let [source, destination] = self.addresses;
+        self.ends[1].judge(&self.tables[1], source, destination, segment)
+    }
+}
+
+/// An address's bytes.
+pub fn octets(address: IpAddr) -> Vec<u8> {
+    match address {
+        IpAddr::V4(address) => address.octets().to_vec(),
+        IpAddr::V6(address) => address.octets().to_vec(),
+    }
+}

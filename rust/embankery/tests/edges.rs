@@ -1,0 +1,778 @@
+//! The edges of the C boundary, by the archive's own calls: empty buffers, buffers just long enough,
+//! states of every length, the longest segments, and nothing written or read outside a buffer.
+
+mod common;
+#[allow(dead_code)]
+#[path = "../src/raw.rs"]
+mod raw;
+
+use common::{kinds, octets, segment, Bytes, Ends, ACK, FIRST_KIND, IDS, ISNS, PORTS, SYN};
+use embankery::{Refusal, Verdict};
+use raw::c;
+
+/// Whether a null pointer is allowed beside length 0, as include/embankery.h says.
+const NULL_ALLOWED: bool = false;
+
+/// An answer: the number in bits 0 to 7, a value in bits 32 to 63.
+fn word(number: u8, value: u32) -> u64 {
+    u64::from(value) << 32 | u64::from(number)
+}
+
+/// A buffer inside a longer one, to see that nothing around it is written.
+struct Guarded {
+    bytes: Vec<u8>,
+    len: usize,
+}
+
+const GUARD: usize = 64;
+
+impl Guarded {
+    fn new(content: &[u8]) -> Guarded {
+        let guard = Guarded::guard(content.len());
+        Guarded {
+            bytes: [&guard, content, &guard].concat(),
+            len: content.len(),
+        }
+    }
+
+    fn guard(len: usize) -> Vec<u8> {
+        Bytes(len as u64 + 1).take(GUARD)
+    }
+
+    fn lent(&mut self) -> &mut [u8] {
+        &mut self.bytes[GUARD..GUARD + self.len]
+    }
+
+    /// What stands in the buffer.
+    fn content(&self) -> &[u8] {
+        let guard = Guarded::guard(self.len);
+        assert_eq!(self.bytes[..GUARD], guard, "written before the buffer");
+        let behind = &self.bytes[GUARD + self.len..];
+        assert_eq!(behind, guard, "written behind the buffer");
+        &self.bytes[GUARD..GUARD + self.len]
+    }
+}
+
+/// What the calls are given. `good` has end 1's view of an open line.
+#[derive(Clone)]
+struct Given {
+    table: Vec<u8>,
+    source: Vec<u8>,
+    destination: Vec<u8>,
+    /// The peer's signed SYN.
+    syn: Vec<u8>,
+    /// A segment that the peer signed later.
+    arriving: Vec<u8>,
+    /// A segment to be signed: it gets 16 bytes longer.
+    leaving: Vec<u8>,
+    out: Vec<u8>,
+    state: Vec<u8>,
+    setting: u8,
+    /// Whether an empty buffer is lent as a null pointer.
+    nulls: bool,
+}
+
+const SIGNED: u32 = 42;
+
+impl Given {
+    fn good() -> Given {
+        let mut ends = Ends::open(FIRST_KIND);
+        let arriving = segment(PORTS, ISNS[0] + 1, ACK, &[], b"data");
+        let back = [PORTS[1], PORTS[0]];
+        Given {
+            table: ends.tables[1].as_bytes().to_vec(),
+            source: octets(ends.addresses[0]),
+            destination: octets(ends.addresses[1]),
+            syn: ends.syn.clone(),
+            arriving: ends.sign(&arriving).unwrap(),
+            leaving: segment(back, ISNS[1] + 1, ACK, &[], b"answer"),
+            out: vec![0xAA; 80],
+            state: ends.ends[1].as_bytes().to_vec(),
+            setting: 1,
+            nulls: false,
+        }
+    }
+
+    fn ptr(&self, lent: &[u8]) -> *const u8 {
+        if self.nulls && lent.is_empty() {
+            std::ptr::null()
+        } else {
+            lent.as_ptr()
+        }
+    }
+
+    fn ptr_mut(&self, lent: &mut [u8]) -> *mut u8 {
+        if self.nulls && lent.is_empty() {
+            std::ptr::null_mut()
+        } else {
+            lent.as_mut_ptr()
+        }
+    }
+
+    /// Makes a call on guarded buffers. Gives the answer, `out` and `state`.
+    fn call(&self, call: Call) -> (u64, Vec<u8>, Vec<u8>) {
+        let mut out = Guarded::new(&self.out);
+        let mut state = Guarded::new(&self.state);
+        let answer = call(self, out.lent(), state.lent());
+        (answer, out.content().to_vec(), state.content().to_vec())
+    }
+
+    /// The same, of a call that must leave `out` and `state` as they were.
+    fn unchanged(&self, call: Call) -> u64 {
+        let (answer, out, state) = self.call(call);
+        assert_eq!(out, self.out);
+        assert_eq!(state, self.state);
+        answer
+    }
+}
+
+/// A call of the archive with what is given, and with what it may write.
+type Call = fn(&Given, &mut [u8], &mut [u8]) -> u64;
+
+// SAFETY, of all: each pointer stands beside its own slice's length, and `out` and `state` overlap
+// nothing. A null pointer stands beside length 0, and only where the archive allows it.
+
+fn check_table(g: &Given, _: &mut [u8], _: &mut [u8]) -> u64 {
+    unsafe { c::tcpao_check_table(g.ptr(&g.table), g.table.len()) }
+}
+
+fn open_active(g: &Given, _: &mut [u8], state: &mut [u8]) -> u64 {
+    unsafe {
+        c::tcpao_open_active(
+            g.ptr(&g.table),
+            g.table.len(),
+            g.ptr(&g.destination),
+            g.destination.len(),
+            g.ptr(&g.source),
+            g.source.len(),
+            PORTS[1],
+            PORTS[0],
+            ISNS[1],
+            IDS[1],
+            g.ptr_mut(state),
+            state.len(),
+        )
+    }
+}
+
+fn judge_syn(g: &Given, _: &mut [u8], _: &mut [u8]) -> u64 {
+    unsafe {
+        c::tcpao_judge_syn(
+            g.ptr(&g.table),
+            g.table.len(),
+            g.ptr(&g.source),
+            g.source.len(),
+            g.ptr(&g.destination),
+            g.destination.len(),
+            g.ptr(&g.syn),
+            g.syn.len(),
+            g.setting,
+        )
+    }
+}
+
+fn open_passive(g: &Given, _: &mut [u8], state: &mut [u8]) -> u64 {
+    unsafe {
+        c::tcpao_open_passive(
+            g.ptr(&g.table),
+            g.table.len(),
+            g.ptr(&g.source),
+            g.source.len(),
+            g.ptr(&g.destination),
+            g.destination.len(),
+            g.ptr(&g.syn),
+            g.syn.len(),
+            ISNS[1],
+            g.setting,
+            g.ptr_mut(state),
+            state.len(),
+        )
+    }
+}
+
+fn judge(g: &Given, _: &mut [u8], state: &mut [u8]) -> u64 {
+    unsafe {
+        c::tcpao_judge(
+            g.ptr(&g.table),
+            g.table.len(),
+            g.ptr(&g.source),
+            g.source.len(),
+            g.ptr(&g.destination),
+            g.destination.len(),
+            g.ptr(&g.arriving),
+            g.arriving.len(),
+            g.ptr_mut(state),
+            state.len(),
+        )
+    }
+}
+
+fn sign(g: &Given, out: &mut [u8], state: &mut [u8]) -> u64 {
+    unsafe {
+        c::tcpao_sign(
+            g.ptr(&g.table),
+            g.table.len(),
+            g.ptr(&g.leaving),
+            g.leaving.len(),
+            g.ptr_mut(out),
+            out.len(),
+            g.ptr_mut(state),
+            state.len(),
+        )
+    }
+}
+
+fn ask(g: &Given, _: &mut [u8], state: &mut [u8]) -> u64 {
+    unsafe {
+        c::tcpao_ask(
+            g.ptr(&g.table),
+            g.table.len(),
+            IDS[0],
+            g.ptr_mut(state),
+            state.len(),
+        )
+    }
+}
+
+/// All calls, each with its answer to what is good.
+const CALLS: [(Call, u32); 7] = [
+    (check_table, 1),
+    (open_active, 0),
+    (judge_syn, 0),
+    (open_passive, 0),
+    (judge, 0),
+    (sign, SIGNED),
+    (ask, 0),
+];
+
+/// Those that take a state.
+const STATE_CALLS: [Call; 5] = [open_active, open_passive, judge, sign, ask];
+
+#[test]
+fn good() {
+    for (call, value) in CALLS {
+        assert_eq!(Given::good().call(call).0, word(0, value));
+    }
+}
+
+/// Each buffer of each call empty in turn, then all of them.
+fn each_empty(nulls: bool) {
+    let good = Given {
+        nulls,
+        ..Given::good()
+    };
+    let none = Vec::new;
+
+    let g = Given {
+        table: none(),
+        ..good.clone()
+    };
+    assert_eq!(g.unchanged(check_table), word(0, 0));
+    assert_eq!(g.unchanged(open_active), word(35, 0));
+    assert_eq!(g.unchanged(judge_syn), word(26, 0));
+    assert_eq!(g.unchanged(open_passive), word(26, 0));
+    assert_eq!(g.unchanged(sign), word(35, 0));
+    assert_eq!(g.unchanged(ask), word(35, 0));
+    counted(&g, 26);
+    let g = Given { setting: 0, ..g };
+    assert_eq!(g.unchanged(judge_syn), word(1, 0));
+    assert_eq!(g.unchanged(open_passive), word(1, 0));
+
+    let sources = [none(), good.source.clone(), none()];
+    let destinations = [none(), none(), good.destination.clone()];
+    for (source, destination) in sources.into_iter().zip(destinations) {
+        let g = Given {
+            source,
+            destination,
+            ..good.clone()
+        };
+        for call in [open_active as Call, judge_syn, open_passive, judge] {
+            assert_eq!(g.unchanged(call), word(19, 0));
+        }
+    }
+
+    let g = Given {
+        syn: none(),
+        arriving: none(),
+        leaving: none(),
+        ..good.clone()
+    };
+    assert_eq!(g.unchanged(judge_syn), word(20, 0));
+    assert_eq!(g.unchanged(open_passive), word(20, 0));
+    assert_eq!(g.unchanged(sign), word(30, 0));
+    counted(&g, 20);
+
+    let g = Given {
+        out: none(),
+        ..good.clone()
+    };
+    assert_eq!(g.unchanged(sign), word(37, 0));
+
+    let g = Given {
+        state: none(),
+        ..good.clone()
+    };
+    for call in STATE_CALLS {
+        assert_eq!(g.unchanged(call), word(18, 0));
+    }
+
+    let g = Given {
+        table: none(),
+        source: none(),
+        destination: none(),
+        syn: none(),
+        arriving: none(),
+        leaving: none(),
+        out: none(),
+        state: none(),
+        ..good
+    };
+    assert_eq!(g.unchanged(check_table), word(0, 0));
+    assert_eq!(g.unchanged(judge_syn), word(19, 0));
+    for call in STATE_CALLS {
+        assert_eq!(g.unchanged(call), word(18, 0));
+    }
+    each_empty_of_mac(&g);
+}
+
+/// Judging drops with this number, and nothing changes but its count.
+fn counted(g: &Given, number: u8) {
+    let (answer, _, state) = g.call(judge);
+    assert_eq!(answer, word(number, 0));
+    let mut expected = g.state.clone();
+    expected[72 + 8 * usize::from(number - 20) + 7] += 1;
+    assert_eq!(state, expected);
+}
+
+/// The four calls on messages with empty buffers; `g` says how these are lent.
+fn each_empty_of_mac(g: &Given) {
+    const SHA1_OF_NONE: &str = "da39a3ee5e6b4b0d3255bfef95601890afd80709";
+    const HMAC_OF_NONE: &str = "fbdb1d1b18aa6c08324b7d64b71fb76370690e1d";
+    let hex = |bytes: &[u8]| bytes.iter().map(|b| format!("{b:02x}")).collect::<String>();
+    let none: &[u8] = &[];
+    let some = [7; 16];
+    let mut out = [0; 20];
+    // SAFETY: as above.
+    unsafe {
+        let wrote = c::mac_sha1(g.ptr(none), 0, out.as_mut_ptr(), 20);
+        assert_eq!((wrote, hex(&out).as_str()), (20, SHA1_OF_NONE));
+        let wrote = c::mac_hmac_sha1(g.ptr(none), 0, g.ptr(none), 0, out.as_mut_ptr(), 20);
+        assert_eq!((wrote, hex(&out).as_str()), (20, HMAC_OF_NONE));
+        let wrote = c::mac_aes128_cmac(some.as_ptr(), 16, g.ptr(none), 0, out.as_mut_ptr(), 20);
+        assert_eq!(wrote, 16);
+
+        let before = out;
+        let key = some.as_ptr();
+        let to = out.as_mut_ptr();
+        assert_eq!(c::mac_aes128_cmac(g.ptr(none), 0, key, 16, to, 20), 0);
+        assert_eq!(c::mac_aes128(g.ptr(none), 0, key, 16, to, 20), 0);
+        assert_eq!(c::mac_aes128(key, 16, g.ptr(none), 0, to, 20), 0);
+        assert_eq!(out, before);
+
+        let nowhere = g.ptr_mut(&mut []);
+        assert_eq!(c::mac_sha1(key, 16, nowhere, 0), 0);
+        assert_eq!(c::mac_hmac_sha1(key, 16, key, 16, nowhere, 0), 0);
+        assert_eq!(c::mac_aes128(key, 16, key, 16, nowhere, 0), 0);
+        assert_eq!(c::mac_aes128_cmac(key, 16, key, 16, nowhere, 0), 0);
+    }
+}
+
+#[test]
+fn empty_buffers() {
+    each_empty(false);
+}
+
+#[test]
+fn null_pointers() {
+    if NULL_ALLOWED {
+        each_empty(true);
+    }
+}
+
+/// "A state buffer of another length gets 18 from every call that takes one, before any other
+/// number": with all else good, and with all else bad.
+#[test]
+fn states_of_every_length() {
+    let good = Given::good();
+    let bad = Given {
+        table: vec![9],
+        source: vec![1; 5],
+        destination: vec![],
+        syn: vec![1; 19],
+        arriving: vec![1; 19],
+        leaving: vec![1; 19],
+        out: vec![],
+        ..good.clone()
+    };
+    let long = [good.state.clone(), good.state.clone()].concat();
+    for len in 0..=300 {
+        for given in [&good, &bad] {
+            let g = Given {
+                state: long[..len].to_vec(),
+                ..given.clone()
+            };
+            for call in STATE_CALLS {
+                if len != 152 {
+                    assert_eq!(g.unchanged(call), word(18, 0), "{len} bytes");
+                } else {
+                    assert_ne!(g.call(call).0, word(18, 0));
+                }
+            }
+        }
+    }
+    for (call, value) in CALLS {
+        assert_eq!(good.call(call).0, word(0, value));
+    }
+}
+
+/// Signing into a buffer of this length, which succeeds exactly if the signed segment fits.
+fn sign_into(g: &Given, room: usize, signed: &[u8]) {
+    let g = Given {
+        out: Bytes(room as u64 + 9).take(room),
+        ..g.clone()
+    };
+    if room < signed.len() {
+        assert_eq!(g.unchanged(sign), word(37, 0));
+        return;
+    }
+    let (answer, out, state) = g.call(sign);
+    assert_eq!(answer, word(0, signed.len() as u32));
+    assert_eq!(out[..signed.len()], *signed);
+    assert_eq!(out[signed.len()..], g.out[signed.len()..]);
+    assert_eq!(state[..48], g.state[..48]);
+    assert_eq!(state[56..], g.state[56..]);
+}
+
+#[test]
+fn outputs_just_long_enough() {
+    let options: [&[u8]; 3] = [&[], &[1, 3, 3, 7], &[1; 24]];
+    for kind in kinds() {
+        for options in options {
+            for data in [0, 1, 23, 24, 1_400] {
+                let mut ends = Ends::open(kind);
+                let g = Given {
+                    table: ends.tables[0].as_bytes().to_vec(),
+                    leaving: segment(PORTS, ISNS[0] + 1, ACK, options, &vec![5; data]),
+                    state: ends.ends[0].as_bytes().to_vec(),
+                    ..Given::good()
+                };
+                let signed = ends.sign(&g.leaving).unwrap();
+                assert_eq!(signed.len(), g.leaving.len() + 16);
+                assert_eq!(ends.judge(&signed), Verdict::Accept { extension: 0 });
+                let need = signed.len();
+                for room in [0, 1, need - 16, need - 1, need, need + 1, need + 100] {
+                    sign_into(&g, room, &signed);
+                }
+            }
+        }
+    }
+}
+
+/// A call on messages, whose result has `need` bytes, into buffers around that length.
+fn mac_into(need: usize, call: impl Fn(&mut [u8]) -> u64) {
+    for room in 0..=need + 5 {
+        let before = Bytes(room as u64 + 5).take(room);
+        let mut out = Guarded::new(&before);
+        let wrote = call(out.lent());
+        if room < need {
+            assert_eq!(wrote, 0);
+            assert_eq!(out.content(), before);
+        } else {
+            assert_eq!(wrote, need as u64);
+            assert_ne!(out.content()[..need], before[..need]);
+            assert_eq!(out.content()[need..], before[need..]);
+        }
+    }
+}
+
+#[test]
+fn macs_just_long_enough() {
+    let mut bytes = Bytes(3);
+    for len in [0, 1, 15, 16, 17, 55, 56, 63, 64, 65, 1_400, 65_535] {
+        let message = bytes.take(len);
+        let key = bytes.take(16);
+        mac_into(20, |out| raw::sha1(&message, out));
+        mac_into(20, |out| raw::hmac_sha1(&key, &message, out));
+        mac_into(20, |out| raw::hmac_sha1(&message, &key, out));
+        mac_into(16, |out| raw::aes128_cmac(&key, &message, out));
+    }
+    let long = bytes.take(40);
+    for key in 0..=long.len() {
+        for block in 0..=long.len() {
+            let mut out = Guarded::new(&[0xAA; 40]);
+            let wrote = raw::aes128(&long[..key], &long[..block], out.lent());
+            let fits = key == 16 && block == 16;
+            assert_eq!(wrote, if fits { 16 } else { 0 });
+            assert_eq!(out.content() != [0xAA; 40], fits);
+        }
+        let mut out = Guarded::new(&[0xAA; 40]);
+        let wrote = raw::aes128_cmac(&long[..key], &long, out.lent());
+        assert_eq!(wrote, if key == 16 { 16 } else { 0 });
+        assert_eq!(out.content() != [0xAA; 40], key == 16);
+    }
+}
+
+/// "A segment has 20 to 65,535 bytes": the longest is signed to, and judged; one more is refused.
+#[test]
+fn longest_segments() {
+    for kind in kinds() {
+        let mut ends = Ends::open(kind);
+        let plain = |len: usize| segment(PORTS, ISNS[0] + 1, ACK, &[], &vec![3; len - 20]);
+        let g = Given {
+            table: ends.tables[0].as_bytes().to_vec(),
+            leaving: plain(65_519),
+            state: ends.ends[0].as_bytes().to_vec(),
+            ..Given::good()
+        };
+        let longest = ends.sign(&g.leaving).unwrap();
+        assert_eq!(longest.len(), 65_535);
+        for room in [65_534, 65_535, 65_536] {
+            sign_into(&g, room, &longest);
+        }
+        for (len, number) in [(65_520, 32), (65_535, 32), (65_536, 30), (1_000_000, 30)] {
+            let g = Given {
+                leaving: plain(len),
+                out: vec![0xAA; len + 16],
+                ..g.clone()
+            };
+            assert_eq!(g.unchanged(sign), word(number, 0), "{len} bytes");
+        }
+
+        assert_eq!(ends.judge(&longest), Verdict::Accept { extension: 0 });
+        let mut damaged = longest.clone();
+        damaged[65_534] ^= 1;
+        assert_eq!(ends.judge(&damaged), Verdict::Drop(Refusal::MacDiffers));
+        let longer = [longest, vec![0]].concat();
+        assert_eq!(ends.judge(&longer), Verdict::Drop(Refusal::Size));
+        // Without TCP-AO, a segment of 65,535 bytes is looked at to its end all the same.
+        let unsigned = plain(65_535);
+        assert_eq!(ends.judge(&unsigned), Verdict::Drop(Refusal::OptionMissing));
+    }
+}
+
+/// A bare SYN may carry data, up to the same length.
+#[test]
+fn longest_syn() {
+    for kind in kinds() {
+        let ends = Ends::open(kind);
+        let plain = segment(PORTS, ISNS[0], SYN, &[], &vec![3; 65_499]);
+        let mut opening = ends.opening.clone();
+        let syn = opening.sign(&ends.tables[0], &plain).unwrap();
+        let g = Given {
+            table: ends.tables[1].as_bytes().to_vec(),
+            source: octets(ends.addresses[0]),
+            destination: octets(ends.addresses[1]),
+            syn,
+            ..Given::good()
+        };
+        assert_eq!(g.syn.len(), 65_535);
+        assert_eq!(g.unchanged(judge_syn), word(0, 0));
+        let (answer, _, state) = g.call(open_passive);
+        assert_eq!((answer, state[1]), (word(0, 0), 1));
+        let g = Given {
+            syn: [g.syn, vec![0]].concat(),
+            ..Given::good()
+        };
+        assert_eq!(g.unchanged(judge_syn), word(20, 0));
+        assert_eq!(g.unchanged(open_passive), word(20, 0));
+    }
+}
+
+/// Every buffer directly before memory that no one may touch: a call that reads or writes one byte
+/// too far ends this test.
+#[cfg(target_os = "linux")]
+mod last_byte {
+    use super::*;
+
+    const PAGE: usize = 65_536;
+
+    extern "C" {
+        fn mmap(at: *mut u8, len: usize, access: i32, flags: i32, file: i32, from: i64) -> *mut u8;
+        fn mprotect(at: *mut u8, len: usize, access: i32) -> i32;
+        fn munmap(at: *mut u8, len: usize) -> i32;
+    }
+
+    /// Bytes that end where memory ends.
+    struct Last {
+        map: *mut u8,
+        pages: usize,
+        len: usize,
+    }
+
+    impl Last {
+        fn new(content: &[u8]) -> Last {
+            let (read_write, private_anonymous) = (3, 0x22);
+            let pages = content.len().div_ceil(PAGE);
+            let whole = (pages + 1) * PAGE;
+            // SAFETY: new memory of `whole` bytes, of which the last PAGE are shut; the content is
+            // written before them.
+            unsafe {
+                let map = mmap(
+                    std::ptr::null_mut(),
+                    whole,
+                    read_write,
+                    private_anonymous,
+                    -1,
+                    0,
+                );
+                assert_ne!(map as isize, -1);
+                assert_eq!(mprotect(map.add(pages * PAGE), PAGE, 0), 0);
+                let last = Last {
+                    map,
+                    pages,
+                    len: content.len(),
+                };
+                std::ptr::copy_nonoverlapping(content.as_ptr(), last.front(), last.len);
+                last
+            }
+        }
+
+        fn front(&self) -> *mut u8 {
+            // SAFETY: the content lies inside the map, or is empty and at its end.
+            unsafe { self.map.add(self.pages * PAGE - self.len) }
+        }
+
+        fn as_slice(&self) -> &[u8] {
+            // SAFETY: `len` bytes that were written, and stay while `self` does.
+            unsafe { std::slice::from_raw_parts(self.front(), self.len) }
+        }
+
+        fn as_mut_slice(&mut self) -> &mut [u8] {
+            // SAFETY: as above, and borrowed from `self` alone.
+            unsafe { std::slice::from_raw_parts_mut(self.front(), self.len) }
+        }
+    }
+
+    impl Drop for Last {
+        fn drop(&mut self) {
+            // SAFETY: the map was made by `new`, and no slice of it is left.
+            unsafe { munmap(self.map, (self.pages + 1) * PAGE) };
+        }
+    }
+
+    /// All calls with everything at the end of memory.
+    fn all(g: &Given) {
+        let table = Last::new(&g.table);
+        let source = Last::new(&g.source);
+        let destination = Last::new(&g.destination);
+        let (table, source, destination) =
+            (table.as_slice(), source.as_slice(), destination.as_slice());
+        let state = || Last::new(&g.state);
+        raw::check_table(table);
+        raw::open_active(
+            table,
+            destination,
+            source,
+            PORTS[1],
+            PORTS[0],
+            ISNS[1],
+            IDS[1],
+            state().as_mut_slice(),
+        );
+        for segment in [&g.syn, &g.arriving, &g.leaving] {
+            let segment = Last::new(segment);
+            let segment = segment.as_slice();
+            raw::judge_syn(table, source, destination, segment, g.setting);
+            raw::open_passive(
+                table,
+                source,
+                destination,
+                segment,
+                ISNS[1],
+                g.setting,
+                state().as_mut_slice(),
+            );
+            raw::judge(table, source, destination, segment, state().as_mut_slice());
+            let mut out = Last::new(&g.out);
+            raw::sign(table, segment, out.as_mut_slice(), state().as_mut_slice());
+            raw::sha1(segment, out.as_mut_slice());
+            raw::hmac_sha1(table, segment, out.as_mut_slice());
+            raw::aes128(source, segment, out.as_mut_slice());
+            raw::aes128_cmac(source, segment, out.as_mut_slice());
+        }
+        raw::ask(table, IDS[0], state().as_mut_slice());
+    }
+
+    #[test]
+    fn of_good_input() {
+        for kind in kinds() {
+            for data in [0, 1, 15, 16, 27, 28, 43, 44, 63, 64, 1_400, 65_499] {
+                let mut ends = Ends::open(kind);
+                let data = vec![5; data];
+                let arriving = segment(PORTS, ISNS[0] + 1, ACK, &[], &data);
+                let leaving = segment([PORTS[1], PORTS[0]], ISNS[1] + 1, ACK, &[], &data);
+                all(&Given {
+                    table: ends.tables[1].as_bytes().to_vec(),
+                    source: octets(ends.addresses[0]),
+                    destination: octets(ends.addresses[1]),
+                    syn: ends.syn.clone(),
+                    arriving: ends.sign(&arriving).unwrap(),
+                    out: vec![0; leaving.len() + 16],
+                    leaving,
+                    state: ends.ends[1].as_bytes().to_vec(),
+                    ..Given::good()
+                });
+            }
+        }
+    }
+
+    /// Each buffer cut at every length, the segment's header among them.
+    #[test]
+    fn of_cut_input() {
+        let good = Given::good();
+        for len in 0..=good.table.len() {
+            all(&Given {
+                table: good.table[..len].to_vec(),
+                ..good.clone()
+            });
+        }
+        for len in 0..=good.arriving.len() {
+            all(&Given {
+                arriving: good.arriving[..len].to_vec(),
+                ..good.clone()
+            });
+        }
+        for len in 0..=good.syn.len() {
+            all(&Given {
+                syn: good.syn[..len].to_vec(),
+                ..good.clone()
+            });
+        }
+        for len in 0..=20 {
+            all(&Given {
+                source: vec![1; len],
+                out: vec![0; len],
+                ..good.clone()
+            });
+            all(&Given {
+                source: vec![1; len],
+                destination: vec![1; len],
+                state: vec![4; len * 16],
+                ..good.clone()
+            });
+        }
+    }
+
+    /// Option areas that end in the middle of an option, directly at the end of memory.
+    #[test]
+    fn of_cut_options() {
+        let good = Given::good();
+        let mut bytes = Bytes(11);
+        for round in 0..4_000 {
+            let words = bytes.below(11);
+            let mut options = bytes.take(words * 4);
+            for _ in 0..bytes.below(4) {
+                if !options.is_empty() {
+                    let at = bytes.below(options.len());
+                    options[at] = [0, 1, 2, 4, 16, 19, 29, 30][bytes.below(8)];
+                }
+            }
+            let flags = [ACK, SYN, SYN | ACK][round % 3];
+            all(&Given {
+                arriving: segment(PORTS, ISNS[0] + 1, flags, &options, &[]),
+                leaving: segment([PORTS[1], PORTS[0]], ISNS[1], flags, &options, &[]),
+                ..good.clone()
+            });
+        }
+    }
+}

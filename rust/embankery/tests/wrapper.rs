@@ -1,0 +1,387 @@
+//! The wrapper's own work: an entry's bytes, a state's fields, every number as an answer of its
+//! calls, and no panic whatever they are given.
+
+mod common;
+
+use common::{kinds, segment, Bytes, Ends, ACK, FIRST_KIND, IDS, ISNS, PORTS, SYN};
+use embankery::{
+    judge_syn, Algorithm, Connection, Covered, Entry, EntryBuilder, KeyTable, Refusal,
+    UnknownKeyId, Verdict,
+};
+use std::net::{IpAddr, SocketAddr};
+
+#[test]
+fn bytes_of_an_ipv4_entry() {
+    let entry = Entry::ipv4()
+        .local([10, 1, 0, 0], 16)
+        .remote([192, 0, 2, 7], 32)
+        .local_ports(179..=180)
+        .remote_ports(1_024..=65_535)
+        .send_id(61)
+        .recv_id(84)
+        .algorithm(Algorithm::Aes128Cmac96)
+        .covered(Covered::OnlyTcpAo)
+        .key([9; 16])
+        .build()
+        .unwrap();
+    let mut expected = vec![4, 0, 2, 61, 84];
+    expected.extend([0, 179, 0, 180, 4, 0, 255, 255]);
+    expected.extend([10, 1, 0, 0, 16, 192, 0, 2, 7, 32]);
+    expected.push(16);
+    expected.extend([9; 16]);
+    expected.extend([0; 64]);
+    assert_eq!(expected.len(), 1 + 103);
+    assert_eq!(entry.as_bytes(), expected);
+}
+
+#[test]
+fn bytes_of_an_ipv6_entry() {
+    let entry = Entry::ipv6()
+        .local([0xFD00, 0, 0, 0, 0, 0, 0, 0], 8)
+        .key([7; 80])
+        .build()
+        .unwrap();
+    let mut expected = vec![6, 1, 1, 0, 0];
+    expected.extend([0, 0, 255, 255, 0, 0, 255, 255, 0xFD]);
+    expected.extend([0; 15]);
+    expected.push(8);
+    expected.extend([0; 17]);
+    expected.push(80);
+    expected.extend([7; 80]);
+    assert_eq!(expected.len(), 1 + 127);
+    assert_eq!(entry.as_bytes(), expected);
+}
+
+#[test]
+fn entries_refused() {
+    let v4 = || Entry::ipv4().key(b"key");
+    let v6 = || Entry::ipv6().key(b"key");
+    let number = |entry: EntryBuilder| entry.build().unwrap_err().number();
+    for len in [0, 81, 255, 256, 336, 100_000] {
+        assert_eq!(number(v4().key(vec![1; len])), 16, "{len} bytes of key");
+        assert_eq!(number(v6().key(vec![1; len])), 16, "{len} bytes of key");
+    }
+    for prefix in [33, 128, 255] {
+        assert_eq!(number(v4().local([0; 4], prefix)), 15);
+        assert_eq!(number(v4().remote([0; 4], prefix)), 15);
+    }
+    for prefix in [129, 255] {
+        assert_eq!(number(v6().local([0u16; 8], prefix)), 15);
+        assert_eq!(number(v6().remote([0u16; 8], prefix)), 15);
+    }
+    assert_eq!(number(v4().local([10, 0, 0, 1], 31)), 15);
+    assert_eq!(number(v6().remote([1u16; 8], 127)), 15);
+    let (low, high) = (180, 179);
+    assert_eq!(number(v4().local_ports(low..=high)), 14);
+    assert_eq!(number(v6().remote_ports(low..=high)), 14);
+    assert_eq!(number(v4().local([0u16; 8], 0)), 19);
+    assert_eq!(number(v6().remote([0; 4], 0)), 19);
+    // The first that applies.
+    assert_eq!(number(v4().local([0; 4], 40).key([1; 99])), 15);
+}
+
+#[test]
+fn numbers_of_the_table() {
+    let good = Entry::ipv4().key(b"key").build().unwrap();
+    let good = good.as_bytes();
+    // What is changed in a second entry, like the first but for its IDs.
+    let cases: [(u8, &[(usize, u8)]); 8] = [
+        (10, &[(0, 6)]),
+        (11, &[(0, 3)]),
+        (13, &[(1, 2)]),
+        (13, &[(2, 3)]),
+        (14, &[(5, 255), (7, 254)]),
+        (15, &[(17, 33)]),
+        (16, &[(103, 1)]),
+        (17, &[(3, 0)]),
+    ];
+    let mut second = good.to_vec();
+    second[3..5].copy_from_slice(&[1, 1]);
+    let table = KeyTable::from_bytes([good, &second].concat()).unwrap();
+    assert_eq!(table.len(), 2);
+    for (number, changes) in cases {
+        let mut second = second.clone();
+        for (at, value) in changes {
+            second[*at] = *value;
+        }
+        let refusal = KeyTable::from_bytes([good, &second].concat()).unwrap_err();
+        assert_eq!((refusal.number(), refusal.entry()), (number, Some(1)));
+        let shown = refusal.to_string();
+        assert!(shown.starts_with(&format!("{number} at entry 1: ")));
+    }
+    assert!(KeyTable::new([]).unwrap().is_empty());
+}
+
+/// 64 entries are a table, a 65th is refused with 12.
+#[test]
+fn too_many_entries() {
+    let entry = |id| Entry::ipv4().send_id(id).recv_id(id).key(b"key").build();
+    let entries: Vec<Entry> = (0..65).map(|id| entry(id).unwrap()).collect();
+    assert_eq!(KeyTable::new(&entries[..64]).unwrap().len(), 64);
+    let refusal = KeyTable::new(&entries).unwrap_err();
+    assert_eq!(refusal, Refusal::TooManyEntries { entry: 64 });
+}
+
+#[test]
+fn numbers_of_a_verdict() {
+    let mut ends = Ends::open(FIRST_KIND);
+    let plain = |flags, options: &[u8]| segment(PORTS, ISNS[0] + 1, flags, options, b"data");
+    let signed = ends.sign(&plain(ACK, &[1; 16])).unwrap();
+    let changed = |at: usize, bytes: &[u8]| {
+        let mut segment = signed.clone();
+        segment[at..at + bytes.len()].copy_from_slice(bytes);
+        segment
+    };
+    let half_way = ISNS[0] + (1 << 31);
+    let cases = [
+        (Refusal::Size, vec![0; 19]),
+        (Refusal::Options, plain(ACK, &[2, 9, 0, 0])),
+        (Refusal::OptionsConflict, changed(36, &signed[20..36])),
+        (Refusal::OtherPair, changed(0, &[0])),
+        (Refusal::Stage, plain(SYN, &[])),
+        (Refusal::OptionMissing, plain(ACK, &[])),
+        (Refusal::UnknownKeyId, changed(22, &[99])),
+        (Refusal::MacLength, plain(ACK, &[29, 4, IDS[0], 1])),
+        (Refusal::NoPosition, changed(4, &half_way.to_be_bytes())),
+        (Refusal::MacDiffers, changed(35, &[!signed[35]])),
+    ];
+    for (i, (refusal, arriving)) in cases.iter().enumerate() {
+        assert_eq!(ends.judge(arriving), Verdict::Drop(*refusal));
+        assert_eq!(refusal.number(), 20 + i as u8);
+        assert_eq!(ends.ends[1].dropped(refusal.number()), Some(1));
+    }
+    assert_eq!(ends.judge(&signed), Verdict::Accept { extension: 0 });
+    let end = &mut ends.ends[1];
+    assert_eq!(end.accepted(), 1);
+    assert!(end.drops().eq((20..=29).map(|number| (number, 1))));
+    assert_eq!(end.dropped(19), None);
+    assert_eq!(end.dropped(30), None);
+
+    let table = &ends.tables[1];
+    let before = end.clone();
+    let verdict = end.judge(table, [10, 0, 0, 1], [0u16; 8], &signed);
+    assert_eq!(verdict, Verdict::Drop(Refusal::AddressSizes));
+    assert_eq!(*end, before);
+}
+
+#[test]
+fn numbers_of_signing() {
+    let mut ends = Ends::open(FIRST_KIND);
+    let plain = |flags, options: &[u8]| segment(PORTS, ISNS[0] + 1, flags, options, b"data");
+    let numbered = |number| segment(PORTS, number, ACK, &[], b"data");
+    let cases = [
+        (30, vec![0; 19]),
+        (31, plain(ACK, &[2, 9, 0, 0])),
+        (31, plain(ACK, &[19, 4, 0, 0])),
+        (31, plain(ACK, &[29, 4, 0, 0])),
+        (32, plain(ACK, &[1; 28])),
+        (33, segment([1, 2], ISNS[0] + 1, ACK, &[], &[])),
+        (34, plain(SYN, &[])),
+        (36, plain(SYN | ACK, &[])),
+        (36, numbered(ISNS[0] + (1 << 31))),
+    ];
+    let before = ends.ends[0].clone();
+    for (number, segment) in cases {
+        assert_eq!(ends.sign(&segment).unwrap_err().number(), number);
+        assert_eq!(ends.ends[0], before);
+    }
+
+    let none = KeyTable::new([]).unwrap();
+    let [end, _] = &mut ends.ends;
+    let segment = plain(ACK, &[1; 24]);
+    let mut out = [0xAA; 64];
+    assert_eq!(end.sign(&none, &segment), Err(Refusal::NoEntry));
+    assert_eq!(end.ask(&none, IDS[1]), Err(Refusal::NoEntry));
+    assert_eq!(end.ask(&ends.tables[0], 77), Err(Refusal::NoEntry));
+    let short = end.sign_into(&ends.tables[0], &segment, &mut out[..63]);
+    assert_eq!(short, Err(Refusal::OutputTooShort));
+    assert_eq!((&*end, out), (&before, [0xAA; 64]));
+    let length = end.sign_into(&ends.tables[0], &segment, &mut out);
+    assert_eq!(length, Ok(64));
+}
+
+#[test]
+fn what_a_bare_syn_gets() {
+    let ends = Ends::open(FIRST_KIND);
+    let [source, destination] = ends.addresses;
+    let none = KeyTable::new([]).unwrap();
+    let mut damaged = ends.syn.clone();
+    damaged[35] ^= 1;
+    let plain = segment(PORTS, ISNS[0], SYN, &[], &[]);
+    let accepted = Verdict::Accept { extension: 0 };
+    let cases = [
+        (&ends.tables[1], &ends.syn, UnknownKeyId::Pass, accepted),
+        (
+            &ends.tables[1],
+            &damaged,
+            UnknownKeyId::Pass,
+            Verdict::Drop(Refusal::MacDiffers),
+        ),
+        (
+            &ends.tables[1],
+            &plain,
+            UnknownKeyId::Pass,
+            Verdict::Drop(Refusal::OptionMissing),
+        ),
+        (&none, &plain, UnknownKeyId::Drop, Verdict::Pass),
+        (&none, &ends.syn, UnknownKeyId::Pass, Verdict::Pass),
+        (
+            &none,
+            &ends.syn,
+            UnknownKeyId::Drop,
+            Verdict::Drop(Refusal::UnknownKeyId),
+        ),
+    ];
+    for (table, syn, unknown, expected) in cases {
+        assert_eq!(
+            judge_syn(table, source, destination, syn, unknown),
+            expected
+        );
+        let opened = Connection::open_passive(table, source, destination, syn, 1, unknown);
+        match expected {
+            Verdict::Accept { .. } => assert!(opened.unwrap().unwrap().is_open()),
+            Verdict::Pass => assert_eq!(opened, Ok(None)),
+            Verdict::Drop(refusal) => assert_eq!(opened, Err(refusal)),
+        }
+    }
+}
+
+/// A state's fields, each with a value of its own.
+#[test]
+fn fields_of_a_state() {
+    for (family, local, remote) in [
+        (4, "16.17.18.19:1029", "32.33.34.35:1543"),
+        (
+            6,
+            "[1011:1213:1415:1617:1819:1a1b:1c1d:1e1f]:1029",
+            "[2021:2223:2425:2627:2829:2a2b:2c2d:2e2f]:1543",
+        ),
+    ] {
+        let mut bytes: [u8; 152] = std::array::from_fn(|i| i as u8);
+        bytes[0] = family;
+        let state = Connection::from_bytes(&bytes).unwrap();
+        assert_eq!(state.local(), local.parse::<SocketAddr>().unwrap());
+        assert_eq!(state.remote(), remote.parse::<SocketAddr>().unwrap());
+        assert!(state.is_open());
+        assert_eq!((state.send_id(), state.asked_id()), (2, 3));
+        assert_eq!((state.isn(), state.peer_isn()), (0x08090A0B, 0x0C0D0E0F));
+        assert_eq!(state.sent_reference(), 0x3031323334353637);
+        assert_eq!(state.seen_reference(), 0x38393A3B3C3D3E3F);
+        assert_eq!(state.accepted(), 0x4041424344454647);
+        assert_eq!(state.dropped(20), Some(0x48494A4B4C4D4E4F));
+        assert_eq!(state.dropped(29), Some(0x9091929394959697));
+        assert_eq!(state.as_bytes(), &bytes);
+        bytes[1] = 2;
+        assert!(!Connection::from_bytes(&bytes).unwrap().is_open());
+    }
+    for family in (0..=255).filter(|family| ![4, 6].contains(family)) {
+        let mut bytes = [4; 152];
+        bytes[0] = family;
+        assert_eq!(Connection::from_bytes(&bytes), Err(Refusal::State));
+    }
+    for len in (0..=300).filter(|len| *len != 152) {
+        assert_eq!(Connection::from_bytes(&vec![4; len]), Err(Refusal::State));
+    }
+}
+
+/// A key change, asked for by one end: the other signs under the new key from then on.
+#[test]
+fn key_change() {
+    for kind in kinds() {
+        let mut ends = Ends::open(kind);
+        for end in [0, 1] {
+            let new = if kind.ipv6 {
+                Entry::ipv6()
+            } else {
+                Entry::ipv4()
+            };
+            let new = new.send_id(50 + end as u8).recv_id(51 - end as u8);
+            let new = new.key(b"new").build().unwrap();
+            let both = [ends.tables[end].as_bytes(), new.as_bytes()].concat();
+            ends.tables[end] = KeyTable::from_bytes(both).unwrap();
+        }
+        ends.ends[0].ask(&ends.tables[0], 51).unwrap();
+        assert_eq!(ends.ends[0].asked_id(), 51);
+        let signed = segment(PORTS, ISNS[0] + 1, ACK, &[], b"");
+        let signed = ends.sign(&signed).unwrap();
+        assert_eq!(ends.ends[1].send_id(), IDS[1]);
+        assert_eq!(ends.judge(&signed), Verdict::Accept { extension: 0 });
+        assert_eq!(ends.ends[1].send_id(), 51);
+    }
+}
+
+/// Both ends over the rollover of the sequence numbers.
+#[test]
+fn rollover() {
+    for kind in kinds() {
+        let mut ends = Ends::open(kind);
+        let mut number = ISNS[0];
+        let mut extension = 0;
+        for _ in 0..12 {
+            let (next, rolled) = number.overflowing_add(0x3FFF_FFFF);
+            number = next;
+            extension += u32::from(rolled);
+            let signed = ends.sign(&segment(PORTS, number, ACK, &[], b"data"));
+            assert_eq!(ends.judge(&signed.unwrap()), Verdict::Accept { extension });
+        }
+        assert_eq!(extension, 3);
+        let furthest = u64::from(extension) << 32 | u64::from(number);
+        assert_eq!(ends.ends[0].sent_reference(), furthest);
+        assert_eq!(ends.ends[1].seen_reference(), furthest);
+    }
+}
+
+/// What is shown for people to read holds no key.
+#[test]
+fn no_key_is_shown() {
+    let builder = Entry::ipv4().key([0xEE; 16]);
+    let entry = builder.clone().build().unwrap();
+    let table = KeyTable::new([&entry]).unwrap();
+    let shown = format!("{builder:?} {entry:?} {table:?}");
+    assert!(!shown.contains("238") && !shown.to_lowercase().contains("ee"));
+}
+
+/// Any bytes anywhere: every call returns.
+#[test]
+fn any_bytes() {
+    let mut bytes = Bytes(17);
+    let mut ends = Ends::open(FIRST_KIND);
+    let signed = segment(PORTS, ISNS[0] + 1, ACK, &[1; 8], b"data");
+    let signed = ends.sign(&signed).unwrap();
+    let good = ends.ends[1].as_bytes().to_vec();
+    for _ in 0..20_000 {
+        let mut segment = signed.clone();
+        for _ in 0..bytes.below(4) {
+            let at = bytes.below(segment.len());
+            segment[at] = bytes.byte();
+        }
+        segment.truncate(bytes.below(segment.len() + 1));
+        let mut state = good.clone();
+        for _ in 0..bytes.below(6) {
+            let at = bytes.below(state.len());
+            state[at] = bytes.byte();
+        }
+        let Ok(mut end) = Connection::from_bytes(&state) else {
+            continue;
+        };
+        let addresses = [
+            ends.addresses[0],
+            ends.addresses[1],
+            IpAddr::from([bytes.byte(); 16]),
+        ];
+        let source = addresses[bytes.below(3)];
+        let destination = addresses[bytes.below(3)];
+        let table = &ends.tables[bytes.below(2)];
+        let setting = [UnknownKeyId::Pass, UnknownKeyId::Drop][bytes.below(2)];
+        let _ = judge_syn(table, source, destination, &segment, setting);
+        let _ = Connection::open_passive(table, source, destination, &segment, 7, setting);
+        let _ = Connection::open_active(table, (source, 1), (destination, 2), 7, bytes.byte());
+        let _ = end.judge(table, source, destination, &segment);
+        let _ = end.ask(table, bytes.byte());
+        let _ = end.sign(table, &segment);
+        let mut out = vec![0; bytes.below(100)];
+        let _ = end.sign_into(table, &segment, &mut out);
+        let _ = format!("{end:?}");
+        let _ = KeyTable::from_bytes(segment);
+    }
+}
