@@ -108,6 +108,9 @@ struct Arrival {
 /// A bare SYN, made from nothing, for `judge_syn` or `open_passive` at this pair.
 pub fn syn(random: &mut Prng, function: Function, at: &At, pair: &Pair, aim: &Aim) -> Call {
     let sequence = number(random);
+    // Now and then a pair that no entry may match.
+    let elsewhere = Pair::random(random);
+    let pair = if random.one_in(12) { &elsewhere } else { pair };
     let flags = if aim.has(24) {
         random.pick(&[ACK, SYN | ACK, 0])
     } else {
@@ -374,8 +377,16 @@ fn finished(random: &mut Prng, mut call: Call, at: &At, aim: &Aim) -> Call {
         }
     }
     if aim.has(19) && call.function.takes_addresses() {
-        let (one, other) =
-            random.pick(&[(4, 16), (16, 4), (0, 0), (3, 4), (5, 5), (4, 8), (16, 17)]);
+        let any = random.below(20);
+        let (one, other) = random.pick(&[
+            (4, 16),
+            (16, 4),
+            (0, 0),
+            (5, 5),
+            (4, any),
+            (any, 16),
+            (any, any),
+        ]);
         call.source.resize(one, 1);
         call.destination.resize(other, 1);
     }

@@ -105,10 +105,10 @@ impl Lent {
     /// Whether a canary or a buffer that is only read has changed.
     fn strayed(&self, read_only: [&[u8]; 4]) -> bool {
         let canary = |end: usize| self.memory[end - CANARY.len()..end] == CANARY;
-        let read = read_only.iter().enumerate();
+        let mut read = read_only.iter().enumerate();
         let same = |(index, part): (usize, &&[u8])| self.part(index, part.len()) == *part;
         let unhurt = self.starts.into_iter().all(canary) && canary(self.memory.len());
-        !unhurt || !read.map(same).all(|same| same)
+        !unhurt || !read.all(same)
     }
 }
 
@@ -160,5 +160,26 @@ pub fn by_archive(call: &Call) -> Outcome {
         out: lent.part(4, on).to_vec(),
         state: lent.part(5, wn).to_vec(),
         strayed: lent.strayed([table, source, destination, segment]),
+    }
+}
+
+#[cfg(test)]
+mod tests {
+    use super::*;
+
+    /// A byte written anywhere but in the two buffers lent for writing is noticed.
+    #[test]
+    fn strays_are_noticed() {
+        let parts: [&[u8]; 6] = [b"table", b"one", b"", b"segment", b"out", b"state"];
+        let read_only = [parts[0], parts[1], parts[2], parts[3]];
+        let bytes = Lent::new(parts).memory.len();
+        let mut unnoticed = 0;
+        for at in 0..bytes {
+            let mut lent = Lent::new(parts);
+            assert!(!lent.strayed(read_only));
+            lent.memory[at] ^= 1;
+            unnoticed += !lent.strayed(read_only) as usize;
+        }
+        assert_eq!(unnoticed, "out".len() + "state".len());
     }
 }

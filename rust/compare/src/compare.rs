@@ -8,8 +8,13 @@ use crate::archive::by_archive;
 use crate::calls::{by_reference, Call, Outcome};
 use crate::counts::Counts;
 use crate::prng::Prng;
+use crate::report;
 use crate::world::{Caller, Stop, World};
 use reference::Rules;
+
+/// The run that the gate makes.
+pub const SEED: u64 = 20_251_116;
+pub const CALLS: u64 = 1_000_000;
 
 /// Rules that the reference goes by, and where it first differed from the archive.
 pub struct Tried {
@@ -32,29 +37,44 @@ pub struct Run {
     pub calls: u64,
     pub counts: Counts,
     pub tried: Vec<Tried>,
-    limit: u64,
-    /// The last call, if it is to be shown.
+    /// The last of all calls.
     pub last: Option<(Call, Outcome)>,
+    /// Whether each call is named before it is made, in case it does not return.
+    pub trace: bool,
+    limit: u64,
 }
 
 impl Run {
-    /// Makes `limit` calls, fewer if all the rules tried have differed before.
-    pub fn of(seed: u64, limit: u64, rules: &[Rules]) -> Run {
+    /// A run of `limit` calls.
+    pub fn new(seed: u64, limit: u64, rules: &[Rules]) -> Run {
         let tried = rules.iter().map(|rules| Tried {
             rules: *rules,
             difference: None,
         });
-        let mut run = Run {
+        Run {
             seed,
             calls: 0,
             counts: Counts::default(),
             tried: tried.collect(),
-            limit,
             last: None,
-        };
-        let mut random = Prng::new(seed);
-        while World::run(&mut random, &mut run).is_ok() {}
-        run
+            trace: false,
+            limit,
+        }
+    }
+
+    /// Makes the calls, fewer if all the rules tried have differed before.
+    pub fn made(mut self) -> Run {
+        let mut random = Prng::new(self.seed);
+        while World::run(&mut random, &mut self).is_ok() {}
+        self
+    }
+
+    fn name_call(&self, call: &Call) {
+        let name = call.function.name();
+        eprintln!("call {} of seed {}: {name}", self.calls, self.seed);
+        if self.calls + 1 == self.limit {
+            eprint!("{}", report::lines(call, usize::MAX));
+        }
     }
 
     /// The difference that was found first.
@@ -71,6 +91,9 @@ impl Caller for Run {
     fn call(&mut self, call: &Call) -> Result<Outcome, Stop> {
         if self.calls == self.limit {
             return Err(Stop);
+        }
+        if self.trace {
+            self.name_call(call);
         }
         let index = self.calls;
         self.calls += 1;

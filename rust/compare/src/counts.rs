@@ -1,9 +1,9 @@
-//! What a run has met: each number of each call, and some situations that no number tells.
+//! What a run has met: each number of each call, and situations that no number tells.
 
 use crate::calls::{Call, Function, Outcome};
 use crate::numbers::{possible, ALL};
 use reference::segment::{read_options, Header};
-use reference::table::{self, by_recv_id};
+use reference::table::{self, by_recv_id, Algorithm};
 use reference::{Rules, State};
 
 /// How often each number and each situation must be met.
@@ -11,31 +11,192 @@ pub const LEAST: u64 = 100;
 
 #[derive(Default)]
 pub struct Counts {
-    numbers: [[u64; 32]; 7],
+    numbers: [[u64; ALL.len() + 1]; Function::ALL.len()],
     situations: [u64; SITUATIONS.len()],
 }
 
-/// Situations of judging.
-const SITUATIONS: [&str; 16] = [
-    "accepted at the reference: a repetition",
-    "accepted ahead of the reference",
-    "accepted behind the reference",
-    "accepted ahead, in the next turn of 2^32",
-    "accepted behind, in the turn before",
-    "accepted 2^31 - 1 away",
-    "accepted, and the outgoing key changes",
-    "accepted, asks for a key that is not there",
-    "accepted with a count at its stop",
-    "accepted while opening, from a state with other bytes",
-    "accepted IPv4, algorithm 1, options covered",
-    "accepted IPv4, algorithm 2, options not covered",
-    "accepted IPv6, algorithm 1, options not covered",
-    "accepted IPv6, algorithm 2, options covered",
-    "dropped with a count at its stop",
-    "dropped while opening",
+/// A call and what came of it.
+struct Seen<'a> {
+    call: &'a Call,
+    outcome: &'a Outcome,
+    /// The state before it; without one, an empty one.
+    before: State,
+    /// Of a segment that was accepted on a connection.
+    accepted: Option<Accepted>,
+}
+
+struct Accepted {
+    position: u64,
+    algorithm: Algorithm,
+    covers_options: bool,
+    key_changed: bool,
+    asks: Asked,
+}
+
+/// Which entries have the SendID that an accepted segment asks for.
+#[derive(PartialEq)]
+enum Asked {
+    ThisPair,
+    OthersOnly,
+    NoEntry,
+}
+
+type Situation = (&'static str, fn(&Seen) -> bool);
+
+const SITUATIONS: [Situation; 25] = [
+    ("accepted at the reference: repeated", |seen| {
+        seen.open(|a, reference| a.position == reference)
+    }),
+    ("accepted ahead of the reference", |seen| {
+        seen.open(|a, reference| a.position > reference)
+    }),
+    ("accepted behind the reference", |seen| {
+        seen.open(|a, reference| a.position < reference)
+    }),
+    ("accepted ahead, one turn of 2^32 on", |seen| {
+        seen.open(|a, reference| a.position >> 32 > reference >> 32)
+    }),
+    ("accepted behind, one turn of 2^32 back", |seen| {
+        seen.open(|a, reference| a.position >> 32 < reference >> 32)
+    }),
+    ("accepted 2^31 - 1 from the reference", |seen| {
+        seen.open(|a, reference| a.position.abs_diff(reference) == (1 << 31) - 1)
+    }),
+    ("28 at 2^31 from the reference", |seen| {
+        seen.drops(28) && seen.half_a_turn_away()
+    }),
+    ("28 for a position below 0", |seen| {
+        seen.drops(28) && seen.before.arriving_reference < 1 << 31 && !seen.half_a_turn_away()
+    }),
+    ("28 for a position from 2^64 on", |seen| {
+        let near_the_end = seen.before.arriving_reference > u64::MAX - (1 << 31);
+        seen.drops(28) && near_the_end && !seen.half_a_turn_away()
+    }),
+    ("accepted, the outgoing key changes", |seen| {
+        seen.accepts(|a| a.key_changed)
+    }),
+    ("accepted, asks for a key that only others have", |seen| {
+        seen.accepts(|a| a.asks == Asked::OthersOnly)
+    }),
+    ("accepted, asks for a key that none has", |seen| {
+        seen.accepts(|a| a.asks == Asked::NoEntry)
+    }),
+    ("accepted, IPv4, algorithm 1, options covered", |seen| {
+        seen.way(4, Algorithm::HmacSha1, true)
+    }),
+    ("accepted, IPv4, algorithm 1, options left out", |seen| {
+        seen.way(4, Algorithm::HmacSha1, false)
+    }),
+    ("accepted, IPv4, algorithm 2, options covered", |seen| {
+        seen.way(4, Algorithm::AesCmac, true)
+    }),
+    ("accepted, IPv4, algorithm 2, options left out", |seen| {
+        seen.way(4, Algorithm::AesCmac, false)
+    }),
+    ("accepted, IPv6, algorithm 1, options covered", |seen| {
+        seen.way(6, Algorithm::HmacSha1, true)
+    }),
+    ("accepted, IPv6, algorithm 1, options left out", |seen| {
+        seen.way(6, Algorithm::HmacSha1, false)
+    }),
+    ("accepted, IPv6, algorithm 2, options covered", |seen| {
+        seen.way(6, Algorithm::AesCmac, true)
+    }),
+    ("accepted, IPv6, algorithm 2, options left out", |seen| {
+        seen.way(6, Algorithm::AesCmac, false)
+    }),
+    ("accepted while opening, counts not 0", |seen| {
+        seen.accepted.is_some() && !seen.before.is_open() && seen.before.accepted != 0
+    }),
+    ("accepted, the count at its stop", |seen| {
+        seen.open(|_, _| seen.before.accepted == u64::MAX)
+    }),
+    ("dropped, the count at its stop", |seen| {
+        let at_stop = |number: u8| seen.before.drops[number as usize - 20] == u64::MAX;
+        (20..=29).any(|number| seen.drops(number) && at_stop(number))
+    }),
+    ("accepted or signed, 65,519 bytes or more", |seen| {
+        seen.outcome.number() == 0 && seen.call.segment.len() >= 65_519
+    }),
+    ("a table of 64 entries, not refused", |seen| {
+        !(10..=19).contains(&seen.outcome.number()) && entries(&seen.call.table) == 64
+    }),
 ];
 
-/// The place of a number in [`ALL`].
+impl<'a> Seen<'a> {
+    fn new(call: &'a Call, outcome: &'a Outcome) -> Seen<'a> {
+        let before = State::from_bytes(&call.state).unwrap_or(State::EMPTY);
+        let accepts = call.function == Function::Judge && outcome.number() == 0;
+        Seen {
+            call,
+            outcome,
+            before,
+            accepted: accepts.then(|| accepted(call, outcome, &before)).flatten(),
+        }
+    }
+
+    fn accepts(&self, which: impl Fn(&Accepted) -> bool) -> bool {
+        self.accepted.as_ref().is_some_and(which)
+    }
+
+    fn open(&self, which: impl Fn(&Accepted, u64) -> bool) -> bool {
+        self.before.is_open() && self.accepts(|a| which(a, self.before.arriving_reference))
+    }
+
+    fn way(&self, family: u8, algorithm: Algorithm, covers_options: bool) -> bool {
+        self.before.family == family
+            && self.accepts(|a| a.algorithm == algorithm && a.covers_options == covers_options)
+    }
+
+    /// Whether it was dropped with this number on an open connection.
+    fn drops(&self, number: u8) -> bool {
+        let judged = self.call.function == Function::Judge && self.before.is_open();
+        judged && self.outcome.number() == number
+    }
+
+    /// Whether the segment's number is 2^31 from the reference, in either direction.
+    fn half_a_turn_away(&self) -> bool {
+        let reference = self.before.arriving_reference as u32;
+        Header::read(&self.call.segment)
+            .is_some_and(|header| header.sequence.wrapping_sub(reference) == 1 << 31)
+    }
+}
+
+/// How many entries a table has that is not refused.
+fn entries(table: &[u8]) -> usize {
+    let mut count = 0;
+    let mut at = 0;
+    while at < table.len() {
+        at += if table[at] == 4 { 104 } else { 128 };
+        count += 1;
+    }
+    count
+}
+
+/// What an accepted segment was accepted by.
+fn accepted(call: &Call, outcome: &Outcome, before: &State) -> Option<Accepted> {
+    let rules = Rules::default();
+    let header = Header::read(&call.segment)?;
+    let ao = read_options(rules, &call.segment, &header)?.ao?;
+    let entries = table::read(rules, &call.table).ok()?;
+    let pair = before.pair()?;
+    let entry = by_recv_id(rules, &entries, &pair, ao.key_id)?;
+    let mut with_it = entries.iter().filter(|e| e.send_id == ao.rnext_key_id);
+    let asks = match with_it.clone().next() {
+        None => Asked::NoEntry,
+        Some(_) if with_it.any(|e| e.matches(rules, &pair)) => Asked::ThisPair,
+        Some(_) => Asked::OthersOnly,
+    };
+    Some(Accepted {
+        position: (outcome.value() as u64) << 32 | header.sequence as u64,
+        algorithm: entry.algorithm,
+        covers_options: entry.covers_options,
+        key_changed: outcome.state[2] != before.outgoing_send_id,
+        asks,
+    })
+}
+
+/// The place of a number in [`ALL`]; the place behind it is for numbers that are not there.
 fn place(number: u8) -> usize {
     ALL.iter().position(|n| *n == number).unwrap_or(ALL.len())
 }
@@ -43,10 +204,9 @@ fn place(number: u8) -> usize {
 impl Counts {
     pub fn add(&mut self, call: &Call, outcome: &Outcome) {
         self.numbers[call.function as usize][place(outcome.number())] += 1;
-        if call.function == Function::Judge {
-            for situation in situations(call, outcome) {
-                self.situations[situation] += 1;
-            }
+        let seen = Seen::new(call, outcome);
+        for (count, (_, which)) in self.situations.iter_mut().zip(SITUATIONS) {
+            *count += which(&seen) as u64;
         }
     }
 
@@ -65,19 +225,19 @@ impl Counts {
     pub fn faults(&self) -> Vec<String> {
         let mut faults = vec![];
         for function in Function::ALL {
-            for number in ALL {
-                let count = self.numbers[function as usize][place(number)];
+            for (at, count) in self.numbers[function as usize].iter().enumerate() {
+                let number = ALL.get(at).copied().unwrap_or(255);
                 let name = function.name();
                 if possible(function).contains(&number) {
-                    if count < LEAST {
+                    if *count < LEAST {
                         faults.push(format!("{name} gave {number} only {count} times"));
                     }
-                } else if count > 0 {
+                } else if *count > 0 {
                     faults.push(format!("{name} gave {number}, which it never should"));
                 }
             }
         }
-        for (name, count) in SITUATIONS.iter().zip(self.situations) {
+        for ((name, _), count) in SITUATIONS.iter().zip(self.situations) {
             if count < LEAST {
                 faults.push(format!("{name}: only {count} times"));
             }
@@ -85,7 +245,7 @@ impl Counts {
         faults
     }
 
-    /// One row for each number, one column for each call.
+    /// One row for each number, one column for each call; then the situations.
     pub fn print(&self) {
         print!("number");
         for function in Function::ALL {
@@ -103,73 +263,8 @@ impl Counts {
             }
             println!();
         }
-        for (name, count) in SITUATIONS.iter().zip(self.situations) {
-            println!("{count:>9}  judge {name}");
+        for ((name, _), count) in SITUATIONS.iter().zip(self.situations) {
+            println!("{count:>9}  {name}");
         }
     }
-}
-
-/// Which of the situations a call of `judge` was.
-fn situations(call: &Call, outcome: &Outcome) -> Vec<usize> {
-    let mut met = vec![];
-    let (Some(before), Some(after)) = (
-        State::from_bytes(&call.state),
-        State::from_bytes(&outcome.state),
-    ) else {
-        return met;
-    };
-    match outcome.number() {
-        0 if before.is_open() => {
-            let header = Header::read(&call.segment).unwrap();
-            let x = (outcome.value() as u64) << 32 | header.sequence as u64;
-            let turn = (before.arriving_reference >> 32) as u32;
-            let away = x.abs_diff(before.arriving_reference);
-            met.push(match x.cmp(&before.arriving_reference) {
-                std::cmp::Ordering::Equal => 0,
-                std::cmp::Ordering::Greater => 1,
-                std::cmp::Ordering::Less => 2,
-            });
-            met.extend((outcome.value() > turn).then_some(3));
-            met.extend((outcome.value() < turn).then_some(4));
-            met.extend((away == (1 << 31) - 1).then_some(5));
-            met.extend((before.accepted == u64::MAX).then_some(8));
-        }
-        0 => {
-            let other = before.accepted != 0 || before.arriving_reference != 0;
-            met.extend(other.then_some(9));
-        }
-        number @ 20..=29 => {
-            let at_stop = before.drops[number as usize - 20] == u64::MAX;
-            met.extend((before.is_open() && at_stop).then_some(14));
-            met.extend((!before.is_open()).then_some(15));
-        }
-        _ => {}
-    }
-    if outcome.number() == 0 {
-        let changed = after.outgoing_send_id != before.outgoing_send_id;
-        met.extend(changed.then_some(6));
-        if let Some((rnext, way)) = asked_and_way(call, &before) {
-            let refused = rnext != after.outgoing_send_id;
-            met.extend(refused.then_some(7));
-            met.extend(way);
-        }
-    }
-    met
-}
-
-/// Of an accepted segment: its RNextKeyID, and the situation by family, algorithm and flags.
-fn asked_and_way(call: &Call, before: &State) -> Option<(u8, Option<usize>)> {
-    let rules = Rules::default();
-    let header = Header::read(&call.segment)?;
-    let ao = read_options(rules, &call.segment, &header)?.ao?;
-    let entries = table::read(rules, &call.table).ok()?;
-    let entry = by_recv_id(rules, &entries, &before.pair()?, ao.key_id)?;
-    let way = match (before.family, entry.algorithm, entry.covers_options) {
-        (4, table::Algorithm::HmacSha1, true) => Some(10),
-        (4, table::Algorithm::AesCmac, false) => Some(11),
-        (6, table::Algorithm::HmacSha1, false) => Some(12),
-        (6, table::Algorithm::AesCmac, true) => Some(13),
-        _ => None,
-    };
-    Some((ao.rnext_key_id, way))
 }

@@ -1,5 +1,6 @@
 //! `compare [SECONDS] [--seed S]` compares for so long, 60 seconds if nothing is said, from a seed
-//! that is printed. `compare --seed S --upto N` makes the calls of seed S up to N and shows N in full.
+//! that is printed. `compare --seed S --upto N` makes the calls of seed S up to N and shows N in
+//! full. With `--trace` each call is named before it is made, in case one does not return.
 
 use compare::compare::Run;
 use compare::counts::Counts;
@@ -8,13 +9,14 @@ use compare::report;
 use reference::Rules;
 use std::time::{Duration, Instant, SystemTime, UNIX_EPOCH};
 
-/// The calls of one seed; a difference is then at most so many calls from its beginning.
+/// The calls of one seed; after these another one is taken, so that each can be made again soon.
 const CALLS: u64 = 100_000;
 
 struct Arguments {
     seconds: u64,
     seed: u64,
     upto: Option<u64>,
+    trace: bool,
 }
 
 fn arguments() -> Option<Arguments> {
@@ -23,25 +25,36 @@ fn arguments() -> Option<Arguments> {
         seconds: 60,
         seed: now.as_nanos() as u64,
         upto: None,
+        trace: false,
     };
     let mut words = std::env::args().skip(1);
     while let Some(word) = words.next() {
         match word.as_str() {
             "--seed" => arguments.seed = words.next()?.parse().ok()?,
             "--upto" => arguments.upto = Some(words.next()?.parse().ok()?),
+            "--trace" => arguments.trace = true,
             seconds => arguments.seconds = seconds.parse().ok()?,
         }
     }
     Some(arguments)
 }
 
-/// Shows the call of this index in full, with both answers.
-fn show(seed: u64, index: u64) -> bool {
-    let run = Run::of(seed, index + 1, &[Rules::default()]);
+fn made(seed: u64, limit: u64, trace: bool) -> Run {
+    let mut run = Run::new(seed, limit, &[Rules::default()]);
+    run.trace = trace;
+    run.made()
+}
+
+/// Shows the call of this index in full, with both answers if they differ.
+fn show(arguments: &Arguments, index: u64) -> bool {
+    let run = made(arguments.seed, index + 1, arguments.trace);
     if let Some((call, outcome)) = &run.last {
-        println!("call {index} of seed {seed}");
+        println!("call {index} of seed {}", run.seed);
         print!("{}", report::lines(call, usize::MAX));
-        print!("{}", report::outcome("archive", call, outcome, None));
+        print!(
+            "{}",
+            report::outcome("archive", call, outcome, None, usize::MAX)
+        );
     }
     if let Some(difference) = run.difference() {
         print!("{}", report::difference(difference));
@@ -49,34 +62,38 @@ fn show(seed: u64, index: u64) -> bool {
     run.difference().is_none()
 }
 
-fn soak(seconds: u64, seed: u64) -> bool {
+/// Compares seed after seed, the first one as given.
+fn soak(arguments: &Arguments) -> bool {
+    let Arguments { seconds, seed, .. } = *arguments;
     println!("comparing for {seconds} seconds from seed {seed}");
     let begin = Instant::now();
     let mut seeds = Prng::new(seed);
+    let mut next = seed;
     let mut calls = 0;
     let mut counts = Counts::default();
     while begin.elapsed() < Duration::from_secs(seconds) {
-        let run = Run::of(seeds.long(), CALLS, &[Rules::default()]);
-        calls += run.calls;
-        counts.join(&run.counts);
+        let run = made(next, CALLS, arguments.trace);
         if let Some(difference) = run.difference() {
             print!("{}", report::difference(difference));
             return false;
         }
+        calls += run.calls;
+        counts.join(&run.counts);
+        next = seeds.long();
     }
     counts.print();
-    println!("{calls} calls from seed {seed}: no difference");
+    println!("archive and reference: {calls} calls from seed {seed}, no difference");
     true
 }
 
 fn main() {
     let Some(arguments) = arguments() else {
-        eprintln!("compare [SECONDS] [--seed S] [--upto N]");
+        eprintln!("compare [SECONDS] [--seed S] [--upto N] [--trace]");
         std::process::exit(2);
     };
     let good = match arguments.upto {
-        Some(index) => show(arguments.seed, index),
-        None => soak(arguments.seconds, arguments.seed),
+        Some(index) => show(&arguments, index),
+        None => soak(&arguments),
     };
     std::process::exit(if good { 0 } else { 1 });
 }

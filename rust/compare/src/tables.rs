@@ -160,7 +160,8 @@ pub struct Key {
 impl Key {
     /// An entry that matches the pair.
     fn for_pair(random: &mut Prng, pair: &Pair) -> Key {
-        let length = random.pick(&[1, 5, 15, 16, 16, 16, 17, 20, 63, 64, 65, 79, 80]);
+        let any = 1 + random.below(80);
+        let length = random.pick(&[16, 16, 16, 1, 15, 17, 64, 65, 80, any, any]);
         Key {
             flags: random.below(2) as u8,
             algorithm: 1 + random.below(2) as u8,
@@ -245,8 +246,12 @@ pub fn bytes(keys: &[Key]) -> Vec<u8> {
 /// A table around a pair that is (nearly always) valid: some entries match the pair, others reuse
 /// their IDs beside it, some are of another pair or family.
 pub fn around(random: &mut Prng, pair: &Pair) -> Vec<Key> {
-    let full = random.one_in(60);
-    let count = if full { 64 } else { random.below(8) };
+    let large = random.one_in(50);
+    let count = match random.below(3) {
+        0 if large => 8 + random.below(56),
+        _ if large => 64,
+        _ => random.below(8),
+    };
     let mut keys: Vec<Key> = vec![];
     for _ in 0..3 * count {
         if keys.len() == count {
@@ -257,7 +262,7 @@ pub fn around(random: &mut Prng, pair: &Pair) -> Vec<Key> {
             1..=3 if !keys.is_empty() => keys[random.below(keys.len())].relative(random),
             _ => Key::for_pair(random, pair),
         };
-        if full {
+        if large {
             (key.send_id, key.recv_id) = (random.byte(), random.byte());
         }
         keys.push(key);
@@ -302,7 +307,9 @@ pub fn spoilt(random: &mut Prng, keys: &[Key]) -> Vec<u8> {
             2 => cut(random, &mut entries),
             _ => {
                 let at = random.below(entries.len());
-                spoil_entry(random, &mut entries[at]);
+                for _ in 0..random.pick(&[1, 1, 2]) {
+                    spoil_entry(random, &mut entries[at]);
+                }
             }
         }
     }

@@ -138,7 +138,7 @@ impl World {
             self.ends.swap(0, 1);
         }
         let [me, peer] = &mut self.ends;
-        match random.below(20) {
+        match random.below(24) {
             0..=3 => {
                 if let Some(segment) = me.sign(random, caller)? {
                     me.sent.push(segment);
@@ -148,9 +148,9 @@ impl World {
             9..=12 => me.judge(random, caller)?,
             13..=14 => me.try_sign(random, caller)?,
             15 => me.ask(random, caller)?,
-            16 => me.listen(random, caller, &peer.sent)?,
-            17 => me.open_active(random, caller)?,
-            18 => me.check_table(random, caller)?,
+            16..=19 => me.listen(random, caller, &peer.sent)?,
+            20..=21 => me.open_active(random, caller)?,
+            22 => me.check_table(random, caller)?,
             _ => self.happen(random),
         }
         Ok(())

@@ -1,25 +1,22 @@
 //! The archive gives what document 01, once more in plain Rust, gives: on every call of one seed the
 //! same answer, the same state and the same output. Every number of every call is met.
 
-use compare::compare::Run;
+use compare::compare::{Run, CALLS, SEED};
 use compare::report;
 use reference::Rules;
 use std::time::Instant;
 
-const SEED: u64 = 20_251_116;
-const CALLS: u64 = 400_000;
-
 fn main() {
     let begin = Instant::now();
-    let run = Run::of(SEED, CALLS, &[Rules::default()]);
+    println!("archive and reference, {CALLS} calls from seed {SEED}");
+    let run = Run::new(SEED, CALLS, &[Rules::default()]).made();
     run.counts.print();
-    if let Some(difference) = run.difference() {
-        print!("{}", report::difference(difference));
-    }
     let agree = run.difference().is_none();
     let missed = run.counts.faults();
-    for fault in &missed {
-        println!("{fault}");
+    if let Some(difference) = run.difference() {
+        print!("{}", report::difference(difference));
+    } else {
+        missed.iter().for_each(|missed| println!("{missed}"));
     }
     println!(
         "archive and reference: {} calls from seed {SEED} in {:.1} s, {}, {}",
