@@ -36,8 +36,8 @@ fn verdict_word(verdict: Verdict) -> u64 {
 
 /// "`setting` says what a bare SYN with TCP-AO gets where no entry has its KeyID: 0 pass, any other
 /// value drop 26."
-fn setting_of(byte: u8) -> Setting {
-    if byte == 0 {
+fn setting_of(rules: Rules, byte: u8) -> Setting {
+    if byte == 0 || (byte != 1 && rules.has(Fault::OtherSettingsPass)) {
         Setting::Pass
     } else {
         Setting::Drop
@@ -93,7 +93,7 @@ pub fn tcpao_judge_syn(
     segment: &[u8],
     setting: u8,
 ) -> u64 {
-    let setting = setting_of(setting);
+    let setting = setting_of(rules, setting);
     let verdict = calls::judge_syn(rules, table, source, destination, segment, setting);
     verdict_word(verdict)
 }
@@ -113,10 +113,11 @@ pub fn tcpao_open_passive(
     if State::from_bytes(state).is_none() {
         return word(18, 0);
     }
-    let setting = setting_of(setting);
+    let setting = setting_of(rules, setting);
     let (verdict, opened) =
         calls::open_passive(rules, table, source, destination, segment, isn, setting);
-    if let Verdict::Accept(_) = verdict {
+    let passed = verdict == Verdict::Pass && rules.has(Fault::PassedOpeningEmptiesBuffer);
+    if matches!(verdict, Verdict::Accept(_)) || passed {
         state.copy_from_slice(&opened.to_bytes());
     }
     verdict_word(verdict)
@@ -134,7 +135,11 @@ pub fn tcpao_judge(
     let Some(before) = State::from_bytes(state) else {
         return word(18, 0);
     };
-    let (verdict, after) = calls::judge(rules, table, source, destination, segment, &before);
+    let (verdict, mut after) = calls::judge(rules, table, source, destination, segment, &before);
+    if rules.has(Fault::UnusedAddressBytesCleared) && after.family == 4 {
+        after.local[4..].fill(0);
+        after.remote[4..].fill(0);
+    }
     state.copy_from_slice(&after.to_bytes());
     verdict_word(verdict)
 }

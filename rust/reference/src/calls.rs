@@ -253,6 +253,12 @@ fn take_arrival(
     let entries = addresses_then_table(rules, source, destination, table)?;
 
     // 20, 21, 22.
+    if rules.has(Fault::PairBeforeOptions) {
+        let header = Header::read(segment).ok_or(Refusal::of(20))?;
+        if arriving_pair(source, destination, &header) != pair {
+            return Err(Refusal::of(23));
+        }
+    }
     let (header, options) = readable(rules, segment)?;
 
     // 23: "pair is not the state's".
@@ -288,6 +294,9 @@ fn take_arrival(
     let ao = options.ao.ok_or(Refusal::of(25))?;
     if rules.has(Fault::MacLengthBeforeEntry) && ao.length != AO_BYTES {
         return Err(Refusal::of(27));
+    }
+    if rules.has(Fault::PositionBeforeEntry) && open {
+        position(rules, before.arriving_reference, header.sequence).ok_or(Refusal::of(28))?;
     }
 
     // 26: "no entry for its KeyID".
@@ -434,17 +443,22 @@ pub fn sign(
         return Err(Refusal::of(31));
     }
 
+    let same_ports =
+        header.source_port == pair.local_port && header.destination_port == pair.remote_port;
+    if rules.has(Fault::PortsBeforeSize) && !same_ports {
+        return Err(Refusal::of(33));
+    }
+
     // 32: "data offset above 11, or result above 65,535 bytes".
     let signed_bytes = segment.len() + AO_BYTES;
-    if header.data_offset > 11 || signed_bytes > 65_535 {
+    let most_words = 11 - rules.has(Fault::OffsetElevenRefused) as usize;
+    let most_bytes = 65_535 - rules.has(Fault::LongestRefused) as usize;
+    if header.data_offset > most_words || signed_bytes > most_bytes {
         return Err(Refusal::of(32));
     }
 
     // 33: "ports not the state's".
-    if header.source_port != pair.local_port || header.destination_port != pair.remote_port {
-        return Err(Refusal::of(33));
-    }
-
+    //
     // 34: "wrong segment for the stage". Opening: "A bare SYN whose number is our ISN may then be
     // signed." Open: "each segment that carries SYN and ACK, or no SYN".
     let right_segment = if state.is_open() {
@@ -452,13 +466,22 @@ pub fn sign(
     } else {
         header.is_bare_syn()
     };
+    if rules.has(Fault::StageBeforePorts) && !right_segment {
+        return Err(Refusal::of(34));
+    }
+    if !same_ports {
+        return Err(Refusal::of(33));
+    }
+    let entry = by_send_id(rules, &entries, &pair, state.outgoing_send_id);
+    if rules.has(Fault::KeyBeforeStage) && entry.is_none() {
+        return Err(Refusal::of(35));
+    }
     if !right_segment {
         return Err(Refusal::of(34));
     }
 
     // 35: "no entry matching the pair has the outgoing SendID (opening, signing)".
-    let entry =
-        by_send_id(rules, &entries, &pair, state.outgoing_send_id).ok_or(Refusal::of(35))?;
+    let entry = entry.ok_or(Refusal::of(35))?;
     if rules.has(Fault::SigningTestsAskedKey)
         && by_recv_id(rules, &entries, &pair, state.asked_recv_id).is_none()
     {

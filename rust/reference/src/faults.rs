@@ -58,6 +58,10 @@ faults! {
     HighPortExcluded,
     /// Indices are counted from 1.
     IndexFromOne,
+    /// 15 before 14.
+    PrefixBeforePorts,
+    /// 17 is looked for when all entries are read: behind 10 to 16 of later entries.
+    ClashAfterAllEntries,
 
     // The options.
     /// Kind 0 takes one byte and does not end the reading.
@@ -66,6 +70,8 @@ faults! {
     Md5OfOtherLengthMalformed,
     /// Two MD5 without TCP-AO are 22.
     TwoMd5AreTwentyTwo,
+    /// A second TCP-AO ends the reading: 22, also where malformed options follow.
+    ReadingStopsAtSecondAo,
 
     // Positions.
     /// An error that looks right: "Comparing with 7FFF while a rollover flag is set".
@@ -103,6 +109,16 @@ faults! {
     StageBeforePair,
     /// 26 after 27, on a connection.
     MacLengthBeforeEntry,
+    /// 23 before 21 and 22.
+    PairBeforeOptions,
+    /// 28 before 26 and 27.
+    PositionBeforeEntry,
+    /// 33 before 32.
+    PortsBeforeSize,
+    /// 34 before 33.
+    StageBeforePorts,
+    /// 35 before 34.
+    KeyBeforeStage,
     /// 37 before 36.
     RoomBeforePosition,
 
@@ -164,6 +180,10 @@ faults! {
     SynAckSignedAnywhere,
     /// A bare SYN is signed with the peer's ISN that the state holds.
     SynSignedWithPeerIsn,
+    /// 32 for a data offset of 11.
+    OffsetElevenRefused,
+    /// 32 for 65,519 bytes.
+    LongestRefused,
     /// 35 also where no entry has the asked RecvID.
     SigningTestsAskedKey,
     /// The low four bits of byte 12 become zero.
@@ -176,6 +196,12 @@ faults! {
     // The boundary.
     /// A refused active opening writes the empty state.
     RefusedOpeningEmptiesBuffer,
+    /// A passive opening that only passes writes the empty state.
+    PassedOpeningEmptiesBuffer,
+    /// Of the settings only 1 means drop 26.
+    OtherSettingsPass,
+    /// What stands behind an IPv4 address is set to zero by judging.
+    UnusedAddressBytesCleared,
     /// Signing fills the output behind the signed segment with zeros.
     OutputFilledUp,
 }

@@ -155,6 +155,8 @@ pub fn read_options(rules: Rules, segment: &[u8], header: &Header) -> Option<Opt
                     key_id: segment[at + 2],
                     rnext_key_id: segment[at + 3],
                 });
+            } else if rules.has(Fault::ReadingStopsAtSecondAo) {
+                break;
             }
         }
         if kind == KIND_MD5 {

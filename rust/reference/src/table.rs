@@ -158,6 +158,7 @@ fn bits_behind_are_zero(address: &[u8], count: usize) -> bool {
 /// each through to 17 against those before it, with the entry's index from 0."
 pub fn read(rules: Rules, table: &[u8]) -> Result<Vec<Entry<'_>>, Refusal> {
     let mut entries: Vec<Entry> = Vec::new();
+    let mut late_clash = None;
     let mut rest = table;
     while !rest.is_empty() {
         let index = entries.len() as u32;
@@ -195,13 +196,16 @@ pub fn read(rules: Rules, table: &[u8]) -> Result<Vec<Entry<'_>>, Refusal> {
 
         // 17: "ID clash, at the later entry".
         if entries.iter().any(|before| before.clashes(rules, &entry)) {
-            return Err(refused(17));
+            if !rules.has(Fault::ClashAfterAllEntries) {
+                return Err(refused(17));
+            }
+            late_clash = late_clash.or(Some(refused(17)));
         }
 
         entries.push(entry);
         rest = &rest[1 + body_bytes..];
     }
-    Ok(entries)
+    late_clash.map_or(Ok(entries), Err)
 }
 
 /// Reads one body of 103 or 127 bytes with addresses of 4 or 16, or gives 13, 14, 15 or 16.
@@ -239,6 +243,11 @@ fn read_body(rules: Rules, address_bytes: usize, body: &[u8]) -> Result<Entry<'_
         _ => return Err(13),
     };
 
+    let too_long = |side: &Side| side.prefix > 8 * address_bytes;
+    if rules.has(Fault::PrefixBeforePorts) && (too_long(&local) || too_long(&remote)) {
+        return Err(15);
+    }
+
     // 14: "low port above high".
     let bad = |side: &Side| side.low > side.high;
     if bad(&local) || (bad(&remote) && !rules.has(Fault::PortsOfLocalSideOnly)) {
@@ -246,7 +255,7 @@ fn read_body(rules: Rules, address_bytes: usize, body: &[u8]) -> Result<Entry<'_
     }
 
     // 15: "prefix above 32 or 128, or address bits set past it".
-    if local.prefix > 8 * address_bytes || remote.prefix > 8 * address_bytes {
+    if too_long(&local) || too_long(&remote) {
         return Err(15);
     }
     let bits_set = |side: &Side| !bits_behind_are_zero(side.address, side.prefix);

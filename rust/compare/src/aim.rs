@@ -1,0 +1,417 @@
+//! Calls that are right but for the numbers aimed at: none, one, or several at once, so that the
+//! order of the numbers is tried. What is aimed at is only a hint; the two sides say what it gives.
+
+use crate::calls::{Call, Function};
+use crate::numbers::possible;
+use crate::prng::Prng;
+use crate::segments::{self, Segment, ACK, SYN};
+use crate::states::{distance, number, pair_of};
+use crate::tables::{self, id, Key, Pair};
+use reference::mac::Ends;
+use reference::State;
+
+/// The numbers aimed at. 10 stands for 10 to 17.
+pub struct Aim(Vec<u8>);
+
+impl Aim {
+    pub const NONE: Aim = Aim(vec![]);
+
+    pub fn at(random: &mut Prng, function: Function) -> Aim {
+        let count = random.pick(&[0, 0, 0, 1, 1, 2, 2, 2, 3, 4]);
+        let numbers: Vec<u8> = possible(function)
+            .iter()
+            .copied()
+            .filter(|number| !(0..=1).contains(number) && !(11..=17).contains(number))
+            .collect();
+        Aim((0..count).map(|_| random.pick(&numbers)).collect())
+    }
+
+    fn has(&self, number: u8) -> bool {
+        self.0.contains(&number)
+    }
+}
+
+/// One end as a call sees it.
+pub struct At<'a> {
+    pub keys: &'a [Key],
+    pub table: &'a [u8],
+    pub state: &'a [u8],
+}
+
+impl At<'_> {
+    fn call(&self, function: Function) -> Call {
+        let mut call = Call::new(function, self.table);
+        if function.takes_state() {
+            call.state = self.state.to_vec();
+        }
+        call
+    }
+}
+
+/// A key that matches the pair, if there is one; otherwise any.
+fn matching<'k>(random: &mut Prng, keys: &'k [Key], pair: &Pair) -> Option<&'k Key> {
+    let good: Vec<&Key> = keys.iter().filter(|key| key.matches(pair)).collect();
+    if !good.is_empty() {
+        return Some(good[random.below(good.len())]);
+    }
+    (!keys.is_empty()).then(|| &keys[random.below(keys.len())])
+}
+
+/// An ID that some entry has, for this pair or another, or none.
+fn some_id(random: &mut Prng, keys: &[Key]) -> u8 {
+    if keys.is_empty() || random.one_in(4) {
+        return id(random);
+    }
+    let key = &keys[random.below(keys.len())];
+    random.pick(&[key.send_id, key.send_id, key.recv_id])
+}
+
+pub fn check_table(random: &mut Prng, at: &At, aim: &Aim) -> Call {
+    finished(random, at.call(Function::CheckTable), at, aim)
+}
+
+pub fn open_active(random: &mut Prng, at: &At, pair: &Pair, isn: u32, aim: &Aim) -> Call {
+    let mut call = at.call(Function::OpenActive);
+    call.source = pair.local.clone();
+    call.destination = pair.remote.clone();
+    call.local_port = pair.local_port;
+    call.remote_port = pair.remote_port;
+    call.isn = isn;
+    call.byte = match matching(random, at.keys, pair) {
+        Some(key) if !aim.has(35) => key.send_id,
+        _ => some_id(random, at.keys),
+    };
+    finished(random, call, at, aim)
+}
+
+pub fn ask(random: &mut Prng, at: &At, aim: &Aim) -> Call {
+    let mut call = at.call(Function::Ask);
+    let pair = State::from_bytes(at.state).map(|state| pair_of(&state));
+    let key = pair.and_then(|pair| matching(random, at.keys, &pair));
+    call.byte = match key {
+        Some(key) if !aim.has(35) => key.recv_id,
+        _ => some_id(random, at.keys),
+    };
+    finished(random, call, at, aim)
+}
+
+/// What an arriving segment is judged by.
+struct Arrival {
+    pair: Pair,
+    sequence: u32,
+    extension: u32,
+    source_isn: u32,
+    destination_isn: u32,
+    flags: u8,
+}
+
+/// A bare SYN, made from nothing, for `judge_syn` or `open_passive` at this pair.
+pub fn syn(random: &mut Prng, function: Function, at: &At, pair: &Pair, aim: &Aim) -> Call {
+    let sequence = number(random);
+    // Now and then a pair that no entry may match.
+    let elsewhere = Pair::random(random);
+    let pair = if random.one_in(12) { &elsewhere } else { pair };
+    let flags = if aim.has(24) {
+        random.pick(&[ACK, SYN | ACK, 0])
+    } else {
+        SYN
+    };
+    let arrival = Arrival {
+        pair: pair.clone(),
+        sequence,
+        extension: 0,
+        source_isn: sequence,
+        destination_isn: 0,
+        flags,
+    };
+    let mut call = arriving(random, function, at, arrival, aim);
+    set_listening(random, &mut call);
+    call
+}
+
+/// The setting and, for an opening, our ISN.
+pub fn set_listening(random: &mut Prng, call: &mut Call) {
+    call.byte = random.pick(&[0, 1, 1, 255]);
+    if call.function == Function::OpenPassive {
+        call.isn = number(random);
+    }
+}
+
+/// A segment for the connection of this state, made from nothing.
+pub fn judge(random: &mut Prng, at: &At, aim: &Aim) -> Call {
+    let state = State::from_bytes(at.state).unwrap();
+    let (x, flags) = if state.is_open() {
+        let x = near(random, state.arriving_reference, aim.has(28));
+        let right = random.pick(&[ACK, ACK, 0, SYN | ACK]);
+        (x, if aim.has(24) { SYN } else { right })
+    } else {
+        let x = number(random) as u64;
+        let wrong = random.pick(&[ACK, SYN, 0]);
+        (x, if aim.has(24) { wrong } else { SYN | ACK })
+    };
+    let sequence = x as u32;
+    let arrival = Arrival {
+        pair: pair_of(&state),
+        sequence,
+        extension: (x >> 32) as u32,
+        source_isn: if state.is_open() {
+            state.peer_isn
+        } else {
+            sequence
+        },
+        destination_isn: state.our_isn,
+        flags,
+    };
+    arriving(random, Function::Judge, at, arrival, aim)
+}
+
+/// A position near the reference; or, `outside`, just none: 2^31 away, or below 0 or from 2^64 on,
+/// where it wraps.
+fn near(random: &mut Prng, reference: u64, outside: bool) -> u64 {
+    let way = if !outside {
+        distance(random)
+    } else {
+        let below = reference as i64;
+        let above = (u64::MAX - reference) as i64;
+        match random.below(3) {
+            0 if (0..1 << 31).contains(&below) => -1 - below,
+            0 if (0..1 << 31).contains(&above) => 1 + above,
+            1 => 1 << 31,
+            _ => -(1 << 31),
+        }
+    };
+    reference.wrapping_add(way as u64)
+}
+
+/// A call with an arriving segment that carries the MAC of an entry here.
+fn arriving(random: &mut Prng, function: Function, at: &At, arrival: Arrival, aim: &Aim) -> Call {
+    let mut pair = arrival.pair.clone();
+    if aim.has(23) || random.one_in(50) {
+        other_pair(random, &mut pair);
+    }
+
+    let key = matching(random, at.keys, &arrival.pair).cloned();
+    let key_id = match &key {
+        Some(key) if !aim.has(26) => key.recv_id,
+        _ => some_id(random, at.keys),
+    };
+    let length = if aim.has(27) {
+        random.pick(&[4, 8, 15, 17, 18, 20])
+    } else {
+        16
+    };
+    let rnext_key_id = some_id(random, at.keys);
+    let mut options = vec![];
+    if !aim.has(25) {
+        options.push(segments::ao(length, key_id, rnext_key_id));
+    }
+    if aim.has(22) {
+        let second = if random.one_in(2) {
+            segments::md5(random)
+        } else {
+            segments::ao(random.pick(&[4, 16]), key_id, rnext_key_id)
+        };
+        options.insert(random.below(options.len() + 1), second);
+    } else if aim.has(25) {
+        options.extend((0..random.below(3)).map(|_| segments::md5(random)));
+    }
+    let mut area = segments::area(random, &options, 40);
+    if aim.has(21) {
+        segments::spoil_area(random, &mut area);
+    }
+
+    let most = 65_515 - area.len();
+    let mut segment = Segment {
+        source_port: pair.remote_port,
+        destination_port: pair.local_port,
+        sequence: arrival.sequence,
+        flags: segments::with_others(random, arrival.flags),
+        options: area,
+        data: segments::data(random, most),
+    }
+    .bytes(random);
+    if let Some(key) = &key {
+        let mut ends = Ends {
+            source: &pair.remote,
+            destination: &pair.local,
+            source_port: pair.remote_port,
+            destination_port: pair.local_port,
+            source_isn: arrival.source_isn,
+            destination_isn: arrival.destination_isn,
+        };
+        let mut extension = arrival.extension;
+        if aim.has(29) && random.one_in(2) {
+            match random.below(3) {
+                0 => extension = extension.wrapping_add(random.pick(&[1, u32::MAX])),
+                1 => ends.source_isn = ends.source_isn.wrapping_add(1),
+                _ => ends.destination_isn = ends.destination_isn.wrapping_add(1),
+            }
+        }
+        segments::seal(&mut segment, key, &ends, extension);
+    }
+    if aim.has(29) {
+        random.flip(&mut segment[18..]);
+    }
+    if random.one_in(8) {
+        // The checksum is no part of what the MAC covers.
+        random.flip(&mut segment[16..18]);
+    }
+    if aim.has(20) {
+        segments::spoil_length(random, &mut segment);
+    }
+
+    let mut call = at.call(function);
+    call.source = pair.remote;
+    call.destination = pair.local;
+    call.segment = segment;
+    finished(random, call, at, aim)
+}
+
+/// Another pair, by one of its four parts, by its family, or by its direction.
+fn other_pair(random: &mut Prng, pair: &mut Pair) {
+    match random.below(6) {
+        0 => random.flip(&mut pair.local),
+        1 => random.flip(&mut pair.remote),
+        2 => pair.local_port = pair.local_port.wrapping_add(1),
+        3 => pair.remote_port = pair.remote_port.wrapping_sub(1),
+        4 => *pair = pair.mirror(),
+        _ => {
+            let other = 20 - pair.local.len();
+            pair.local.resize(other, 0);
+            pair.remote.resize(other, 0);
+        }
+    }
+}
+
+/// A segment to be signed in this state.
+pub fn sign(random: &mut Prng, at: &At, aim: &Aim) -> Call {
+    let mut state = State::from_bytes(at.state).unwrap();
+    let pair = pair_of(&state);
+
+    let (sequence, flags) = if state.is_open() {
+        let x = near(random, state.signing_reference, aim.has(36));
+        let syn_ack = random.one_in(6);
+        let sequence = if syn_ack && !aim.has(36) {
+            state.our_isn
+        } else {
+            x as u32
+        };
+        let right = if syn_ack { SYN | ACK } else { ACK };
+        (sequence, if aim.has(34) { SYN } else { right })
+    } else {
+        let wrong = random.pick(&[ACK, SYN | ACK, 0]);
+        let flags = if aim.has(34) { wrong } else { SYN };
+        let other = random.pick(&[1, u32::MAX, 1 << 31]);
+        let step = if aim.has(36) { other } else { 0 };
+        (state.our_isn.wrapping_add(step), flags)
+    };
+
+    let mut options = vec![];
+    if aim.has(31) && random.one_in(2) {
+        options.push(if random.one_in(2) {
+            segments::md5(random)
+        } else {
+            segments::ao(random.pick(&[4, 16]), 1, 1)
+        });
+    }
+    let mut area = segments::area(random, &options, if aim.has(32) { 40 } else { 24 });
+    if aim.has(31) && options.is_empty() {
+        segments::spoil_area(random, &mut area);
+    }
+    let mut data = segments::data(random, 65_499 - area.len());
+    if aim.has(32) {
+        if random.one_in(2) {
+            area.resize(28 + 4 * random.below(4), 1);
+        } else {
+            data.resize(65_500 - area.len() + random.pick(&[0, 1, 15]), 7);
+        }
+    }
+    let mut segment = Segment {
+        source_port: pair.local_port,
+        destination_port: pair.remote_port,
+        sequence,
+        flags: segments::with_others(random, flags),
+        options: area,
+        data,
+    }
+    .bytes(random);
+    if aim.has(33) {
+        random.flip(&mut segment[0..4]);
+    }
+    if aim.has(30) {
+        segments::spoil_length(random, &mut segment);
+    }
+
+    if aim.has(35) {
+        state.outgoing_send_id = some_id(random, at.keys);
+    } else {
+        let outgoing = state.outgoing_send_id;
+        let has_it = |key: &Key| key.send_id == outgoing && key.matches(&pair);
+        if let (false, Some(key)) = (at.keys.iter().any(has_it), matching(random, at.keys, &pair)) {
+            state.outgoing_send_id = key.send_id;
+        }
+    }
+    let signed = segment.len() + 16;
+    let room = if aim.has(37) {
+        let any = random.below(signed);
+        random.pick(&[0, signed - 1, any])
+    } else {
+        signed + random.pick(&[0, 0, 1, 40])
+    };
+
+    let mut call = at.call(Function::Sign);
+    call.state = state.to_bytes().to_vec();
+    call.segment = segment;
+    call.out = random.bytes(room.min(70_000));
+    finished(random, call, at, aim)
+}
+
+/// Spoils the state, the addresses and the table, if they are aimed at, and now and then anything.
+fn finished(random: &mut Prng, mut call: Call, at: &At, aim: &Aim) -> Call {
+    if aim.has(18) && call.function.takes_state() {
+        if random.one_in(2) {
+            let length = random.pick(&[0, 1, 151, 153, 304]);
+            call.state.resize(length, 4);
+        } else {
+            call.state[0] = random.pick(&[0, 1, 5, 7, 255]);
+        }
+    }
+    if aim.has(19) && call.function.takes_addresses() {
+        let any = random.below(20);
+        let (one, other) = random.pick(&[
+            (4, 16),
+            (16, 4),
+            (0, 0),
+            (5, 5),
+            (4, any),
+            (any, 16),
+            (any, any),
+        ]);
+        call.source.resize(one, 1);
+        call.destination.resize(other, 1);
+    }
+    if aim.has(10) {
+        call.table = tables::spoilt(random, at.keys);
+    }
+    if random.one_in(30) {
+        disturb(random, &mut call);
+    }
+    call
+}
+
+/// Changes bits anywhere, or puts any bytes in the place of a part.
+fn disturb(random: &mut Prng, call: &mut Call) {
+    for part in [&mut call.table, &mut call.state, &mut call.segment] {
+        if part.is_empty() {
+            continue;
+        }
+        match random.below(8) {
+            0..=2 => random.flip(part),
+            3 => {
+                let length = random.below(2 * part.len().min(200));
+                *part = random.bytes(length);
+            }
+            _ => {}
+        }
+    }
+}

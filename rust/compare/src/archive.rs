@@ -1,0 +1,185 @@
+//! The call by the proved archive.
+
+use crate::calls::{Call, Function, Outcome};
+
+mod c {
+    extern "C" {
+        pub fn tcpao_check_table(table: *const u8, table_len: usize) -> u64;
+        pub fn tcpao_open_active(
+            table: *const u8,
+            table_len: usize,
+            local: *const u8,
+            local_len: usize,
+            remote: *const u8,
+            remote_len: usize,
+            local_port: u16,
+            remote_port: u16,
+            isn: u32,
+            send_id: u8,
+            state: *mut u8,
+            state_len: usize,
+        ) -> u64;
+        pub fn tcpao_judge_syn(
+            table: *const u8,
+            table_len: usize,
+            source: *const u8,
+            source_len: usize,
+            destination: *const u8,
+            destination_len: usize,
+            segment: *const u8,
+            segment_len: usize,
+            setting: u8,
+        ) -> u64;
+        pub fn tcpao_open_passive(
+            table: *const u8,
+            table_len: usize,
+            source: *const u8,
+            source_len: usize,
+            destination: *const u8,
+            destination_len: usize,
+            segment: *const u8,
+            segment_len: usize,
+            isn: u32,
+            setting: u8,
+            state: *mut u8,
+            state_len: usize,
+        ) -> u64;
+        pub fn tcpao_judge(
+            table: *const u8,
+            table_len: usize,
+            source: *const u8,
+            source_len: usize,
+            destination: *const u8,
+            destination_len: usize,
+            segment: *const u8,
+            segment_len: usize,
+            state: *mut u8,
+            state_len: usize,
+        ) -> u64;
+        pub fn tcpao_sign(
+            table: *const u8,
+            table_len: usize,
+            segment: *const u8,
+            segment_len: usize,
+            out: *mut u8,
+            out_len: usize,
+            state: *mut u8,
+            state_len: usize,
+        ) -> u64;
+        pub fn tcpao_ask(
+            table: *const u8,
+            table_len: usize,
+            recv_id: u8,
+            state: *mut u8,
+            state_len: usize,
+        ) -> u64;
+    }
+}
+
+/// What stands before, between and behind the buffers, and must stay.
+const CANARY: [u8; 32] = [0xa5; 32];
+
+/// The six buffers of a call in one stretch of memory, a canary around each.
+struct Lent {
+    memory: Vec<u8>,
+    starts: [usize; 6],
+}
+
+impl Lent {
+    fn new(parts: [&[u8]; 6]) -> Lent {
+        let mut memory = Vec::with_capacity(parts.concat().len() + 7 * CANARY.len());
+        let mut starts = [0; 6];
+        for (part, start) in parts.iter().zip(&mut starts) {
+            memory.extend_from_slice(&CANARY);
+            *start = memory.len();
+            memory.extend_from_slice(part);
+        }
+        memory.extend_from_slice(&CANARY);
+        Lent { memory, starts }
+    }
+
+    fn part(&self, index: usize, length: usize) -> &[u8] {
+        &self.memory[self.starts[index]..self.starts[index] + length]
+    }
+
+    /// Whether a canary or a buffer that is only read has changed.
+    fn strayed(&self, read_only: [&[u8]; 4]) -> bool {
+        let canary = |end: usize| self.memory[end - CANARY.len()..end] == CANARY;
+        let mut read = read_only.iter().enumerate();
+        let same = |(index, part): (usize, &&[u8])| self.part(index, part.len()) == *part;
+        let unhurt = self.starts.into_iter().all(canary) && canary(self.memory.len());
+        !unhurt || !read.all(same)
+    }
+}
+
+pub fn by_archive(call: &Call) -> Outcome {
+    let Call {
+        table,
+        source,
+        destination,
+        segment,
+        out,
+        state,
+        ..
+    } = call;
+    let mut lent = Lent::new([table, source, destination, segment, out, state]);
+    let memory = lent.memory.as_mut_ptr();
+    // A start lies within the memory, which is neither moved nor used otherwise until the call ends.
+    let [t, s, d, g, o, w] = lent.starts.map(|start| unsafe { memory.add(start) });
+    let (tn, sn, dn, gn) = (table.len(), source.len(), destination.len(), segment.len());
+    let (on, wn) = (out.len(), state.len());
+    // Each pointer is good for its length, and the buffers do not overlap.
+    let word = unsafe {
+        match call.function {
+            Function::CheckTable => c::tcpao_check_table(t, tn),
+            Function::OpenActive => c::tcpao_open_active(
+                t,
+                tn,
+                s,
+                sn,
+                d,
+                dn,
+                call.local_port,
+                call.remote_port,
+                call.isn,
+                call.byte,
+                w,
+                wn,
+            ),
+            Function::JudgeSyn => c::tcpao_judge_syn(t, tn, s, sn, d, dn, g, gn, call.byte),
+            Function::OpenPassive => {
+                c::tcpao_open_passive(t, tn, s, sn, d, dn, g, gn, call.isn, call.byte, w, wn)
+            }
+            Function::Judge => c::tcpao_judge(t, tn, s, sn, d, dn, g, gn, w, wn),
+            Function::Sign => c::tcpao_sign(t, tn, g, gn, o, on, w, wn),
+            Function::Ask => c::tcpao_ask(t, tn, call.byte, w, wn),
+        }
+    };
+    Outcome {
+        word,
+        out: lent.part(4, on).to_vec(),
+        state: lent.part(5, wn).to_vec(),
+        strayed: lent.strayed([table, source, destination, segment]),
+    }
+}
+
+#[cfg(test)]
+mod tests {
+    use super::*;
+
+    /// A byte written anywhere but in the two buffers lent for writing is noticed.
+    #[test]
+    fn strays_are_noticed() {
+        let parts: [&[u8]; 6] = [b"table", b"one", b"", b"segment", b"out", b"state"];
+        let read_only = [parts[0], parts[1], parts[2], parts[3]];
+        let bytes = Lent::new(parts).memory.len();
+        let mut unnoticed = 0;
+        for at in 0..bytes {
+            let mut lent = Lent::new(parts);
+            assert!(!lent.strayed(read_only));
+            lent.memory[at] ^= 1;
+            unnoticed += !lent.strayed(read_only) as usize;
+        }
+        assert_eq!(unnoticed, "out".len() + "state".len());
+    }
+}

@@ -1,0 +1,270 @@
+//! What a run has met: each number of each call, and situations that no number tells.
+
+use crate::calls::{Call, Function, Outcome};
+use crate::numbers::{possible, ALL};
+use reference::segment::{read_options, Header};
+use reference::table::{self, by_recv_id, Algorithm};
+use reference::{Rules, State};
+
+/// How often each number and each situation must be met.
+pub const LEAST: u64 = 100;
+
+#[derive(Default)]
+pub struct Counts {
+    numbers: [[u64; ALL.len() + 1]; Function::ALL.len()],
+    situations: [u64; SITUATIONS.len()],
+}
+
+/// A call and what came of it.
+struct Seen<'a> {
+    call: &'a Call,
+    outcome: &'a Outcome,
+    /// The state before it; without one, an empty one.
+    before: State,
+    /// Of a segment that was accepted on a connection.
+    accepted: Option<Accepted>,
+}
+
+struct Accepted {
+    position: u64,
+    algorithm: Algorithm,
+    covers_options: bool,
+    key_changed: bool,
+    asks: Asked,
+}
+
+/// Which entries have the SendID that an accepted segment asks for.
+#[derive(PartialEq)]
+enum Asked {
+    ThisPair,
+    OthersOnly,
+    NoEntry,
+}
+
+type Situation = (&'static str, fn(&Seen) -> bool);
+
+const SITUATIONS: [Situation; 25] = [
+    ("accepted at the reference: repeated", |seen| {
+        seen.open(|a, reference| a.position == reference)
+    }),
+    ("accepted ahead of the reference", |seen| {
+        seen.open(|a, reference| a.position > reference)
+    }),
+    ("accepted behind the reference", |seen| {
+        seen.open(|a, reference| a.position < reference)
+    }),
+    ("accepted ahead, one turn of 2^32 on", |seen| {
+        seen.open(|a, reference| a.position >> 32 > reference >> 32)
+    }),
+    ("accepted behind, one turn of 2^32 back", |seen| {
+        seen.open(|a, reference| a.position >> 32 < reference >> 32)
+    }),
+    ("accepted 2^31 - 1 from the reference", |seen| {
+        seen.open(|a, reference| a.position.abs_diff(reference) == (1 << 31) - 1)
+    }),
+    ("28 at 2^31 from the reference", |seen| {
+        seen.drops(28) && seen.half_a_turn_away()
+    }),
+    ("28 for a position below 0", |seen| {
+        seen.drops(28) && seen.before.arriving_reference < 1 << 31 && !seen.half_a_turn_away()
+    }),
+    ("28 for a position from 2^64 on", |seen| {
+        let near_the_end = seen.before.arriving_reference > u64::MAX - (1 << 31);
+        seen.drops(28) && near_the_end && !seen.half_a_turn_away()
+    }),
+    ("accepted, the outgoing key changes", |seen| {
+        seen.accepts(|a| a.key_changed)
+    }),
+    ("accepted, asks for a key that only others have", |seen| {
+        seen.accepts(|a| a.asks == Asked::OthersOnly)
+    }),
+    ("accepted, asks for a key that none has", |seen| {
+        seen.accepts(|a| a.asks == Asked::NoEntry)
+    }),
+    ("accepted, IPv4, algorithm 1, options covered", |seen| {
+        seen.way(4, Algorithm::HmacSha1, true)
+    }),
+    ("accepted, IPv4, algorithm 1, options left out", |seen| {
+        seen.way(4, Algorithm::HmacSha1, false)
+    }),
+    ("accepted, IPv4, algorithm 2, options covered", |seen| {
+        seen.way(4, Algorithm::AesCmac, true)
+    }),
+    ("accepted, IPv4, algorithm 2, options left out", |seen| {
+        seen.way(4, Algorithm::AesCmac, false)
+    }),
+    ("accepted, IPv6, algorithm 1, options covered", |seen| {
+        seen.way(6, Algorithm::HmacSha1, true)
+    }),
+    ("accepted, IPv6, algorithm 1, options left out", |seen| {
+        seen.way(6, Algorithm::HmacSha1, false)
+    }),
+    ("accepted, IPv6, algorithm 2, options covered", |seen| {
+        seen.way(6, Algorithm::AesCmac, true)
+    }),
+    ("accepted, IPv6, algorithm 2, options left out", |seen| {
+        seen.way(6, Algorithm::AesCmac, false)
+    }),
+    ("accepted while opening, counts not 0", |seen| {
+        seen.accepted.is_some() && !seen.before.is_open() && seen.before.accepted != 0
+    }),
+    ("accepted, the count at its stop", |seen| {
+        seen.open(|_, _| seen.before.accepted == u64::MAX)
+    }),
+    ("dropped, the count at its stop", |seen| {
+        let at_stop = |number: u8| seen.before.drops[number as usize - 20] == u64::MAX;
+        (20..=29).any(|number| seen.drops(number) && at_stop(number))
+    }),
+    ("accepted or signed, 65,519 bytes or more", |seen| {
+        seen.outcome.number() == 0 && seen.call.segment.len() >= 65_519
+    }),
+    ("a table of 64 entries, not refused", |seen| {
+        !(10..=19).contains(&seen.outcome.number()) && entries(&seen.call.table) == 64
+    }),
+];
+
+impl<'a> Seen<'a> {
+    fn new(call: &'a Call, outcome: &'a Outcome) -> Seen<'a> {
+        let before = State::from_bytes(&call.state).unwrap_or(State::EMPTY);
+        let accepts = call.function == Function::Judge && outcome.number() == 0;
+        Seen {
+            call,
+            outcome,
+            before,
+            accepted: accepts.then(|| accepted(call, outcome, &before)).flatten(),
+        }
+    }
+
+    fn accepts(&self, which: impl Fn(&Accepted) -> bool) -> bool {
+        self.accepted.as_ref().is_some_and(which)
+    }
+
+    fn open(&self, which: impl Fn(&Accepted, u64) -> bool) -> bool {
+        self.before.is_open() && self.accepts(|a| which(a, self.before.arriving_reference))
+    }
+
+    fn way(&self, family: u8, algorithm: Algorithm, covers_options: bool) -> bool {
+        self.before.family == family
+            && self.accepts(|a| a.algorithm == algorithm && a.covers_options == covers_options)
+    }
+
+    /// Whether it was dropped with this number on an open connection.
+    fn drops(&self, number: u8) -> bool {
+        let judged = self.call.function == Function::Judge && self.before.is_open();
+        judged && self.outcome.number() == number
+    }
+
+    /// Whether the segment's number is 2^31 from the reference, in either direction.
+    fn half_a_turn_away(&self) -> bool {
+        let reference = self.before.arriving_reference as u32;
+        Header::read(&self.call.segment)
+            .is_some_and(|header| header.sequence.wrapping_sub(reference) == 1 << 31)
+    }
+}
+
+/// How many entries a table has that is not refused.
+fn entries(table: &[u8]) -> usize {
+    let mut count = 0;
+    let mut at = 0;
+    while at < table.len() {
+        at += if table[at] == 4 { 104 } else { 128 };
+        count += 1;
+    }
+    count
+}
+
+/// What an accepted segment was accepted by.
+fn accepted(call: &Call, outcome: &Outcome, before: &State) -> Option<Accepted> {
+    let rules = Rules::default();
+    let header = Header::read(&call.segment)?;
+    let ao = read_options(rules, &call.segment, &header)?.ao?;
+    let entries = table::read(rules, &call.table).ok()?;
+    let pair = before.pair()?;
+    let entry = by_recv_id(rules, &entries, &pair, ao.key_id)?;
+    let mut with_it = entries.iter().filter(|e| e.send_id == ao.rnext_key_id);
+    let asks = match with_it.clone().next() {
+        None => Asked::NoEntry,
+        Some(_) if with_it.any(|e| e.matches(rules, &pair)) => Asked::ThisPair,
+        Some(_) => Asked::OthersOnly,
+    };
+    Some(Accepted {
+        position: (outcome.value() as u64) << 32 | header.sequence as u64,
+        algorithm: entry.algorithm,
+        covers_options: entry.covers_options,
+        key_changed: outcome.state[2] != before.outgoing_send_id,
+        asks,
+    })
+}
+
+/// The place of a number in [`ALL`]; the place behind it is for numbers that are not there.
+fn place(number: u8) -> usize {
+    ALL.iter().position(|n| *n == number).unwrap_or(ALL.len())
+}
+
+impl Counts {
+    pub fn add(&mut self, call: &Call, outcome: &Outcome) {
+        self.numbers[call.function as usize][place(outcome.number())] += 1;
+        let seen = Seen::new(call, outcome);
+        for (count, (_, which)) in self.situations.iter_mut().zip(SITUATIONS) {
+            *count += which(&seen) as u64;
+        }
+    }
+
+    /// Adds another run's counts.
+    pub fn join(&mut self, other: &Counts) {
+        let numbers = self.numbers.iter_mut().flatten();
+        for (count, more) in numbers.zip(other.numbers.iter().flatten()) {
+            *count += more;
+        }
+        for (count, more) in self.situations.iter_mut().zip(other.situations) {
+            *count += more;
+        }
+    }
+
+    /// What was met less often than it must be, and numbers that a call should never give.
+    pub fn faults(&self) -> Vec<String> {
+        let mut faults = vec![];
+        for function in Function::ALL {
+            for (at, count) in self.numbers[function as usize].iter().enumerate() {
+                let number = ALL.get(at).copied().unwrap_or(255);
+                let name = function.name();
+                if possible(function).contains(&number) {
+                    if *count < LEAST {
+                        faults.push(format!("{name} gave {number} only {count} times"));
+                    }
+                } else if *count > 0 {
+                    faults.push(format!("{name} gave {number}, which it never should"));
+                }
+            }
+        }
+        for ((name, _), count) in SITUATIONS.iter().zip(self.situations) {
+            if count < LEAST {
+                faults.push(format!("{name}: only {count} times"));
+            }
+        }
+        faults
+    }
+
+    /// One row for each number, one column for each call; then the situations.
+    pub fn print(&self) {
+        print!("number");
+        for function in Function::ALL {
+            print!("{:>13}", function.name());
+        }
+        println!();
+        for number in ALL {
+            print!("{number:>6}");
+            for function in Function::ALL {
+                if possible(function).contains(&number) {
+                    print!("{:>13}", self.numbers[function as usize][place(number)]);
+                } else {
+                    print!("{:>13}", "never");
+                }
+            }
+            println!();
+        }
+        for ((name, _), count) in SITUATIONS.iter().zip(self.situations) {
+            println!("{count:>9}  {name}");
+        }
+    }
+}

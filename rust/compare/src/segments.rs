@@ -1,0 +1,185 @@
+//! TCP segments with options, and their MACs.
+
+use crate::prng::Prng;
+use crate::tables::{entry, Key};
+use reference::mac::{self, Ends};
+use reference::segment::{read_options, Header, WithAo};
+use reference::Rules;
+
+pub const SYN: u8 = 0x02;
+pub const ACK: u8 = 0x10;
+
+/// A segment before it is written; the option area has whole words and at most 40 bytes.
+pub struct Segment {
+    pub source_port: u16,
+    pub destination_port: u16,
+    pub sequence: u32,
+    pub flags: u8,
+    pub options: Vec<u8>,
+    pub data: Vec<u8>,
+}
+
+impl Segment {
+    /// The bytes; what no rule looks at (acknowledgment, reserved bits, window ...) is any.
+    pub fn bytes(&self, random: &mut Prng) -> Vec<u8> {
+        let mut bytes = random.bytes(20);
+        bytes[0..2].copy_from_slice(&self.source_port.to_be_bytes());
+        bytes[2..4].copy_from_slice(&self.destination_port.to_be_bytes());
+        bytes[4..8].copy_from_slice(&self.sequence.to_be_bytes());
+        let offset = 5 + self.options.len() / 4;
+        bytes[12] = (offset << 4) as u8 | bytes[12] & 0x0f;
+        bytes[13] = self.flags;
+        bytes.extend(&self.options);
+        bytes.extend(&self.data);
+        bytes
+    }
+}
+
+/// Flags with any others beside SYN and ACK as they are here.
+pub fn with_others(random: &mut Prng, flags: u8) -> u8 {
+    if random.one_in(2) {
+        flags
+    } else {
+        flags | random.byte() & !(SYN | ACK)
+    }
+}
+
+/// Data, mostly little, seldom up to `most` bytes.
+pub fn data(random: &mut Prng, most: usize) -> Vec<u8> {
+    let length = match random.below(1500) {
+        0 => most,
+        1 => most - 1,
+        2..=20 => random.below(1500),
+        21..=500 => 0,
+        _ => random.below(80),
+    };
+    random.bytes(length)
+}
+
+/// TCP-AO with an empty MAC.
+pub fn ao(length: u8, key_id: u8, rnext_key_id: u8) -> Vec<u8> {
+    let mut option = vec![29, length, key_id, rnext_key_id];
+    option.resize(length as usize, 0);
+    option
+}
+
+/// MD5, also of a length that is not its own.
+pub fn md5(random: &mut Prng) -> Vec<u8> {
+    let length = random.pick(&[18, 18, 2, 3]);
+    let mut option = random.bytes(length);
+    option[0] = 19;
+    option[1] = length as u8;
+    option
+}
+
+/// One option that no rule looks at, of at most `most` bytes.
+fn other(random: &mut Prng, most: usize) -> Vec<u8> {
+    if most < 2 || random.one_in(3) {
+        return vec![1];
+    }
+    let length = 2 + random.below(most.min(12) - 1);
+    let mut option = random.bytes(length);
+    option[0] = match random.byte() {
+        0 | 1 | 19 | 29 => 2,
+        kind => kind,
+    };
+    option[1] = length as u8;
+    option
+}
+
+/// An option area of at most `most` bytes, whole words: these options in this order, others between
+/// them, and at the end fillers, or kind 0 and any bytes behind it.
+pub fn area(random: &mut Prng, options: &[Vec<u8>], most: usize) -> Vec<u8> {
+    let mut area = vec![];
+    let mut left = most.saturating_sub(options.iter().map(Vec::len).sum());
+    let crowded = random.one_in(2);
+    for option in options.iter().map(Some).chain([None]) {
+        while left > 0 && crowded && random.one_in(2) {
+            let other = other(random, left);
+            left -= other.len();
+            area.extend(other);
+        }
+        area.extend(option.into_iter().flatten());
+    }
+    let missing = (4 - area.len() % 4) % 4;
+    let behind = if left >= missing + 4 && random.one_in(4) {
+        missing + 4 * random.below((left - missing) / 4 + 1)
+    } else {
+        missing
+    };
+    if behind > 0 && random.one_in(2) {
+        area.push(0);
+        area.extend(random.bytes(behind - 1));
+    } else {
+        area.resize(area.len() + behind, 1);
+    }
+    area.truncate(40);
+    area
+}
+
+/// Makes an option area malformed, most times.
+pub fn spoil_area(random: &mut Prng, area: &mut Vec<u8>) {
+    if area.is_empty() {
+        area.extend([1; 4]);
+    }
+    let last = area.len() - 1;
+    let kind = random.pick(&[2, 19, 29, 30, 255]);
+    match random.below(6) {
+        // The length is missing.
+        0 => area[last] = kind,
+        // It runs past the area, by one or by much.
+        1 => (area[last - 1], area[last]) = (kind, random.pick(&[3, 4, 255])),
+        // It is below 2.
+        2 => (area[last - 1], area[last]) = (kind, random.pick(&[0, 1])),
+        3 => (area[0], area[1]) = (kind, random.pick(&[0, 1, area.len() as u8 + 1])),
+        // Kind 29 below length 4.
+        4 => area[last - 3..].copy_from_slice(&[29, random.pick(&[2, 3]), 1, 1]),
+        _ => random.flip(area),
+    }
+}
+
+/// Bad lengths and offsets: 20, or 30 when signing.
+pub fn spoil_length(random: &mut Prng, segment: &mut Vec<u8>) {
+    let offset = |words: usize, byte: u8| (words << 4) as u8 | byte & 0x0f;
+    match random.below(8) {
+        0..=1 => segment.truncate(random.below(20)),
+        2 => segment.truncate(19),
+        3 => segment[12] = offset(random.below(5), segment[12]),
+        4..=5 => {
+            // The header reaches one byte, or more, past the segment.
+            let words = (segment[12] >> 4) as usize;
+            segment.truncate((4 * words - 1).max(20));
+            if segment.len() >= 4 * words {
+                segment[12] = offset(6 + random.below(10), segment[12]);
+            }
+        }
+        6 => segment[12] = offset(15, segment[12]),
+        _ => {
+            let length = random.pick(&[65_536, 65_537, 70_000]);
+            segment.resize(length, 0);
+        }
+    }
+}
+
+/// Writes the MAC that the key gives into the first TCP-AO, if there is one with room for it.
+pub fn seal(segment: &mut [u8], key: &Key, ends: &Ends, extension: u32) {
+    let rules = Rules::default();
+    let bytes = key.bytes();
+    let Some(entry) = entry(&bytes) else { return };
+    let Some(header) = Header::read(segment) else {
+        return;
+    };
+    let Some(ao) = read_options(rules, segment, &header).and_then(|options| options.ao) else {
+        return;
+    };
+    if ao.length < 16 {
+        return;
+    }
+    let carrier = WithAo {
+        segment,
+        header,
+        ao,
+    };
+    let mac = mac::mac(rules, &entry, ends, ends, extension, &carrier);
+    segment[ao.at + 4..ao.at + 16].copy_from_slice(&mac);
+}

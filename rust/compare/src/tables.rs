@@ -1,0 +1,394 @@
+//! Key tables: entries around a socket pair, and the faults that 10 to 17 refuse.
+
+use crate::prng::Prng;
+use reference::table::{self, Entry};
+use reference::Rules;
+
+/// A socket pair as one end holds it.
+#[derive(Clone, Debug)]
+pub struct Pair {
+    pub local: Vec<u8>,
+    pub remote: Vec<u8>,
+    pub local_port: u16,
+    pub remote_port: u16,
+}
+
+impl Pair {
+    pub fn random(random: &mut Prng) -> Pair {
+        let bytes = random.pick(&[4, 16]);
+        Pair {
+            local: random.bytes(bytes),
+            remote: random.bytes(bytes),
+            local_port: port(random),
+            remote_port: port(random),
+        }
+    }
+
+    /// The pair as the other end holds it.
+    pub fn mirror(&self) -> Pair {
+        Pair {
+            local: self.remote.clone(),
+            remote: self.local.clone(),
+            local_port: self.remote_port,
+            remote_port: self.local_port,
+        }
+    }
+
+    pub fn lent(&self) -> table::Pair<'_> {
+        table::Pair {
+            local: &self.local,
+            remote: &self.remote,
+            local_port: self.local_port,
+            remote_port: self.remote_port,
+        }
+    }
+}
+
+fn port(random: &mut Prng) -> u16 {
+    match random.below(6) {
+        0 => random.pick(&[0, 1, 65534, 65535]),
+        1 => 179,
+        _ => random.half(),
+    }
+}
+
+/// Few IDs, so that entries often share one.
+pub fn id(random: &mut Prng) -> u8 {
+    random.pick(&[0, 1, 2, 3, 4, 5, 6, 7, 254, 255])
+}
+
+#[derive(Clone, Debug)]
+pub struct Side {
+    pub low: u16,
+    pub high: u16,
+    pub address: Vec<u8>,
+    pub prefix: u8,
+}
+
+impl Side {
+    /// A side that this address and port lie in, often at an end of the range.
+    fn around(random: &mut Prng, address: &[u8], port: u16) -> Side {
+        let step = random.pick(&[0, 1, 300]);
+        let (low, high) = match random.below(5) {
+            0 => (port, port),
+            1 => (0, 65535),
+            2 => (port.saturating_sub(step), port),
+            3 => (port, port.saturating_add(step)),
+            _ => (port.saturating_sub(step), port.saturating_add(step)),
+        };
+        let prefix = prefix(random, address.len());
+        let address = masked(address, prefix);
+        Side {
+            low,
+            high,
+            address,
+            prefix,
+        }
+    }
+
+    /// A side close to another: the same, wider, narrower, touching it or just beside it.
+    fn near(&self, random: &mut Prng) -> Side {
+        let mut side = self.clone();
+        match random.below(9) {
+            0 => {}
+            1 => side.low = side.low.saturating_sub(1),
+            2 => side.high = side.low,
+            3 => (side.low, side.high) = (side.high, side.high.saturating_add(9)),
+            4 => (side.low, side.high) = (side.high.saturating_add(1), 65535),
+            5 => (side.low, side.high) = (0, side.low.saturating_sub(1)),
+            6 => {
+                // Contained in it: more bits are fixed.
+                let longer = self.prefix.max(prefix(random, self.address.len()));
+                let mut address = random.bytes(self.address.len());
+                put_first_bits(&mut address, &self.address, self.prefix);
+                side.address = masked(&address, longer);
+                side.prefix = longer;
+            }
+            7 => {
+                // It is contained in this one: fewer bits are fixed.
+                side.prefix = self.prefix.min(prefix(random, self.address.len()));
+                side.address = masked(&self.address, side.prefix);
+            }
+            _ => {
+                // Disjoint, by one fixed bit.
+                if self.prefix > 0 {
+                    let bit = random.below(self.prefix as usize);
+                    side.address[bit / 8] ^= 0x80 >> (bit % 8);
+                }
+            }
+        }
+        side
+    }
+}
+
+fn prefix(random: &mut Prng, address_bytes: usize) -> u8 {
+    let bits = 8 * address_bytes as u8;
+    match random.below(4) {
+        0 => 0,
+        1 => bits,
+        2 => random.pick(&[1, 7, 8, 9, bits - 9, bits - 8, bits - 1]),
+        _ => random.below(bits as usize + 1) as u8,
+    }
+}
+
+/// An address whose bits behind the prefix are zero.
+fn masked(address: &[u8], prefix: u8) -> Vec<u8> {
+    let mut zero = vec![0; address.len()];
+    put_first_bits(&mut zero, address, prefix);
+    zero
+}
+
+fn put_first_bits(to: &mut [u8], from: &[u8], count: u8) {
+    for bit in 0..count as usize {
+        let mask = 0x80 >> (bit % 8);
+        to[bit / 8] = to[bit / 8] & !mask | from[bit / 8] & mask;
+    }
+}
+
+/// An entry.
+#[derive(Clone, Debug)]
+pub struct Key {
+    pub flags: u8,
+    pub algorithm: u8,
+    pub send_id: u8,
+    pub recv_id: u8,
+    pub local: Side,
+    pub remote: Side,
+    pub secret: Vec<u8>,
+}
+
+impl Key {
+    /// An entry that matches the pair.
+    fn for_pair(random: &mut Prng, pair: &Pair) -> Key {
+        let any = 1 + random.below(80);
+        let length = random.pick(&[16, 16, 16, 1, 15, 17, 64, 65, 80, any, any]);
+        Key {
+            flags: random.below(2) as u8,
+            algorithm: 1 + random.below(2) as u8,
+            send_id: id(random),
+            recv_id: id(random),
+            local: Side::around(random, &pair.local, pair.local_port),
+            remote: Side::around(random, &pair.remote, pair.remote_port),
+            secret: random.bytes(length),
+        }
+    }
+
+    fn random(random: &mut Prng) -> Key {
+        let pair = Pair::random(random);
+        Key::for_pair(random, &pair)
+    }
+
+    /// An entry that shares IDs with this one, over sides that are the same, touch it, lie in it, or
+    /// do not.
+    fn relative(&self, random: &mut Prng) -> Key {
+        let mut key = self.clone();
+        match random.below(4) {
+            0 => {}
+            1 => key.send_id = id(random),
+            2 => key.recv_id = id(random),
+            _ => (key.send_id, key.recv_id) = (id(random), id(random)),
+        }
+        if random.one_in(2) {
+            key.local = self.local.near(random);
+        } else {
+            key.remote = self.remote.near(random);
+        }
+        if random.one_in(4) {
+            key.local = self.local.near(random);
+        }
+        random.flip(&mut key.secret);
+        key
+    }
+
+    /// The entry as the other end holds it.
+    pub fn mirror(&self) -> Key {
+        Key {
+            send_id: self.recv_id,
+            recv_id: self.send_id,
+            local: self.remote.clone(),
+            remote: self.local.clone(),
+            ..self.clone()
+        }
+    }
+
+    pub fn bytes(&self) -> Vec<u8> {
+        let kind = if self.local.address.len() == 4 { 4 } else { 6 };
+        let mut bytes = vec![kind, self.flags, self.algorithm, self.send_id, self.recv_id];
+        for side in [&self.local, &self.remote] {
+            bytes.extend(side.low.to_be_bytes());
+            bytes.extend(side.high.to_be_bytes());
+        }
+        for side in [&self.local, &self.remote] {
+            bytes.extend(&side.address);
+            bytes.push(side.prefix);
+        }
+        bytes.push(self.secret.len() as u8);
+        bytes.extend(&self.secret);
+        bytes.resize(bytes.len() + 80 - self.secret.len(), 0);
+        bytes
+    }
+
+    /// Whether it matches the pair; the reference is asked, since this only aims.
+    pub fn matches(&self, pair: &Pair) -> bool {
+        entry(&self.bytes()).is_some_and(|entry| entry.matches(Rules::default(), &pair.lent()))
+    }
+}
+
+/// The entry that these bytes are alone, if a table may have it.
+pub fn entry(bytes: &[u8]) -> Option<Entry<'_>> {
+    table::read(Rules::default(), bytes).ok()?.first().copied()
+}
+
+pub fn bytes(keys: &[Key]) -> Vec<u8> {
+    keys.iter().flat_map(Key::bytes).collect()
+}
+
+/// A table around a pair that is (nearly always) valid: some entries match the pair, others reuse
+/// their IDs beside it, some are of another pair or family.
+pub fn around(random: &mut Prng, pair: &Pair) -> Vec<Key> {
+    let large = random.one_in(50);
+    let count = match random.below(3) {
+        0 if large => 8 + random.below(56),
+        _ if large => 64,
+        _ => random.below(8),
+    };
+    let mut keys: Vec<Key> = vec![];
+    for _ in 0..3 * count {
+        if keys.len() == count {
+            break;
+        }
+        let mut key = match random.below(8) {
+            0 => Key::random(random),
+            1..=3 if !keys.is_empty() => keys[random.below(keys.len())].relative(random),
+            _ => Key::for_pair(random, pair),
+        };
+        if large {
+            (key.send_id, key.recv_id) = (random.byte(), random.byte());
+        }
+        keys.push(key);
+        if entry(&bytes(&keys)).is_none() && !random.one_in(60) {
+            keys.pop();
+        }
+    }
+    keys
+}
+
+/// The other end's table: mirrors, now and then one missing, or for another pair only.
+pub fn other_end(random: &mut Prng, keys: &[Key]) -> Vec<Key> {
+    let mut theirs = vec![];
+    for key in keys {
+        let mut key = key.mirror();
+        match random.below(8) {
+            0 => continue,
+            1 => key.local = key.local.near(random),
+            _ => {}
+        }
+        theirs.push(key);
+        if entry(&bytes(&theirs)).is_none() {
+            theirs.pop();
+        }
+    }
+    theirs
+}
+
+/// A table with one or a few of the faults that 10 to 17 refuse, at any entries.
+pub fn spoilt(random: &mut Prng, keys: &[Key]) -> Vec<u8> {
+    let mut entries: Vec<Vec<u8>> = keys.iter().map(Key::bytes).collect();
+    if entries.is_empty() {
+        entries.push(Key::random(random).bytes());
+    }
+    for _ in 0..random.pick(&[1, 1, 1, 2, 3]) {
+        match random.below(8) {
+            0 => too_many(random, &mut entries),
+            1 if !keys.is_empty() => {
+                let relative = keys[random.below(keys.len())].relative(random);
+                entries.insert(1 + random.below(entries.len()), relative.bytes());
+            }
+            2 => cut(random, &mut entries),
+            _ => {
+                let at = random.below(entries.len());
+                for _ in 0..random.pick(&[1, 1, 2]) {
+                    spoil_entry(random, &mut entries[at]);
+                }
+            }
+        }
+    }
+    entries.concat()
+}
+
+/// 64 entries whose IDs all differ, and something behind them: 12, whatever it is.
+fn too_many(random: &mut Prng, entries: &mut Vec<Vec<u8>>) {
+    let mut key = Key::random(random);
+    *entries = (0..64)
+        .map(|index| {
+            (key.send_id, key.recv_id) = (index, 64 + index);
+            key.bytes()
+        })
+        .collect();
+    let length = random.pick(&[1, 1, 20, 104, 128]);
+    let mut behind = random.bytes(length);
+    behind[0] = random.pick(&[0, 4, 5, 6, 255]);
+    entries.push(behind);
+}
+
+/// The last entry is cut, or another one, so that the next begins too early.
+fn cut(random: &mut Prng, entries: &mut [Vec<u8>]) {
+    let last = entries.len() - 1;
+    let at = if random.one_in(4) {
+        random.below(entries.len())
+    } else {
+        last
+    };
+    let length = entries[at].len();
+    let left = match random.below(3) {
+        0 => length.min(1),
+        1 => length.saturating_sub(1),
+        _ => random.below(length + 1),
+    };
+    entries[at].truncate(left);
+}
+
+/// One of 11 and 13 to 16 in an entry of 104 or 128 bytes.
+fn spoil_entry(random: &mut Prng, entry: &mut [u8]) {
+    let address = match entry.len() {
+        104 => 4,
+        128 => 16,
+        _ => return,
+    };
+    let key_length = 15 + 2 * address;
+    let prefixes = [13 + address, 14 + 2 * address];
+    match random.below(9) {
+        0 => entry[0] = random.pick(&[0, 1, 3, 4, 5, 6, 7, 255]),
+        1 => entry[1] = random.pick(&[2, 3, 128, 255]),
+        2 => entry[2] = random.pick(&[0, 3, 4, 255]),
+        3 => {
+            // Low just above high, or well above it.
+            let at = random.pick(&[5, 9]);
+            let low = 1 + random.half() / 2;
+            let high = random.pick(&[low - 1, 0]);
+            entry[at..at + 2].copy_from_slice(&low.to_be_bytes());
+            entry[at + 2..at + 4].copy_from_slice(&high.to_be_bytes());
+        }
+        4 => {
+            let at = random.pick(&prefixes);
+            entry[at] = 8 * address as u8 + random.pick(&[1, 2, 8, 96]);
+        }
+        5 => {
+            // A bit behind the prefix: the first, the last or any.
+            let at = random.pick(&prefixes);
+            let bits = 8 * address;
+            let used = (entry[at] as usize).min(bits - 1);
+            entry[at] = used as u8;
+            let any = used + random.below(bits - used);
+            let bit = random.pick(&[used, bits - 1, any]);
+            entry[at - address + bit / 8] |= 0x80 >> (bit % 8);
+        }
+        6 => entry[key_length] = random.pick(&[0, 81, 255]),
+        7 => entry[key_length] = random.pick(&[1, 80, entry[key_length].saturating_sub(1)]),
+        _ => {
+            let behind = key_length + 1 + (entry[key_length] as usize).min(79);
+            let last = entry.len() - 1;
+            entry[random.pick(&[behind, last])] = 1;
+        }
+    }
+}
