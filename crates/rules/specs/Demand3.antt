@@ -130,7 +130,7 @@ pub record Demand3 (t : List ℕ) (q : State) (l : List (Arriving t (q .line))) 
   pub verdicts : AllFit l (judgeAll t q (map arrival l) .verdicts)
   -- "After the list the reference is the largest of the starting one and the true positions."
   pub reference : after t q l .seen ≡ largest (q .seen) (positions l)
-  -- "The outgoing key is what the last true segment asking for an available key requested for, or the starting one."
+  -- "The outgoing key is what the last true segment asking for an available key asked for, or the starting one."
   pub key : after t q l .«send_id» ≡ lastOr (q .«send_id») (those (available t (q .line .pair)) (requested l))
   -- "With no count at its stop, accepted = accepted at the start + true arrivals, and dropped = dropped at the start + the others that document 01 counts"
   pub accepted : NoStop (after t q l) → after t q l .accepted ≡ q .accepted + trues l
