@@ -1,1 +1,4 @@
 pub mod Macs
+pub mod Word
+pub mod Exports
+pub mod Numbers
