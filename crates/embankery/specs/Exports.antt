@@ -22,15 +22,20 @@ isState b = eqb (length b) stateBytes
 unfoldable pub answered : List ℕ → Answer → ℕ
 answered b a = word (cond (isState b) a (answer 18 0))
 
--- a buffer at exit: x, if the state buffer b is one
+-- and no buffer changes then: one that holds y at entry, and x after the call of `tcpao`
 unfoldable pub changed : List ℕ → List ℕ → List ℕ → List ℕ
 changed b x y = cond (isState b) x y
 
--- the bytes of a connection's state, at entry b, after a call that returns the state q
+-- the state buffer b after a call that returns the state q: "turns the state back"
 abbrev pub stateAfter : List ℕ → State → List ℕ
 stateAfter b q = changed b (encodeOf q) b
 
--- (boundary) "A call that is refused, or only passes a SYN, leaves every buffer as it was": so an opening writes a state only where it opens
+-- (boundary) "A call that is refused, or only passes a SYN, leaves every buffer as it was": an opening writes its state only where it opened.
+-- The other calls write the state back that they return; Unchanged.antt proves that a refusal then leaves every byte, but for the count
+abbrev pub stateWhere : List ℕ → Bool → State → List ℕ
+stateWhere b opened q = changed b (cond opened (encodeOf q) b) b
+
+-- whether a passive opening opened, and an active one
 abbrev pub accepts : Verdict → Bool
 accepts (Accept e) = true
 accepts Pass = false
@@ -39,9 +44,6 @@ accepts (Drop n) = false
 abbrev pub opens : Done → Bool
 opens D.Done = true
 opens (D.Refused n) = false
-
-abbrev pub openedAfter : List ℕ → Bool → State → List ℕ
-openedAfter b done q = changed b (cond done (encodeOf q) b) b
 
 -- "`setting` says what a bare SYN with TCP-AO gets where no entry has its KeyID: 0 pass, any other value drop 26."
 abbrev pub strictly : ℕ → Bool

@@ -2,3 +2,4 @@ pub mod Macs
 pub mod Word
 pub mod Exports
 pub mod Numbers
+pub mod Unchanged

@@ -8,7 +8,7 @@ ghost use Rattle.rules.specs.Answers.{tableAnswer};
 ghost use Rattle.rules.specs.Calls.{judged, judgedSyn, openedPassively, openedActively, asked, signed, output};
 ghost use Rattle.tcpao.specs.Layout.{stateBytes, decodeOf, encodeOf};
 ghost use Rattle.embankery.specs.Word.{word as wordOf, ofJudged, ofChecked, ofSigned, ofSettled};
-ghost use Rattle.embankery.specs.Exports.{answered, changed, stateAfter, openedAfter, accepts as acceptsOf, opens as opensOf, strictly};
+ghost use Rattle.embankery.specs.Exports.{answered, changed, stateAfter, stateWhere, accepts as acceptsOf, opens as opensOf, strictly};
 use crate::answer::of_done;
 use crate::answer::of_signing;
 use crate::answer::of_table;
@@ -32,8 +32,8 @@ fn put(bytes: &mut [u8], q: State)
     octets::copy_at(bytes, 0, &encoded);
 }
 
-// The same after an opening, where it opened.
-fn put_opened(bytes: &mut [u8], opened: bool, q: State)
+// The same where an opening opened; else the bytes stay.
+fn put_where(bytes: &mut [u8], opened: bool, q: State)
     requires { ⌜ length (now bytes) ≡ stateBytes ⌝ }
     ensures { λ _. ⌜ now (bytes .exit) ≡ cond opened (encodeOf q) (now (bytes .entry)) ⌝ }
 {
@@ -43,6 +43,7 @@ fn put_opened(bytes: &mut [u8], opened: bool, q: State)
     put(bytes, q);
 }
 
+// Whether a passive opening opened, and an active one.
 fn accepts(verdict: Verdict) -> bool
     ensures { λ r. ⌜ r ≡ acceptsOf verdict ⌝ }
 {
@@ -81,15 +82,15 @@ pub extern "C" fn tcpao_open_active(
     state: &mut [u8],
 ) -> u64
     ensures answer { λ r. ⌜ r ≡ answered (now (state .entry)) (ofSettled (openedActively (now (table .entry)) (now (local .entry)) (now (remote .entry)) «local_port» «remote_port» isn «send_id»)) ⌝ }
-    ensures state { λ _. ⌜ now (state .exit) ≡ openedAfter (now (state .entry)) (opensOf (openedActively (now (table .entry)) (now (local .entry)) (now (remote .entry)) «local_port» «remote_port» isn «send_id» .answer)) (openedActively (now (table .entry)) (now (local .entry)) (now (remote .entry)) «local_port» «remote_port» isn «send_id» .state) ⌝ }
+    ensures state { λ _. ⌜ now (state .exit) ≡ stateWhere (now (state .entry)) (opensOf (openedActively (now (table .entry)) (now (local .entry)) (now (remote .entry)) «local_port» «remote_port» isn «send_id» .answer)) (openedActively (now (table .entry)) (now (local .entry)) (now (remote .entry)) «local_port» «remote_port» isn «send_id» .state) ⌝ }
 {
     if state.len() != STATE_BYTES {
         return word(WRONG_STATE, 0);
     }
     let r = tcpao::open::open_active(table, local, remote, local_port, remote_port, isn, send_id);
     let answer = r.answer;
-    let q = r.state;
-    put_opened(state, opens(answer), q);
+    let opening = r.state;
+    put_where(state, opens(answer), opening);
     of_done(answer, r.index)
 }
 
@@ -119,15 +120,15 @@ pub extern "C" fn tcpao_open_passive(
     state: &mut [u8],
 ) -> u64
     ensures answer { λ r. ⌜ r ≡ answered (now (state .entry)) (ofJudged (openedPassively (now (table .entry)) (record { source = now (source .entry); destination = now (destination .entry); segment = now (segment .entry) }) isn (strictly setting))) ⌝ }
-    ensures state { λ _. ⌜ now (state .exit) ≡ openedAfter (now (state .entry)) (acceptsOf (openedPassively (now (table .entry)) (record { source = now (source .entry); destination = now (destination .entry); segment = now (segment .entry) }) isn (strictly setting) .verdict)) (openedPassively (now (table .entry)) (record { source = now (source .entry); destination = now (destination .entry); segment = now (segment .entry) }) isn (strictly setting) .state) ⌝ }
+    ensures state { λ _. ⌜ now (state .exit) ≡ stateWhere (now (state .entry)) (acceptsOf (openedPassively (now (table .entry)) (record { source = now (source .entry); destination = now (destination .entry); segment = now (segment .entry) }) isn (strictly setting) .verdict)) (openedPassively (now (table .entry)) (record { source = now (source .entry); destination = now (destination .entry); segment = now (segment .entry) }) isn (strictly setting) .state) ⌝ }
 {
     if state.len() != STATE_BYTES {
         return word(WRONG_STATE, 0);
     }
     let r = tcpao::judge::open_passive(table, source, destination, segment, isn, setting != 0);
     let verdict = r.verdict;
-    let q = r.state;
-    put_opened(state, accepts(verdict), q);
+    let opened = r.state;
+    put_where(state, accepts(verdict), opened);
     of_verdict(verdict, r.index)
 }
 
@@ -148,8 +149,8 @@ pub extern "C" fn tcpao_judge(
     let held = tcpao::state::decode(state);
     let r = tcpao::judge::judge(table, source, destination, segment, held);
     let verdict = r.verdict;
-    let q = r.state;
-    put(state, q);
+    let judged = r.state;
+    put(state, judged);
     of_verdict(verdict, r.index)
 }
 
@@ -165,8 +166,8 @@ pub extern "C" fn tcpao_sign(table: &[u8], segment: &[u8], out: &mut [u8], state
     let held = tcpao::state::decode(state);
     let r = tcpao::sign::sign(table, segment, out, held);
     let answer = r.answer;
-    let q = r.state;
-    put(state, q);
+    let signed = r.state;
+    put(state, signed);
     of_signing(answer, r.index)
 }
 
@@ -181,7 +182,7 @@ pub extern "C" fn tcpao_ask(table: &[u8], recv_id: u8, state: &mut [u8]) -> u64
     let held = tcpao::state::decode(state);
     let r = tcpao::operator::ask(table, recv_id, held);
     let answer = r.answer;
-    let q = r.state;
-    put(state, q);
+    let asked = r.state;
+    put(state, asked);
     of_done(answer, r.index)
 }

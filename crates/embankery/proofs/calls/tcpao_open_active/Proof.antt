@@ -39,7 +39,7 @@ returns-2 c =
     done ofSettled (left (a .state .now)) (a .state .now)
     (openedActively (a .table .now) (a .local .now) (a .remote .now) (a .local-port) (a .remote-port) (a .isn) (a .send-id))
     (e .open-active .result) _ _ (e .before .if1 .left) (e .open-active .ensures) (c .of-done .ensures)
-    (p .put-opened .ensures ∙ ap (λ (o : Bool). cond o (encodeOf (e .open-active .result .state)) (a .state .now)) (p .before .opens .ensures))
+    (p .put-where .ensures ∙ ap (λ (o : Bool). cond o (encodeOf (e .open-active .result .state)) (a .state .now)) (p .before .opens .ensures))
 
 pub tcpao-open-active-spec : {M : Type 1} → statement M
 tcpao-open-active-spec =

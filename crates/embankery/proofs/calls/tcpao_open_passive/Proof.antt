@@ -39,7 +39,7 @@ returns-2 c =
     done ofJudged (left (a .state .now)) (a .state .now)
     (openedPassively (a .table .now) (record { source = a .source .now; destination = a .destination .now; segment = a .segment .now }) (a .isn) (strictly (a .setting)))
     (e .open-passive .result) _ _ (e .before .if1 .left) (e .open-passive .ensures) (c .of-verdict .ensures)
-    (p .put-opened .ensures ∙ ap (λ (o : Bool). cond o (encodeOf (e .open-passive .result .state)) (a .state .now)) (p .before .accepts .ensures))
+    (p .put-where .ensures ∙ ap (λ (o : Bool). cond o (encodeOf (e .open-passive .result .state)) (a .state .now)) (p .before .accepts .ensures))
 
 pub tcpao-open-passive-spec : {M : Type 1} → statement M
 tcpao-open-passive-spec =
