@@ -1,15 +1,15 @@
 -- What a call's answer and a lent buffer come to, by the length of the state buffer b. The call below returns a value of the type J: `of` is its
 -- answer, `bytes` what it leaves in the state buffer. Assumes nothing.
 use Prim.Native.Nat.{ℕ}
-use mathlib.Core.Path.{_≡_, refl, ap, _∙_}
+use mathlib.Core.Path.{_≡_, refl, sym, ap, _∙_}
 use mathlib.Core.Bool.{Bool, true, false, cond, not}
 use mathlib.Core.List.{List}
 use lib.ListN.{length}
-use borrow.Author.Tests.{eq-eqb, ne-eqb, not-true, not-false}
+use borrow.Author.Tests.{eq-eqb, ne-eqb, eqb-true, eqb-false, not-true, not-false}
 use Rattle.rules.specs.Answers.{Answer, answer}
 use Rattle.tcpao.specs.Layout.{stateBytes}
 use Rattle.embankery.specs.Word.{word}
-use Rattle.embankery.specs.Exports.{answered, changed}
+use Rattle.embankery.specs.Exports.{isState, answered, changed}
 
 -- a buffer of another length, and one of a state's
 pub unchanged : (b x y : List ℕ) → (length b ≡ stateBytes → ⊥) → y ≡ changed b x y
@@ -19,6 +19,12 @@ unchanged b x y h = rw (ne-eqb _ _ h) refl
 pub made : (b x y : List ℕ) → length b ≡ stateBytes → x ≡ changed b x y
 unfolding changed
 made b x y h = rw (eq-eqb _ _ h) refl
+
+pub other : (b : List ℕ) (r : Bool) → r ≡ isState b → not r ≡ true → length b ≡ stateBytes → ⊥
+other b r e h = eqb-false (length b) stateBytes (sym e ∙ not-true r h)
+
+pub whole : (b : List ℕ) (r : Bool) → r ≡ isState b → not r ≡ false → length b ≡ stateBytes
+whole b r e h = eqb-true (length b) stateBytes (sym e ∙ not-false r h)
 
 module _ {J : Type 0} (of : J → Answer) (bytes : J → List ℕ) (b : List ℕ) (k : J) where
   pub refused : (r : ℕ) → (length b ≡ stateBytes → ⊥) → r ≡ word (answer 18 0) → (r ≡ answered b (of k)) × (b ≡ changed b (bytes k) b)

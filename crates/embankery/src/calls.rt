@@ -8,7 +8,7 @@ ghost use Rattle.rules.specs.Answers.{tableAnswer};
 ghost use Rattle.rules.specs.Calls.{judged, judgedSyn, openedPassively, openedActively, asked, signed, output};
 ghost use Rattle.tcpao.specs.Layout.{stateBytes, decodeOf, encodeOf};
 ghost use Rattle.embankery.specs.Word.{word as wordOf, ofJudged, ofChecked, ofSigned, ofSettled};
-ghost use Rattle.embankery.specs.Exports.{answered, changed, stateAfter, stateWhere, accepts as acceptsOf, opens as opensOf, strictly};
+ghost use Rattle.embankery.specs.Exports.{isState, answered, changed, stateAfter, stateWhere, accepts as acceptsOf, opens as opensOf, strictly};
 use crate::answer::of_done;
 use crate::answer::of_signing;
 use crate::answer::of_table;
@@ -22,6 +22,13 @@ use rules::Verdict;
 const WRONG_STATE: u8 = 18;
 
 const STATE_BYTES: usize = 152;
+
+// Whether a buffer has a state's length.
+fn is_state(bytes: &[u8]) -> bool
+    ensures { λ r. ⌜ r ≡ isState (now (bytes .entry)) ⌝ }
+{
+    bytes.len() == STATE_BYTES
+}
 
 // Writes a state into the bytes lent for it.
 fn put(bytes: &mut [u8], q: State)
@@ -63,6 +70,7 @@ fn opens(answer: Done) -> bool
     }
 }
 
+// How many entries, or 10 to 17 with the entry's index.
 #[no_mangle]
 pub extern "C" fn tcpao_check_table(table: &[u8]) -> u64
     ensures answer { λ r. ⌜ r ≡ wordOf (tableAnswer (checked (now (table .entry)))) ⌝ }
@@ -70,6 +78,7 @@ pub extern "C" fn tcpao_check_table(table: &[u8]) -> u64
     of_table(tcpao::operator::check_table(table))
 }
 
+// Opens actively; the state is written only where that is done.
 #[no_mangle]
 pub extern "C" fn tcpao_open_active(
     table: &[u8],
@@ -84,7 +93,7 @@ pub extern "C" fn tcpao_open_active(
     ensures answer { λ r. ⌜ r ≡ answered (now (state .entry)) (ofSettled (openedActively (now (table .entry)) (now (local .entry)) (now (remote .entry)) «local_port» «remote_port» isn «send_id»)) ⌝ }
     ensures state { λ _. ⌜ now (state .exit) ≡ stateWhere (now (state .entry)) (opensOf (openedActively (now (table .entry)) (now (local .entry)) (now (remote .entry)) «local_port» «remote_port» isn «send_id» .answer)) (openedActively (now (table .entry)) (now (local .entry)) (now (remote .entry)) «local_port» «remote_port» isn «send_id» .state) ⌝ }
 {
-    if state.len() != STATE_BYTES {
+    if !is_state(state) {
         return word(WRONG_STATE, 0);
     }
     let r = tcpao::open::open_active(table, local, remote, local_port, remote_port, isn, send_id);
@@ -94,6 +103,7 @@ pub extern "C" fn tcpao_open_active(
     of_done(answer, r.index)
 }
 
+// A bare SYN, without a state.
 #[no_mangle]
 pub extern "C" fn tcpao_judge_syn(
     table: &[u8],
@@ -109,6 +119,7 @@ pub extern "C" fn tcpao_judge_syn(
     of_verdict(verdict, r.index)
 }
 
+// Judges the bare SYN again and, only on accept, opens and writes the state.
 #[no_mangle]
 pub extern "C" fn tcpao_open_passive(
     table: &[u8],
@@ -122,7 +133,7 @@ pub extern "C" fn tcpao_open_passive(
     ensures answer { λ r. ⌜ r ≡ answered (now (state .entry)) (ofJudged (openedPassively (now (table .entry)) (record { source = now (source .entry); destination = now (destination .entry); segment = now (segment .entry) }) isn (strictly setting))) ⌝ }
     ensures state { λ _. ⌜ now (state .exit) ≡ stateWhere (now (state .entry)) (acceptsOf (openedPassively (now (table .entry)) (record { source = now (source .entry); destination = now (destination .entry); segment = now (segment .entry) }) isn (strictly setting) .verdict)) (openedPassively (now (table .entry)) (record { source = now (source .entry); destination = now (destination .entry); segment = now (segment .entry) }) isn (strictly setting) .state) ⌝ }
 {
-    if state.len() != STATE_BYTES {
+    if !is_state(state) {
         return word(WRONG_STATE, 0);
     }
     let r = tcpao::judge::open_passive(table, source, destination, segment, isn, setting != 0);
@@ -132,6 +143,7 @@ pub extern "C" fn tcpao_open_passive(
     of_verdict(verdict, r.index)
 }
 
+// Judges an arriving segment on a connection, opening or open.
 #[no_mangle]
 pub extern "C" fn tcpao_judge(
     table: &[u8],
@@ -143,7 +155,7 @@ pub extern "C" fn tcpao_judge(
     ensures answer { λ r. ⌜ r ≡ answered (now (state .entry)) (ofJudged (judged (now (table .entry)) (record { source = now (source .entry); destination = now (destination .entry); segment = now (segment .entry) }) (decodeOf (now (state .entry))))) ⌝ }
     ensures state { λ _. ⌜ now (state .exit) ≡ stateAfter (now (state .entry)) (judged (now (table .entry)) (record { source = now (source .entry); destination = now (destination .entry); segment = now (segment .entry) }) (decodeOf (now (state .entry))) .state) ⌝ }
 {
-    if state.len() != STATE_BYTES {
+    if !is_state(state) {
         return word(WRONG_STATE, 0);
     }
     let held = tcpao::state::decode(state);
@@ -154,13 +166,14 @@ pub extern "C" fn tcpao_judge(
     of_verdict(verdict, r.index)
 }
 
+// Signs a segment into `out`; only the signed length's bytes of it are written.
 #[no_mangle]
 pub extern "C" fn tcpao_sign(table: &[u8], segment: &[u8], out: &mut [u8], state: &mut [u8]) -> u64
     ensures answer { λ r. ⌜ r ≡ answered (now (state .entry)) (ofSigned (signed (now (table .entry)) (now (segment .entry)) (now (out .entry)) (decodeOf (now (state .entry))))) ⌝ }
     ensures out { λ _. ⌜ now (out .exit) ≡ changed (now (state .entry)) (output (now (table .entry)) (now (segment .entry)) (now (out .entry)) (decodeOf (now (state .entry)))) (now (out .entry)) ⌝ }
     ensures state { λ _. ⌜ now (state .exit) ≡ stateAfter (now (state .entry)) (signed (now (table .entry)) (now (segment .entry)) (now (out .entry)) (decodeOf (now (state .entry))) .state) ⌝ }
 {
-    if state.len() != STATE_BYTES {
+    if !is_state(state) {
         return word(WRONG_STATE, 0);
     }
     let held = tcpao::state::decode(state);
@@ -171,12 +184,13 @@ pub extern "C" fn tcpao_sign(table: &[u8], segment: &[u8], out: &mut [u8], state
     of_signing(answer, r.index)
 }
 
+// Sets the RecvID asked of the peer.
 #[no_mangle]
 pub extern "C" fn tcpao_ask(table: &[u8], recv_id: u8, state: &mut [u8]) -> u64
     ensures answer { λ r. ⌜ r ≡ answered (now (state .entry)) (ofSettled (asked (now (table .entry)) «recv_id» (decodeOf (now (state .entry))))) ⌝ }
     ensures state { λ _. ⌜ now (state .exit) ≡ stateAfter (now (state .entry)) (asked (now (table .entry)) «recv_id» (decodeOf (now (state .entry))) .state) ⌝ }
 {
-    if state.len() != STATE_BYTES {
+    if !is_state(state) {
         return word(WRONG_STATE, 0);
     }
     let held = tcpao::state::decode(state);

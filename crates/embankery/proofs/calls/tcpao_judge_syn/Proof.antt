@@ -11,9 +11,8 @@ use Rattle.embankery.proofs.calls.tcpao_judge_syn.Tie as tie
 
 of-verdict-requires : tie.Need-of-verdict-requires
 of-verdict-requires c κs =
-    let a = c .before .before .before .before .before .args in
     subst (λ (j : Checked). j .index < 2 ^ 32) (sym (c .judge-syn .ensures))
-    (judgedSyn-fits (a .table .now) (record { source = a .source .now; destination = a .destination .now; segment = a .segment .now }) (strictly (a .setting)) .index)
+    (judgedSyn-fits _ _ _ .index)
 
 returns : tie.Need-returns
 returns c = c .of-verdict .ensures ∙ ap (λ (j : Checked). word (ofChecked j)) (c .before .judge-syn .ensures)
