@@ -4,7 +4,6 @@ use mathlib.Core.Path.{sym, ap, _∙_, subst}
 use borrow.Author.Needs.{needs}
 use Rattle.rules.specs.declared.Checked.{Checked}
 use Rattle.embankery.specs.Word.{word, ofChecked}
-use Rattle.embankery.specs.Exports.{strictly}
 use Rattle.embankery.specs.Numbers.{judgedSyn-fits}
 use Rattle.embankery.proofs.calls.tcpao_judge_syn.Statement.{statement}
 use Rattle.embankery.proofs.calls.tcpao_judge_syn.Tie as tie
