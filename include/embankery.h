@@ -1,13 +1,19 @@
-/* Embankery's calls for C and for any language that calls C. Link libembankery.a.
+/* Embankery's calls for C and for any language that calls C: TCP-AO (RFC 5925, RFC 5926) between IP
+ * and a small TCP. Link libembankery.a (x86-64 Linux).
  *
  * Every call may be made with any bytes of any lengths: none asks for anything to be tested
  * beforehand. What C itself needs stays the caller's:
- *   - a pointer is good for the length beside it, and is not NULL, also where the length is 0;
- *   - a buffer lent for writing (a pointer without const) overlaps no other buffer of the call;
- *   - no other thread writes to a buffer of the call while it runs.
+ *   - a pointer is good for the length beside it; where the length is 0 it is not used and may be NULL;
+ *   - a buffer lent for writing (a pointer without const) overlaps no other buffer of the call, so
+ *     nothing is signed in place;
+ *   - no other thread writes to a buffer of the call while it runs, or touches one lent for writing.
  * A call keeps no pointer, allocates nothing and has no state of its own, so calls on different
  * buffers may run at the same time. Nothing is claimed of how long a call takes: no call hides, by
  * its timing, what it is given.
+ *
+ * A segment is the TCP header with its options and data, as on the wire, without an IP header. An
+ * address is 4 bytes (IPv4) or 16 (IPv6), as on the wire. Ports and ISNs that are passed as numbers
+ * are numbers: no htons, no htonl.
  */
 #ifndef EMBANKERY_H
 #define EMBANKERY_H
@@ -19,11 +25,202 @@
 extern "C" {
 #endif
 
+/* The answer.
+ *
+ * The calls whose names begin tcpao_ give a number in bits 0 to 7 of the answer, and a value in bits
+ * 32 to 63. Bits 8 to 31 are zero.
+ *
+ *   no.  meaning                                              value
+ *    0   accept, or done                                      of tcpao_judge, tcpao_judge_syn and
+ *                                                             tcpao_open_passive the segment's sequence
+ *                                                             number extension; of tcpao_sign the signed
+ *                                                             length; of tcpao_check_table how many
+ *                                                             entries; else 0
+ *    1   pass: a bare SYN that TCP-AO is not asked of         0
+ *
+ *   The table of keys is refused:                             the entry's index, from 0
+ *   10   an entry is cut
+ *   11   an entry's kind is unknown
+ *   12   a 65th entry begins
+ *   13   an entry's flags or algorithm are not listed
+ *   14   a low port is above the high one
+ *   15   a prefix is above 32 or 128, or address bits are set past it
+ *   16   a key's length is 0 or above 80, or its padding is not zero
+ *   17   this entry and one before it share SendID or RecvID, and a socket pair exists that both match
+ *
+ *   The call is refused:                                      0
+ *   18   the state buffer has not EMBANKERY_STATE_BYTES bytes, or the state's family is neither 4 nor 6
+ *   19   the addresses are not both 4 or both 16 bytes
+ *
+ *   An arriving segment is dropped:                           0
+ *   20   its length or data offset is bad
+ *   21   its options are malformed
+ *   22   it has two TCP-AO, or TCP-AO and TCP MD5 together
+ *   23   its socket pair is not the state's
+ *   24   it is the wrong segment for the stage
+ *   25   TCP-AO is missing
+ *   26   no entry for its KeyID
+ *   27   its MAC has the wrong length
+ *   28   its sequence number has no position by the reference
+ *   29   its MAC differs
+ *
+ *   A segment is not signed, or a call not done:              0
+ *   30   its length or data offset is bad
+ *   31   its options are malformed, or TCP-AO or TCP MD5 is in it already
+ *   32   its data offset is above 11, or the result would have more than 65,535 bytes
+ *   33   its ports are not the state's
+ *   34   it is the wrong segment for the stage
+ *   35   no entry that matches the pair has the SendID (opening, signing) or the RecvID to ask
+ *   36   its sequence number has no position, or it is a SYN whose position is not our ISN
+ *   37   the output is too short
+ *
+ * Where several apply, 18 is given before 19, then 10 to 17, and then the others in the order of this
+ * list. Of the table's entries the first that is refused counts; of one entry 12 comes first, then 11,
+ * 10, 13, 14, 15, 16 and 17.
+ *
+ * A call that is refused (10 and above), or that only passes a SYN, leaves every buffer as it was, but
+ * for one thing: drops 20 to 29 by tcpao_judge on an open connection add one to that number's count.
+ */
+#define EMBANKERY_NUMBER(answer) ((unsigned)((uint64_t)(answer) & 255u))
+#define EMBANKERY_VALUE(answer) ((uint32_t)((uint64_t)(answer) >> 32))
+
+#define EMBANKERY_DONE 0   /* also: accept */
+#define EMBANKERY_PASS 1
+
+/* The key table.
+ *
+ * Entries one behind the other, at most EMBANKERY_ENTRIES; none is allowed. The order matters only for
+ * the index of a refusal. Numbers of two bytes are big-endian. Of one entry, with an address of w bytes:
+ *
+ *   bytes  field
+ *   1      kind: 4 (IPv4, w = 4) or 6 (IPv6, w = 16)
+ *   1      flags: 1, the MAC covers all options; 0, only TCP-AO
+ *   1      algorithm: 1, HMAC-SHA-1-96; 2, AES-128-CMAC-96
+ *   1      SendID: the KeyID of segments that we sign
+ *   1      RecvID: the KeyID of segments that we receive
+ *   2, 2   local port, low and high, both included
+ *   2, 2   remote port, low and high
+ *   w, 1   local address, and its prefix length in bits
+ *   w, 1   remote address, and its prefix length
+ *   1      key length, 1 to 80
+ *   80     the key, and zeros behind it
+ *
+ * Every call that takes a table checks it anew, as tcpao_check_table does.
+ */
+#define EMBANKERY_ENTRIES 64
+#define EMBANKERY_IPV4_ENTRY_BYTES 104
+#define EMBANKERY_IPV6_ENTRY_BYTES 128
+
+/* A connection's state.
+ *
+ * EMBANKERY_STATE_BYTES bytes of the caller's, which the openings write and the calls on a connection
+ * read and write. Nothing else is kept anywhere, so a state may be copied, stored and given back as
+ * bytes. Integers are big-endian. Any bytes are a state; one whose family is neither 4 nor 6, such as
+ * all zero, belongs to no connection and gets 18.
+ *
+ *   at   bytes  field
+ *   0    1      family: 4 or 6
+ *   1    1      stage: 1 open, any other value opening
+ *   2    1      outgoing SendID
+ *   3    1      RecvID asked of the peer
+ *   4    2      local port
+ *   6    2      remote port
+ *   8    4      our ISN
+ *   12   4      the peer's ISN
+ *   16   16     local address, IPv4 in the first four bytes
+ *   32   16     remote address, likewise
+ *   48   8      reference of the direction that we sign
+ *   56   8      reference of the arriving direction
+ *   64   8      how many segments were accepted since the opening
+ *   72   80     how many were dropped with 20, 21, .. 29, eight bytes each
+ *
+ * The segment that opens is not counted, and a count stops at 2^64 - 1. Later versions may append
+ * fields; what stands here keeps its place.
+ *
+ * WARNING: an opening that is refused, or whose SYN is only passed, does not clear the buffer. One that
+ * was used before still holds the old connection, and later calls would go on with that. Look at the
+ * answer's number, and use a buffer of zeros for each opening.
+ */
+#define EMBANKERY_STATE_BYTES 152
+
+/* What signing adds to a segment, and the most that a segment may have. */
+#define EMBANKERY_ADDED_BYTES 16
+#define EMBANKERY_SEGMENT_BYTES 65535
+
+/* Checks a key table. Gives 0 with the number of entries, or 10 to 17 with an entry's index. */
+uint64_t tcpao_check_table(const uint8_t *table, size_t table_len);
+
+/* Opens actively: writes the state of a connection whose SYN is yet to be signed and sent. send_id names
+ * the entry whose key signs it; the entry must match the pair. The key asked of the peer is that
+ * entry's RecvID.
+ *
+ * Gives 0, or 18 (of state_len only), 19, 10 to 17, 35. Writes all of state where it gives 0, and else
+ * nothing: see the warning above.
+ */
+uint64_t tcpao_open_active(const uint8_t *table, size_t table_len, const uint8_t *local, size_t local_len,
+                           const uint8_t *remote, size_t remote_len, uint16_t local_port,
+                           uint16_t remote_port, uint32_t isn, uint8_t send_id, uint8_t *state,
+                           size_t state_len);
+
+/* Judges a bare SYN (SYN set, ACK clear) without a state. source and destination are the segment's, so
+ * source is the peer.
+ *
+ * Without TCP-AO it gets 25 if any entry matches the pair, else 1. With TCP-AO whose KeyID has no entry
+ * for the pair, setting decides: 0 gives 1 (pass), any other value gives 26.
+ *
+ * Gives 0 with the extension, which is 0; or 1, 19, 10 to 17, 20 to 22, 24 to 27, 29. Writes nothing.
+ */
+uint64_t tcpao_judge_syn(const uint8_t *table, size_t table_len, const uint8_t *source, size_t source_len,
+                         const uint8_t *destination, size_t destination_len, const uint8_t *segment,
+                         size_t segment_len, uint8_t setting);
+
+/* Opens passively: takes the same bare SYN and our ISN, judges it again as tcpao_judge_syn does and, where
+ * that accepts, writes the state of an open connection.
+ *
+ * Gives what tcpao_judge_syn gives, or 18 (of state_len only) before all others. Writes all of state where
+ * it gives 0, and else nothing, also where it gives 1: see the warning above.
+ */
+uint64_t tcpao_open_passive(const uint8_t *table, size_t table_len, const uint8_t *source,
+                            size_t source_len, const uint8_t *destination, size_t destination_len,
+                            const uint8_t *segment, size_t segment_len, uint32_t isn, uint8_t setting,
+                            uint8_t *state, size_t state_len);
+
+/* Judges an arriving segment on a connection. While opening that is the SYN+ACK; once open every segment
+ * that carries SYN and ACK, or no SYN. An accepted SYN+ACK opens.
+ *
+ * Gives 0 with the extension, or 18, 19, 10 to 17, 20 to 29. Where it gives 0 it writes state: what is
+ * accepted moves the reference, may change the outgoing SendID, and is counted once open. A drop, 20 to
+ * 29, on an open connection adds one to its count. Else state stays.
+ */
+uint64_t tcpao_judge(const uint8_t *table, size_t table_len, const uint8_t *source, size_t source_len,
+                     const uint8_t *destination, size_t destination_len, const uint8_t *segment,
+                     size_t segment_len, uint8_t *state, size_t state_len);
+
+/* Signs a segment: writes to out the segment with TCP-AO directly behind byte 20, the data offset raised
+ * by 4 and the checksum zero. The checksum is the caller's to compute, over what stands in out. While
+ * opening only the bare SYN whose number is our ISN may be signed; once open a SYN+ACK or a segment
+ * without SYN.
+ *
+ * out must have EMBANKERY_ADDED_BYTES more than the segment, else 37. Gives 0 with the signed length n, or
+ * 18, 10 to 17, 30 to 37. Where it gives 0 it writes the first n bytes of out, and the reference in
+ * state; what stands in out behind them stays. Else both stay.
+ */
+uint64_t tcpao_sign(const uint8_t *table, size_t table_len, const uint8_t *segment, size_t segment_len,
+                    uint8_t *out, size_t out_len, uint8_t *state, size_t state_len);
+
+/* Asks the peer for another key: sets the RecvID that signed segments carry as RNextKeyID from now on. An
+ * entry that matches the pair must have it.
+ *
+ * Gives 0, or 18, 10 to 17, 35. Where it gives 0 it writes that one byte of state, and else nothing.
+ */
+uint64_t tcpao_ask(const uint8_t *table, size_t table_len, uint8_t recv_id, uint8_t *state,
+                   size_t state_len);
+
 /* The MAC library.
  *
- * Each of these gives how many bytes it wrote at the front of out. Where out is shorter than that,
- * or an AES key or block has not 16 bytes, it gives 0 and writes nothing. What stands in out behind
- * the bytes written stays.
+ * Each of these gives how many bytes it wrote at the front of out: the whole answer is that number. Where
+ * out is shorter than that, or an AES key or block has not 16 bytes, it gives 0 and writes nothing. What
+ * stands in out behind the bytes written stays.
  */
 
 /* SHA-1 (FIPS 180-4) of the message: writes 20 bytes. */

@@ -1,1 +1,5 @@
 pub mod Macs
+pub mod Word
+pub mod Exports
+pub mod Numbers
+pub mod Unchanged

@@ -1,0 +1,12 @@
+-- `embankery::answer::word` meets its contract. Assumes nothing.
+use borrow.Author.Needs.{needs}
+use Rattle.embankery.specs.Word.{word}
+use Rattle.embankery.proofs.answer.word.Statement.{statement}
+use Rattle.embankery.proofs.answer.word.Tie as tie
+
+returns : tie.Need-returns
+unfolding word
+returns c = search needs
+
+pub word-spec : {M : Type 1} → statement M
+word-spec = tie.close (tie.spec (λ c. search needs) (λ c. search needs) returns)

@@ -1,0 +1,93 @@
+-- (boundary) "A call that is refused, or only passes a SYN, leaves every buffer as it was, but for a drop's count on an open connection." The contracts
+-- say what stands in each buffer at exit; here is that this is the sentence. Assumes of a state buffer b that its bytes are below 256, as every byte is.
+use Prim.Native.Nat.{ℕ}
+use mathlib.Core.Path.{_≡_, refl, ap, _∙_}
+use mathlib.Core.Bool.{Bool, true, false, cond, _&&_}
+use mathlib.Core.List.{List}
+use native.Mathlib.Omega.{arith}
+use lib.ListN.{length}
+use borrow.Author.Tests.{eqb-true}
+use Rattle.keys.specs.MatchLaws.{Octets}
+use Rattle.rules.specs.declared.Outcome.{Outcome}
+use Rattle.rules.specs.declared.Outcome.the-variants.{Good, Passed, Bad}
+use Rattle.rules.specs.declared.Verdict.the-variants.{Pass, Drop}
+use Rattle.rules.specs.declared.Signing.the-variants as S
+use Rattle.rules.specs.declared.Done.the-variants as D
+use Rattle.rules.specs.declared.State.{State}
+use Rattle.rules.specs.Connection.{Arrival, isOpen, isCounted}
+use Rattle.rules.specs.Calls.{check, judged, openedPassively, openedActively, asked, signed, output}
+use Rattle.rules.specs.History.{judge, sign, ask}
+use Rattle.rules.specs.Refusals.{on, byVerdict, bySigning, oneMore, refusal}
+use Rattle.tcpao.specs.Layout.{stateBytes, decodeOf, encodeOf}
+use Rattle.tcpao.specs.LayoutLaws.{encode-decode}
+use Rattle.embankery.specs.Exports.{isState, changed, stateAfter, accepts, opens, stateWhere}
+
+-- a state buffer of another length: whatever the call below would do, no buffer changes
+pub other-length : (b x y : List ℕ) → isState b ≡ false → changed b x y ≡ y
+unfolding changed
+other-length b x y h = rw h
+
+-- an opening that is refused, or whose SYN is only passed
+closed : (b : List ℕ) (q : State) (o : Bool) → o ≡ false → stateWhere b o q ≡ b
+unfolding changed
+closed b q o e = go (isState b) refl
+  where
+    go : (c : Bool) → isState b ≡ c → stateWhere b o q ≡ b
+    go true p = rw (p, e)
+    go false p = rw p
+
+pub passively-refused : (b t : List ℕ) (a : Arrival) (isn n : ℕ) (strict : Bool) → openedPassively t a isn strict .verdict ≡ Drop n
+    → stateWhere b (accepts (openedPassively t a isn strict .verdict)) (openedPassively t a isn strict .state) ≡ b
+passively-refused b t a isn n strict e = closed b (openedPassively t a isn strict .state) _ (ap accepts e)
+
+pub passively-passed : (b t : List ℕ) (a : Arrival) (isn : ℕ) (strict : Bool) → openedPassively t a isn strict .verdict ≡ Pass
+    → stateWhere b (accepts (openedPassively t a isn strict .verdict)) (openedPassively t a isn strict .state) ≡ b
+passively-passed b t a isn strict e = closed b (openedPassively t a isn strict .state) _ (ap accepts e)
+
+pub actively-refused : (b t local remote : List ℕ) (localPort remotePort isn sendId n : ℕ) → openedActively t local remote localPort remotePort isn sendId .answer ≡ D.Refused n
+    → stateWhere b (opens (openedActively t local remote localPort remotePort isn sendId .answer)) (openedActively t local remote localPort remotePort isn sendId .state) ≡ b
+actively-refused b t local remote localPort remotePort isn sendId n e = closed b (openedActively t local remote localPort remotePort isn sendId .state) _ (ap opens e)
+
+-- the calls on a connection, whose state is decodeOf b
+module _ (b : List ℕ) (o : Octets b) where
+  -- a state that is left alone is written as the bytes that it was read from
+  alike : (q : State) (c : Bool) (m : State) → q ≡ cond c m (decodeOf b) → stateAfter b q ≡ stateWhere b c m
+  unfolding changed
+  alike q c m e = go (isState b) c refl refl
+    where
+      go : (d k : Bool) → isState b ≡ d → c ≡ k → stateAfter b q ≡ stateWhere b c m
+      go false k p r = rw p
+      go true true p r = rw (p, r) (ap encodeOf (rw r at e))
+      go true false p r = rw (p, r) (ap encodeOf (rw r at e) ∙ encode-decode b (eqb-true (length b) stateBytes p) o)
+
+  kept : (q : State) → q ≡ decodeOf b → stateAfter b q ≡ b
+  kept q e = alike q false q e ∙ closed b q false refl
+
+  -- judging: a drop adds one to its count if the connection is open and the number is counted, and nothing else
+  pub judge-refused : (t : List ℕ) (a : Arrival) (n : ℕ) → judged t a (decodeOf b) .verdict ≡ Drop n
+      → stateAfter b (judged t a (decodeOf b) .state) ≡ stateWhere b (isOpen (decodeOf b .line) && isCounted n) (oneMore n (decodeOf b))
+  judge-refused t a n e =
+      alike (judged t a (decodeOf b) .state) (isOpen (decodeOf b .line) && isCounted n) (oneMore n (decodeOf b)) (refusal (on (judge t a) (decodeOf b)) n (ap byVerdict e) .state)
+
+  pub judge-passed : (t : List ℕ) (a : Arrival) → judged t a (decodeOf b) .verdict ≡ Pass → stateAfter b (judged t a (decodeOf b) .state) ≡ b
+  unfolding judged
+  judge-passed t a e = go (check t (decodeOf b .line) (decodeOf b .seen) a) refl
+    where
+      go : (c : Outcome) → check t (decodeOf b .line) (decodeOf b .seen) a ≡ c → stateAfter b (judged t a (decodeOf b) .state) ≡ b
+      go (Good x r) f = let z : _≡_ {A = ℕ} 0 1 = cc (rw f at e) in absurd (omega arith)
+      go Passed f = rw f (kept (decodeOf b) refl)
+      go (Bad n i) f = let z : _≡_ {A = ℕ} 0 1 = cc (rw f at e) in absurd (omega arith)
+
+  pub sign-refused : (t s out : List ℕ) (n : ℕ) → signed t s out (decodeOf b) .answer ≡ S.Refused n
+      → (stateAfter b (signed t s out (decodeOf b) .state) ≡ b) × (changed b (output t s out (decodeOf b)) out ≡ out)
+  unfolding changed
+  sign-refused t s out n e =
+      let u = refusal (on (sign t s out) (decodeOf b)) n (ap bySigning e) in
+      (kept (signed t s out (decodeOf b) .state) (u .state), go (isState b) refl (u .output))
+    where
+      go : (c : Bool) → isState b ≡ c → output t s out (decodeOf b) ≡ out → changed b (output t s out (decodeOf b)) out ≡ out
+      go true p u = rw p u
+      go false p u = rw p
+
+  pub ask-refused : (t : List ℕ) (id n : ℕ) → asked t id (decodeOf b) .answer ≡ D.Refused n → stateAfter b (asked t id (decodeOf b) .state) ≡ b
+  ask-refused t id n e = kept (asked t id (decodeOf b) .state) (refusal (on (ask t id) (decodeOf b)) n e .state)

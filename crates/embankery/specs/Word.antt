@@ -1,0 +1,37 @@
+-- The answer of a call as one number: BOUNDARY.md, "The answer". What number and value each answer has stands in Answers.antt of `rules`.
+-- Assumes nothing.
+use Prim.Native.Nat.{ℕ, _+_, _*_, _^_, _/_, _%_, _<_}
+use mathlib.Core.Path.{_≡_}
+use native.Mathlib.Omega.{arith}
+use Rattle.rules.specs.declared.Judged.{Judged}
+use Rattle.rules.specs.declared.Checked.{Checked}
+use Rattle.rules.specs.declared.Signed.{Signed}
+use Rattle.rules.specs.declared.Settled.{Settled}
+use Rattle.rules.specs.Answers.{Answer, verdictAnswer, signingAnswer, doneAnswer}
+
+-- "the number in bits 0 to 7, a value in bits 32 to 63, zero in bits 8 to 31"
+unfoldable pub word : Answer → ℕ
+word a = a .number + a .value * 2 ^ 32
+
+-- the answer of what a call returns in Rattle
+abbrev pub ofJudged : Judged → Answer
+ofJudged j = verdictAnswer (j .verdict) (j .index)
+
+abbrev pub ofChecked : Checked → Answer
+ofChecked c = verdictAnswer (c .verdict) (c .index)
+
+abbrev pub ofSigned : Signed → Answer
+ofSigned s = signingAnswer (s .answer) (s .index)
+
+abbrev pub ofSettled : Settled → Answer
+ofSettled s = doneAnswer (s .answer) (s .index)
+
+-- What C reads in the word w: it is there, and nothing else. The word is a u64, so it is below 2^64; Numbers.antt proves that every call's number is below 2^8.
+pub record Reads (w : ℕ) (a : Answer) : Type 0 where
+  pub number : w % 2 ^ 8 ≡ a .number
+  pub zero : w / 2 ^ 8 % 2 ^ 24 ≡ 0
+  pub value : w / 2 ^ 32 ≡ a .value
+
+pub reads : (a : Answer) → a .number < 2 ^ 8 → word a < 2 ^ 64 → Reads (word a) a
+unfolding word
+reads a n w = record { number = omega arith; zero = omega arith; value = omega arith }
