@@ -10,9 +10,6 @@ use common::{kinds, octets, segment, Bytes, Ends, ACK, FIRST_KIND, IDS, ISNS, PO
 use embankery::{Refusal, Verdict};
 use raw::c;
 
-/// Whether a null pointer is allowed beside length 0, as include/embankery.h says.
-const NULL_ALLOWED: bool = false;
-
 /// An answer: the number in bits 0 to 7, a value in bits 32 to 63.
 fn word(number: u8, value: u32) -> u64 {
     u64::from(value) << 32 | u64::from(number)
@@ -382,11 +379,10 @@ fn empty_buffers() {
     each_empty(false);
 }
 
+/// include/embankery.h allows a null pointer beside length 0.
 #[test]
 fn null_pointers() {
-    if NULL_ALLOWED {
-        each_empty(true);
-    }
+    each_empty(true);
 }
 
 /// "A state buffer of another length gets 18 from every call that takes one, before any other
