@@ -121,6 +121,16 @@ pub fn sixteen(text: &[u8]) -> [u8; 16] {
     b
 }
 
+// Whether a column is one digit.
+pub fn is_figure(text: &[u8]) -> bool {
+    text.len() == 1 && is_digit(text[0])
+}
+
+// One digit's value; 0 for any other column.
+pub fn figure(text: &[u8]) -> u8 {
+    if text.len() == 1 { digit(text[0]) } else { 0 }
+}
+
 // Four bytes as a number, the highest first; what the column lacks of them is 0.
 pub fn word(text: &[u8]) -> u32 {
     let mut b = [0u8; 4];

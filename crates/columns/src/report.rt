@@ -1,8 +1,8 @@
 // What is printed of a line, and the count of what came out as expected. Assumes nothing.
 ghost use mathlib.Core.Path.{_≡_};
-ghost use mathlib.Core.Bool.{true};
-use check::same;
+ghost use Rattle.wire.specs.Bytes.{sameBytes};
 use libc::STDOUT_FILENO;
+use wire::bytes::same;
 
 // How many results there were, and how many of them were expected.
 pub struct Tally {
@@ -57,7 +57,7 @@ pub fn unreadable(line: &[u8]) -> bool {
 
 // What was computed, and whether it is what was expected.
 pub fn result(got: &[u8], want: &[u8]) -> bool
-    ensures { λ r. ⌜ (r ≡ true → now (got .entry) ≡ now (want .entry)) × (now (got .entry) ≡ now (want .entry) → r ≡ true) ⌝ }
+    ensures { λ r. ⌜ r ≡ sameBytes (now (got .entry)) (now (want .entry)) ⌝ }
 {
     crate::hex::print(got);
     let ok = same(got, want);

@@ -2,12 +2,12 @@
 // expects, and says whether they agree. Assumes nothing.
 use crate::pieces;
 use crate::report;
-use check::same;
 use columns::hex;
 use columns::lines::column;
 use columns::lines::ends;
 use columns::report::text;
 use columns::report::unreadable;
+use wire::bytes::same;
 
 // FIPS 180-4, SHA-1. Columns: message, digest.
 pub fn fips180(line: &[u8]) -> bool {
