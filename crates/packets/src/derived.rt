@@ -1,7 +1,7 @@
 // The traffic key of a segment that arrives at an end, from the entry that the end's table has for it.
 // Assumes nothing.
 use crate::ends::End;
-use crate::ends::size;
+use crate::ends::entries;
 use crate::ends::table;
 use keys::entry::Pair;
 use tcpao::derive;
@@ -25,9 +25,8 @@ fn arriving(pair: Pair, source_isn: u32, destination_isn: u32) -> Way {
 // Zeros stand behind a key of algorithm 2.
 pub fn traffic_key(e: End, source_isn: u32, destination_isn: u32) -> [u8; 20] {
     let pair = e.pair;
-    let n = size(pair.family);
     let t = table(e);
-    let found = keys::table::find_recv(&t[..n], pair, e.recv_id);
+    let found = keys::table::find_recv(entries(&t, pair.family), pair, e.recv_id);
     let entry = found.entry;
     let secret = entry.secret;
     derive::traffic_key(secret, arriving(pair, source_isn, destination_isn))

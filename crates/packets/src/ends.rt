@@ -1,6 +1,7 @@
 // An end of a connection with the one key that both ends hold, and the calls of `tcpao` as that end makes
 // them. Every value is an end; where the family is not 4, addresses have sixteen bytes.
-ghost use Prim.Native.Nat.{_≤_};
+ghost use Prim.Native.Nat.{_+_, _≤_};
+ghost use lib.ListN.{length};
 use keys::entry::Pair;
 use rules::Checked;
 use rules::Judged;
@@ -71,18 +72,36 @@ pub fn is_server(e: End) -> bool {
     pair.local_port == SERVER_PORT
 }
 
+// The first n bytes, or all where there are not more.
+pub fn front(s: &[u8], n: usize) -> &[u8]
+    ensures { λ r. ⌜ length (now r) ≤ n ⌝ }
+{
+    if n < s.len() {
+        return &s[..n];
+    }
+    s
+}
+
 // How many bytes an address has.
-pub fn width(family: u8) -> usize
+fn width(family: u8) -> usize
     ensures { λ r. ⌜ r ≤ 16 ⌝ }
 {
     if family == 4 { 4 } else { 16 }
 }
 
-// How many bytes a table of one entry has.
-pub fn size(family: u8) -> usize
-    ensures { λ r. ⌜ r ≤ 128 ⌝ }
+// The address in a field of sixteen bytes.
+fn address(field: &[u8; 16], family: u8) -> &[u8]
+    ensures { λ r. ⌜ length (now r) ≤ 16 ⌝ }
 {
-    if family == 4 { 104 } else { 128 }
+    front(field, width(family))
+}
+
+// The table in an array that has room for an entry of IPv6.
+pub fn entries(table: &[u8; 128], family: u8) -> &[u8] {
+    if family == 4 {
+        return front(table, 104);
+    }
+    front(table, 128)
 }
 
 // The entry's bytes before the addresses: document 01, "Key table (house bytes)".
@@ -107,6 +126,12 @@ fn head(e: End) -> [u8; 13] {
     ]
 }
 
+fn put(t: &mut [u8; 128], at: usize, src: &[u8])
+    requires { ⌜ at + length (now src) ≤ 128 ⌝ }
+{
+    octets::copy_at(t, at, src);
+}
+
 // The end's key table: one entry, for this pair alone.
 pub fn table(e: End) -> [u8; 128] {
     let pair = e.pair;
@@ -117,13 +142,13 @@ pub fn table(e: End) -> [u8; 128] {
     let w = width(pair.family);
     let bits = (8 * w) as u8;
     let mut t = [0u8; 128];
-    octets::copy_at(&mut t, 0, &head);
-    octets::copy_at(&mut t, 13, &local[..w]);
+    put(&mut t, 0, &head);
+    put(&mut t, 13, address(&local, pair.family));
     t[13 + w] = bits;
-    octets::copy_at(&mut t, 14 + w, &remote[..w]);
+    put(&mut t, 14 + w, address(&remote, pair.family));
     t[14 + 2 * w] = bits;
     t[15 + 2 * w] = 10;
-    octets::copy_at(&mut t, 16 + 2 * w, &key);
+    put(&mut t, 16 + 2 * w, &key);
     t
 }
 
@@ -131,33 +156,40 @@ pub fn judge_syn(e: End, segment: &[u8]) -> Checked {
     let pair = e.pair;
     let source = pair.remote;
     let destination = pair.local;
-    let w = width(pair.family);
-    let n = size(pair.family);
     let t = table(e);
-    tcpao::judge::judge_syn(&t[..n], &source[..w], &destination[..w], segment, true)
+    tcpao::judge::judge_syn(
+        entries(&t, pair.family),
+        address(&source, pair.family),
+        address(&destination, pair.family),
+        segment,
+        true,
+    )
 }
 
 pub fn open_passive(e: End, segment: &[u8], isn: u32) -> Judged {
     let pair = e.pair;
     let source = pair.remote;
     let destination = pair.local;
-    let w = width(pair.family);
-    let n = size(pair.family);
     let t = table(e);
-    tcpao::judge::open_passive(&t[..n], &source[..w], &destination[..w], segment, isn, true)
+    tcpao::judge::open_passive(
+        entries(&t, pair.family),
+        address(&source, pair.family),
+        address(&destination, pair.family),
+        segment,
+        isn,
+        true,
+    )
 }
 
 pub fn open_active(e: End, isn: u32) -> Settled {
     let pair = e.pair;
     let local = pair.local;
     let remote = pair.remote;
-    let w = width(pair.family);
-    let n = size(pair.family);
     let t = table(e);
     tcpao::open::open_active(
-        &t[..n],
-        &local[..w],
-        &remote[..w],
+        entries(&t, pair.family),
+        address(&local, pair.family),
+        address(&remote, pair.family),
         pair.local_port,
         pair.remote_port,
         isn,
@@ -169,15 +201,18 @@ pub fn judge(e: End, segment: &[u8], state: State) -> Judged {
     let pair = e.pair;
     let source = pair.remote;
     let destination = pair.local;
-    let w = width(pair.family);
-    let n = size(pair.family);
     let t = table(e);
-    tcpao::judge::judge(&t[..n], &source[..w], &destination[..w], segment, state)
+    tcpao::judge::judge(
+        entries(&t, pair.family),
+        address(&source, pair.family),
+        address(&destination, pair.family),
+        segment,
+        state,
+    )
 }
 
 pub fn sign(e: End, segment: &[u8], out: &mut [u8], state: State) -> Signed {
     let pair = e.pair;
-    let n = size(pair.family);
     let t = table(e);
-    tcpao::sign::sign(&t[..n], segment, out, state)
+    tcpao::sign::sign(entries(&t, pair.family), segment, out, state)
 }

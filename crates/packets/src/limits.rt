@@ -1,6 +1,5 @@
 // Document 01, "Examples", those that are only run: "data offset 11 signs, 12 gives 32; 65,519 bytes
 // sign, 65,520 give 32". Assumes nothing.
-ghost use Prim.Native.Nat.{_≤_};
 use crate::answers::Answer;
 use crate::answers::bad;
 use crate::answers::compared;
@@ -18,21 +17,17 @@ use rules::State;
 
 // What signing answers to a segment of n bytes with a data offset of so many words. Its options and
 // its data are zeros: an option of kind 0 ends the reading.
-fn signed(words: u8, n: usize, state: State) -> Signing
-    requires { ⌜ n ≤ 65536 ⌝ }
-{
+fn signed(words: u8, n: usize, state: State) -> Signing {
     let e = client();
     let plain = header(e.pair, 1, words, ACK);
     let mut segment = io::large_buffer();
     let mut out = io::large_buffer();
     octets::copy_at(&mut segment, 0, &plain);
-    let s = ends::sign(e, &segment[..n], &mut out, state);
+    let s = ends::sign(e, ends::front(&segment, n), &mut out, state);
     s.answer
 }
 
-fn expected(words: u8, n: usize, state: State, want: Answer) -> bool
-    requires { ⌜ n ≤ 65536 ⌝ }
-{
+fn expected(words: u8, n: usize, state: State, want: Answer) -> bool {
     text(b"document 01, data offset ");
     number(words as u64);
     text(b", ");

@@ -78,18 +78,18 @@ fn signed_and_judged(number: u32, extension: u8, run: Run) -> Run {
     text(b"RFC 9187 ");
     hex::print_word(number);
     text(b" ");
-    run.counted(compared(
-        b"accept extension ",
-        of_verdict(v),
-        good(extension as u64),
-    ))
-    .with_client(c)
-    .with_server(s)
+    run.counted(compared(b"accept extension ", of_verdict(v), good(extension as u64)))
+        .with_client(c)
+        .with_server(s)
 }
 
 pub fn numbered(line: &[u8], run: Run) -> Run {
     if !readable(line) {
         return run.counted(unreadable(line));
     }
-    signed_and_judged(hex::word(column(line, 1)), hex::figure(column(line, 0)), run)
+    signed_and_judged(
+        hex::word(column(line, 1)),
+        hex::figure(column(line, 0)),
+        run,
+    )
 }

@@ -14,6 +14,7 @@ use columns::lines::ends as ends_before;
 use columns::report::result;
 use columns::report::text;
 use columns::report::unreadable;
+use keys::algorithm::traffic_key_bytes;
 use keys::entry::Pair;
 use rules::State;
 use rules::Verdict;
@@ -79,10 +80,10 @@ fn key_expected(line: &[u8], e: End) -> bool {
     let got = traffic_key(e, hex::word(column(line, 3)), hex::word(column(line, 4)));
     title(line);
     text(b"traffic key ");
-    if e.algorithm == 1 {
-        return result(&got, &want[..n]);
-    }
-    result(&got[..16], &want[..n])
+    result(
+        ends::front(&got, traffic_key_bytes(e.algorithm)),
+        &want[..n],
+    )
 }
 
 // Every packet is to be accepted with extension 0.
@@ -112,7 +113,8 @@ fn at_server(line: &[u8], e: End, segment: &[u8], run: Run) -> Run {
     let judged = ends::judge(e, segment, run.server);
     let v = judged.verdict;
     let s = judged.state;
-    run.counted(expected(line, b"judge at the server ", v)).with_server(s)
+    run.counted(expected(line, b"judge at the server ", v))
+        .with_server(s)
 }
 
 fn is_open(q: State) -> bool {
@@ -126,8 +128,7 @@ fn at_client(line: &[u8], e: End, segment: &[u8], run: Run) -> Run {
     let v = judged.verdict;
     let s = judged.state;
     if is_open(q) {
-        return run
-            .counted(expected(line, b"judge at the client ", v))
+        return run.counted(expected(line, b"judge at the client ", v))
             .with_client(s);
     }
     run.counted(expected(line, b"judge at the opening client ", v))
