@@ -1,7 +1,7 @@
 // RFC 9187's sequence of numbers, each really signed by the client and judged by the server. No step
 // from the largest number so far is 2^31 or more, so one signer signs them all in the order of the
 // file, on one connection that was opened with the client's ISN, and so its reference, at 0.
-// A line's columns: extension, sequence number. Assumes nothing.
+// A line's columns: extension, sequence number; one that cannot be read counts as 0. Assumes nothing.
 use crate::answers::compared;
 use crate::answers::good;
 use crate::answers::of_verdict;
@@ -14,10 +14,8 @@ use crate::segment::SYN_ACK;
 use crate::segment::header;
 use columns::hex;
 use columns::lines::column;
-use columns::lines::ends as ends_before;
 use columns::report::Tally;
 use columns::report::text;
-use columns::report::unreadable;
 use keys::entry::Pair;
 
 // RFC 9235's IPv4 addresses, all options covered, HMAC-SHA-1-96.
@@ -61,11 +59,6 @@ pub fn opened(tally: Tally) -> Run {
     }
 }
 
-fn readable(line: &[u8]) -> bool {
-    let s = column(line, 1);
-    hex::is_figure(column(line, 0)) && s.len() == 8 && hex::fits(s, 4) && ends_before(line, 2)
-}
-
 fn signed_and_judged(number: u32, extension: u8, run: Run) -> Run {
     let e = client();
     let plain = header(e.pair, number, 5, ACK);
@@ -84,9 +77,6 @@ fn signed_and_judged(number: u32, extension: u8, run: Run) -> Run {
 }
 
 pub fn numbered(line: &[u8], run: Run) -> Run {
-    if !readable(line) {
-        return run.counted(unreadable(line));
-    }
     signed_and_judged(
         hex::word(column(line, 1)),
         hex::figure(column(line, 0)),
