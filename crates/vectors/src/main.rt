@@ -1,13 +1,13 @@
 // Runs the published vectors in data/ and prints, one line each, what was computed and whether it
 // is what the document expects. Nothing here is a theorem: the vectors are run and compared.
 // Assumes nothing.
-mod hex;
-mod lines;
 mod pieces;
 mod report;
 mod suites;
 
-use report::Tally;
+use columns::lines;
+use columns::report::Tally;
+use columns::report::place;
 
 enum Suite {
     Fips180,
@@ -29,7 +29,7 @@ fn one_line(suite: Suite, file: &[u8], number: u64, line: &[u8], key: [u8; 16], 
     if lines::is_remark(line) {
         return t;
     }
-    report::place(file, number);
+    place(file, number);
     let ok = judged(suite, line, key);
     t.counted(ok)
 }
@@ -52,25 +52,18 @@ fn all_lines(suite: Suite, file: &[u8], text: &[u8], before: Tally) -> Tally {
     t
 }
 
-// A file that is not there, or is too long to be read whole, counts as a line that is not ok.
+// A file that cannot be read counts as a line that is not ok.
 fn run(suite: Suite, file: &[u8], t: Tally) -> Tally {
-    let fd = os::open_read(file);
-    if fd < 0 {
-        report::no_file(file, b" CANNOT BE OPENED\n");
-        return t.counted(false);
-    }
     let mut text = io::large_buffer();
-    let n = io::read_full(fd, &mut text);
-    libc::close(fd);
+    let n = columns::file::read(file, &mut text);
     if n == 65536 {
-        report::no_file(file, b" IS TOO LONG\n");
         return t.counted(false);
     }
     all_lines(suite, file, &text[..n], t)
 }
 
 fn main() {
-    let t = Tally { ok: 0, all: 0 };
+    let t = Tally::new();
     let t = run(Suite::Fips180, b"fips180.txt", t);
     let t = run(Suite::Fips197, b"fips197.txt", t);
     let t = run(Suite::Rfc2202, b"rfc2202.txt", t);

@@ -1,10 +1,10 @@
 // The same message in pieces: SHA-1, HMAC-SHA-1 and CMAC streamed, `size` bytes at a time, and
 // compared with what the one call on the whole gave. Assumes nothing.
 ghost use Prim.Native.Nat.{_<_, _≤_};
-use check::same;
 use mac::cmac::CmacContext;
 use mac::hmac::HmacSha1Context;
 use mac::sha1::Sha1Context;
+use wire::bytes::same;
 
 // Where the piece that starts at i ends, in n bytes.
 fn end(i: usize, size: usize, n: usize) -> usize

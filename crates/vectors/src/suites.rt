@@ -1,17 +1,19 @@
 // One function to a vector file: it computes what a line asks, prints it beside what the line
 // expects, and says whether they agree. Assumes nothing.
-use crate::hex;
-use crate::lines::column;
-use crate::lines::ends;
 use crate::pieces;
 use crate::report;
-use check::same;
+use columns::hex;
+use columns::lines::column;
+use columns::lines::ends;
+use columns::report::text;
+use columns::report::unreadable;
+use wire::bytes::same;
 
 // FIPS 180-4, SHA-1. Columns: message, digest.
 pub fn fips180(line: &[u8]) -> bool {
     let w = column(line, 1);
     if !hex::fits(w, 20) || !ends(line, 2) {
-        return report::unreadable(line);
+        return unreadable(line);
     }
     let mut want = [0u8; 20];
     let n = hex::read(w, &mut want);
@@ -22,7 +24,7 @@ pub fn fips180(line: &[u8]) -> bool {
     }
     let m = column(line, 0);
     if !hex::fits(m, 256) {
-        return report::unreadable(line);
+        return unreadable(line);
     }
     let mut message = [0u8; 256];
     let k = hex::read(m, &mut message);
@@ -47,14 +49,14 @@ pub fn fips197(line: &[u8]) -> bool {
     let p = column(line, 1);
     let c = column(line, 2);
     if !is_block(k) || !is_block(p) || !is_block(c) || !ends(line, 3) {
-        return report::unreadable(line);
+        return unreadable(line);
     }
     let key = hex::sixteen(k);
     let plain = hex::sixteen(p);
     let want = hex::sixteen(c);
     let keys = mac::aes::expand_key(key);
     let got = mac::aes::encrypt(keys, plain);
-    report::text(b"AES-128 ");
+    text(b"AES-128 ");
     report::result(&got, true, &want)
 }
 
@@ -64,7 +66,7 @@ pub fn rfc2202(line: &[u8]) -> bool {
     let m = column(line, 2);
     let w = column(line, 3);
     if !hex::fits(k, 256) || !hex::fits(m, 256) || !hex::fits(w, 20) || !ends(line, 4) {
-        return report::unreadable(line);
+        return unreadable(line);
     }
     let mut key = [0u8; 256];
     let mut message = [0u8; 256];
@@ -72,13 +74,13 @@ pub fn rfc2202(line: &[u8]) -> bool {
     let a = hex::read(k, &mut key);
     let b = hex::read(m, &mut message);
     let c = hex::read(w, &mut want);
-    report::text(b"case ");
-    report::text(column(line, 0));
+    text(b"case ");
+    text(column(line, 0));
     code(&key[..a], &message[..b], &want[..c])
 }
 
 fn code(key: &[u8], message: &[u8], want: &[u8]) -> bool {
-    report::text(b" HMAC-SHA-1 ");
+    text(b" HMAC-SHA-1 ");
     let got = mac::hmac::hmac_sha1(key, message);
     let agree = pieces::hmac(key, message, &got);
     report::result(&got, agree, want)
@@ -107,7 +109,7 @@ pub fn rfc4493(line: &[u8], key: [u8; 16]) -> bool {
     }
     let m = column(line, 1);
     if !hex::fits(m, 256) || !is_block(column(line, 2)) || !ends(line, 3) {
-        return report::unreadable(line);
+        return unreadable(line);
     }
     let want = hex::sixteen(column(line, 2));
     let mut message = [0u8; 256];
@@ -115,7 +117,7 @@ pub fn rfc4493(line: &[u8], key: [u8; 16]) -> bool {
     let mut digits = [0u8; 20];
     let d = io::decimal(n as u64, &mut digits);
     if !same(&digits[..d], name) {
-        return report::unreadable(line);
+        return unreadable(line);
     }
     tag(key, &message[..n], &want)
 }
@@ -129,10 +131,10 @@ fn tag(key: [u8; 16], message: &[u8], want: &[u8]) -> bool {
 
 fn block(what: &[u8], line: &[u8], got: [u8; 16]) -> bool {
     if !is_block(column(line, 1)) || !ends(line, 2) {
-        return report::unreadable(line);
+        return unreadable(line);
     }
     let want = hex::sixteen(column(line, 1));
-    report::text(what);
+    text(what);
     report::result(&got, true, &want)
 }
 

@@ -1,0 +1,33 @@
+// The traffic key of a segment that arrives at an end, from the entry that the end's table has for it.
+// Assumes nothing.
+use crate::ends::End;
+use crate::ends::entries;
+use crate::ends::table;
+use keys::entry::Pair;
+use tcpao::derive;
+use tcpao::way::Way;
+
+// "'source' is whoever sent the segment", here the remote side.
+fn arriving(pair: Pair, source_isn: u32, destination_isn: u32) -> Way {
+    let source = pair.remote;
+    let destination = pair.local;
+    Way {
+        family: pair.family,
+        source,
+        destination,
+        source_port: pair.remote_port,
+        destination_port: pair.local_port,
+        source_isn,
+        destination_isn,
+    }
+}
+
+// Zeros stand behind a key of algorithm 2.
+pub fn traffic_key(e: End, source_isn: u32, destination_isn: u32) -> [u8; 20] {
+    let pair = e.pair;
+    let t = table(e);
+    let found = keys::table::find_recv(entries(&t, pair.family), pair, e.recv_id);
+    let entry = found.entry;
+    let secret = entry.secret;
+    derive::traffic_key(secret, arriving(pair, source_isn, destination_isn))
+}
