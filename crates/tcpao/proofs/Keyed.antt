@@ -28,7 +28,7 @@ use Rattle.rules.specs.Segment.{ao}
 use Rattle.rules.specs.Connection.{located, value, extensionOf}
 use Rattle.rules.specs.Calls.{refuse, macDiffers, keyTests}
 use Rattle.tcpao.specs.Groups.{goodAt}
-use Rattle.tcpao.specs.TagLaws.{tagOf, tag-mac}
+use Rattle.traffic.specs.TagLaws.{tagOf, tag-mac}
 use Rattle.tcpao.proofs.Joined.{yes, no}
 
 -- what the option reader found is the segment's TCP-AO

@@ -16,8 +16,8 @@ use Rattle.rules.specs.MacLaws.{length-mac}
 use Rattle.rules.specs.Segment.{signedHeader, signedWith}
 use Rattle.rules.specs.Connection.{leaving, extensionOf}
 use Rattle.rules.specs.Calls.{signedSegment, written}
-use Rattle.tcpao.specs.Filled.{filled}
-use Rattle.tcpao.specs.TagLaws.{tagOf, tag-mac-parts}
+use Rattle.traffic.specs.Filled.{filled}
+use Rattle.traffic.specs.TagLaws.{tagOf, tag-mac-parts}
 use Rattle.tcpao.specs.SignedBytes.{headBytes, Signable}
 
 -- The head.

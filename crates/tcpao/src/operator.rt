@@ -7,7 +7,7 @@ ghost use Rattle.rules.specs.Calls.{askTests, unrefused, asked};
 use crate::faults::family_faults;
 use crate::open::key_faults;
 use crate::open::settled_by;
-use crate::writers::with_asked;
+use states::writers::with_asked;
 use keys::table::Loaded;
 use rules::Line;
 use rules::Outcome;

@@ -12,8 +12,8 @@ ghost use Rattle.tcpao.specs.SignGroups.{inputTests, segmentTests, outpu
 use crate::faults::family_faults;
 use crate::faults::is_bare_syn;
 use crate::faults::table_faults;
-use crate::position::locate;
-use crate::writers::is_open;
+use states::position::locate;
+use states::writers::is_open;
 use keys::algorithm::HmacSha1_96;
 use keys::entry::Pair;
 use keys::table::Found;

@@ -6,7 +6,7 @@ use borrow.Author.Needs.{needs}
 use lib.ListN.{length, take, drop}
 use lib.Seq.{length-take-le}
 use Rattle.wire.specs.Bytes.{sameBytes}
-use Rattle.tcpao.specs.Way.{flowOf}
+use Rattle.traffic.specs.Way.{flowOf}
 use Rattle.tcpao.proofs.Keyed.{mac-is}
 use Rattle.tcpao.proofs.verify.mac_agrees.Statement.{statement}
 use Rattle.tcpao.proofs.verify.mac_agrees.Tie as tie

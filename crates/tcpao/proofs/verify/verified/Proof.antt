@@ -1,7 +1,7 @@
 -- The tests 25 to 29, in their order: the laws of Keyed.
 use borrow.Author.Needs.{needs}
 use native.Mathlib.Omega.{arith}
-use Rattle.tcpao.specs.Way.{flowOf}
+use Rattle.traffic.specs.Way.{flowOf}
 use Rattle.tcpao.proofs.Keyed.{lies, given-missing, given-unknown, given-27, given-28, given-29, given-good}
 use Rattle.tcpao.proofs.verify.verified.Statement.{statement}
 use Rattle.tcpao.proofs.verify.verified.Tie as tie
