@@ -2,6 +2,9 @@
 // Assumes nothing.
 ghost use mathlib.Core.Path.{_≡_};
 ghost use Rattle.rules.specs.Position.{position};
+ghost use Rattle.rules.specs.Connection.{placeOn, extensionOf};
+use crate::writers::is_open;
+use rules::Line;
 use rules::Place;
 
 // "Subtraction of sequence numbers wraps at 2^32": below 2^31 the number lies so far ahead of the reference, above it behind; at exactly
@@ -26,4 +29,21 @@ pub fn locate(reference: u64, s: u32) -> Place
         return Place::Nowhere;
     }
     Place::Nowhere
+}
+
+// "A bare SYN and the SYN+ACK that opens have .. their own number as position; once open, every segment goes by its position."
+pub fn place_on(line: Line, reference: u64, number: u32) -> Place
+    ensures { λ r. ⌜ r ≡ placeOn line reference number ⌝ }
+{
+    if is_open(line) {
+        return locate(reference, number);
+    }
+    Place::At(number as u64)
+}
+
+// "The extension is X divided by 2^32, rounded down."
+pub fn extension_of(x: u64) -> u32
+    ensures { λ r. ⌜ r ≡ extensionOf x ⌝ }
+{
+    (x / 4294967296) as u32
 }

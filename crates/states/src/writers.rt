@@ -1,5 +1,6 @@
-// Who writes a connection's state: document 01, "Positions", "A connection's life" and "Numbers given back". Every other function of this
-// crate passes the state on as it is. Assumes only of an address that becomes part of a pair that it has at most sixteen bytes.
+// Who writes a connection's state: document 01, "Positions", "A connection's life" and "Numbers given back". Every other function
+// passes the state on as it is. Assumes only of an address that becomes part of a pair that it has at most sixteen bytes: the callers have
+// tested 19.
 ghost use mathlib.Core.Path.{_≡_};
 ghost use Prim.Native.Nat.{_≤_};
 ghost use lib.ListN.{length, take};

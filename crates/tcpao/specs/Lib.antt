@@ -1,4 +1,2 @@
 pub mod Arriving
-pub mod Groups
-pub mod SignGroups
 pub mod SignedBytes

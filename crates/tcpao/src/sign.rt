@@ -12,19 +12,19 @@ ghost use Rattle.traffic.specs.Filled.{filled};
 ghost use Rattle.traffic.specs.Way.{flowOf};
 ghost use Rattle.traffic.specs.TagLaws.{tagOf};
 ghost use Rattle.tcpao.specs.SignedBytes.{headBytes, Signable};
-use crate::signing::added_bytes;
-use crate::signing::check_sign;
-use traffic::tag::segment_tag;
-use traffic::way::Way;
-use states::writers::is_open;
-use states::writers::with_sent;
 use keys::entry::Entry;
 use keys::entry::Secret;
+use numbers::signing::added_bytes;
+use numbers::signing::check_sign;
 use rules::Line;
 use rules::Outcome;
 use rules::Signed;
 use rules::Signing;
 use rules::State;
+use states::writers::is_open;
+use states::writers::with_sent;
+use traffic::tag::segment_tag;
+use traffic::way::Way;
 
 // "For a bare SYN (SYN set, ACK clear) the destination ISN is zero", and while opening nothing else is signed.
 fn destination_isn(line: Line) -> u32
