@@ -61,17 +61,7 @@ pub fn is_address(address: &[u8], family: u8, field: [u8; 16]) -> bool
     ensures { λ r. ⌜ r ≡ sameBytes (now (address .entry)) (take (width family) field) ⌝ }
 {
     let w = width_of(family);
-    if address.len() != w {
-        return false;
-    }
-    let mut i: usize = 0;
-    while i < w {
-        if address[i] != field[i] {
-            return false;
-        }
-        i += 1;
-    }
-    true
+    wire::bytes::same(address, &field[..w])
 }
 
 // Stage 1 is open, every other value opening.

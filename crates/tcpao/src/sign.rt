@@ -21,6 +21,7 @@ use rules::Outcome;
 use rules::Signed;
 use rules::Signing;
 use rules::State;
+use states::position::extension_of;
 use states::writers::is_open;
 use states::writers::with_sent;
 use traffic::tag::segment_tag;
@@ -142,14 +143,7 @@ fn write_signed(segment: &[u8], out: &mut [u8], entry: Entry, state: State, x: u
     let secret = entry.secret;
     let n = secret.mac_bytes;
     let head = head_of(&segment[..end], state.send_id, state.ask_id, 4 + n);
-    let tag = tag_of(
-        segment,
-        end,
-        head,
-        secret,
-        state.line,
-        (x / 4294967296) as u32,
-    );
+    let tag = tag_of(segment, end, head, secret, state.line, extension_of(x));
     let m = n as usize;
     lay(segment, out, head, &tag[..m]);
 }

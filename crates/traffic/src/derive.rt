@@ -2,30 +2,18 @@
 // Every secret and every way has one.
 ghost use mathlib.Core.Path.{_≡_};
 ghost use Prim.Native.Nat.{_+_, _≤_, min};
-ghost use Rattle.keys.specs.Algorithm.{outputBits};
 ghost use Rattle.rules.specs.Mac.{context, derivationInput, aesKey, derivationKey, applied, trafficKey};
 ghost use Rattle.traffic.specs.Assembled.{Pushed, none};
 ghost use Rattle.traffic.specs.Filled.{padded20};
 ghost use Rattle.traffic.specs.Way.{flowOf};
 use crate::assembled::Assembled;
 use crate::way::Way;
-use keys::algorithm::Aes128Cmac96;
 use keys::algorithm::HmacSha1_96;
+use keys::algorithm::output_bits;
 use keys::entry::Secret;
 
 // "one byte 1, the six bytes "TCP-AO""
 const LABEL: [u8; 7] = *b"\x01TCP-AO";
-
-// The output length in bits.
-fn output_bits(algorithm: u8) -> u16
-    ensures { λ r. ⌜ r ≡ outputBits algorithm ⌝ }
-{
-    match algorithm {
-        1 => HmacSha1_96::OUTPUT_BITS,
-        2 => Aes128Cmac96::OUTPUT_BITS,
-        _ => 0,
-    }
-}
 
 // "The context is source address, destination address, source port, destination port, source ISN, destination ISN"
 fn push_context(a: Assembled, way: Way) -> Assembled

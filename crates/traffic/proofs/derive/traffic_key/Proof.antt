@@ -45,7 +45,7 @@ returns c =
     let l : length (a .secret .key) ≡ 80 = key-room s in
     derived-key (a .secret) (flowOf (a .way))
     (ap (λ (i : ℕ). take i (a .secret .key)) (n .key-bytes .ensures) ∙ take-min (a .secret .«key_len») 80 (a .secret .key) l)
-    (d .before .output-bits .ensures) (held _ (d .derivation-input .ensures)) (c .derived .ensures)
+    (d .before .output-bits .ensures .0) (held _ (d .derivation-input .ensures)) (c .derived .ensures)
 
 pub traffic-key-spec : {M : Type 1} → statement M
 traffic-key-spec =
