@@ -53,6 +53,7 @@ fn mac_agrees(secret: Secret, way: Way, extension: u32, at: usize, segment: &[u8
     ensures { λ r. ⌜ r ≡ sameBytes (take (secret .«mac_bytes») (drop (at + 4) (now (segment .entry)))) (segmentMac secret (flowOf way) extension at (now (segment .entry))) ⌝ }
 {
     let end = wire::header::header_end(segment);
+    let n = secret.mac_bytes as usize;
     let tag = segment_tag(
         secret,
         way,
@@ -62,7 +63,6 @@ fn mac_agrees(secret: Secret, way: Way, extension: u32, at: usize, segment: &[u8
         &segment[..end],
         &segment[end..],
     );
-    let n = secret.mac_bytes as usize;
     let from = at + 4;
     same_throughout(&segment[from..from + n], &tag[..n])
 }
@@ -80,15 +80,16 @@ pub fn verified(
     requires { ⌜ (option ≡ ao (now segment)) × (wellSized (now segment) ≡ true) × (found .entry .secret .«mac_bytes» ≤ 16) ⌝ }
     ensures { λ r. ⌜ r ≡ first (keyTests missing unknown found (flowOf way) place (now (segment .entry))) (goodAt place (now (segment .entry))) ⌝ }
 {
+    let entry = found.entry;
+    let secret = entry.secret;
+    let size = 4 + secret.mac_bytes as usize;
     if option.count == 0 {
         return missing;
     }
     if !found.there {
         return unknown;
     }
-    let entry = found.entry;
-    let secret = entry.secret;
-    if option.len != 4 + secret.mac_bytes as usize {
+    if option.len != size {
         return Outcome::Bad(27, 0);
     }
     let Place::At(x) = place else {

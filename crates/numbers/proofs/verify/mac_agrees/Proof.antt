@@ -13,23 +13,30 @@ use Rattle.numbers.proofs.verify.mac_agrees.Tie as tie
 
 slice-aggregate-segment-tag : tie.Need-slice-aggregate-segment-tag
 slice-aggregate-segment-tag c =
-    sym (length-take-le (c .before .header-end .result) (c .before .before .before .args .segment .now) (omega (arith, c .before .header-end .ensures, c .before .before .before .pre .2)))
+    let b = c .before .before .before .before in
+    let e = c .before .before .header-end in
+    sym (length-take-le (e .result) (b .args .segment .now) (omega (arith, e .ensures, b .pre .2)))
 
 segment-tag-requires : tie.Need-segment-tag-requires
 segment-tag-requires c κs =
-    let l = length-take-le (c .before .before .header-end .result) (c .before .before .before .before .args .segment .now) (omega (arith, c .before .before .header-end .ensures, c .before .before .before .before .pre .2)) in
-    (c .before .before .before .before .pre .0, omega (arith, c .before .before .header-end .ensures, c .before .before .before .before .pre .1), omega (arith, c .before .before .header-end .ensures, c .before .before .before .shared-slice-known .given 12))
+    let b = c .before .before .before .before .before in
+    let e = c .before .before .before .header-end in
+    let l = length-take-le (e .result) (b .args .segment .now) (omega (arith, e .ensures, b .pre .2)) in
+    (b .pre .0, omega (arith, e .ensures, b .pre .1), omega (arith, e .ensures, c .before .before .before .before .shared-slice-known .given 12))
 
 slice-aggregate-same-throughout : tie.Need-slice-aggregate-same-throughout
 slice-aggregate-same-throughout c =
-    let t : length (c .before .before .before .segment-tag .result) ≡ 20 = search needs in
-    sym (length-take-le (c .before .before .before .before .before .before .before .before .args .secret .«mac_bytes») (c .before .before .before .segment-tag .result) (omega (arith, c .before .before .before .before .before .before .before .before .pre .3)))
+    let b = c .before .before .before .before .before .before .before .before in
+    let tag = c .before .before .segment-tag .result in
+    let t : length tag ≡ 20 = search needs in
+    sym (length-take-le (b .args .secret .«mac_bytes») tag (omega (arith, b .pre .3)))
 
 returns : tie.Need-returns
 returns c =
-    let a = c .before .before .before .before .before .before .before .before .before .args in
+    let b = c .before .before .before .before .before .before .before .before .before in
+    let a = b .args in
     let n : a .at + 4 + a .secret .«mac_bytes» - (a .at + 4) ≡ a .secret .«mac_bytes» = omega arith in
-    let m = mac-is (a .secret) (flowOf (a .way)) (a .extension) (a .at) (a .segment .now) (c .before .before .before .before .before .before .before .header-end .ensures) (c .before .before .before .before .before .before .before .before .before .pre .3) (c .before .before .before .before .segment-tag .ensures) in
+    let m = mac-is (a .secret) (flowOf (a .way)) (a .extension) (a .at) (a .segment .now) (c .before .before .before .before .before .before .before .header-end .ensures) (b .pre .3) (c .before .before .before .segment-tag .ensures) in
     c .same-throughout .ensures ∙ (λ i. sameBytes (take (n i) (drop (a .at + 4) (a .segment .now))) (m i))
 
 pub mac-agrees-spec : {M : Type 1} → statement M
@@ -37,12 +44,12 @@ mac-agrees-spec =
     tie.close
     (tie.spec
     (λ c κs. search needs)
+    (λ c. search needs)
     slice-aggregate-segment-tag
     (λ c. search needs)
     (λ c. search needs)
     (λ c. search needs)
     segment-tag-requires
-    (λ c. search needs)
     (λ c. search needs)
     (λ c. search needs)
     (λ c. search needs)

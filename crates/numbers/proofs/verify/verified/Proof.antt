@@ -8,23 +8,23 @@ use Rattle.numbers.proofs.verify.verified.Tie as tie
 
 returns : tie.Need-returns
 returns c =
-    let a = c .before .before .before .args in
-    given-missing (a .missing) (a .unknown) (a .found) (flowOf (a .way)) (a .place) (a .segment .now) (c .before .before .before .pre .0) (c .if1 .taken)
+    let a = c .before .before .before .before .before .before .args in
+    given-missing (a .missing) (a .unknown) (a .found) (flowOf (a .way)) (a .place) (a .segment .now) (c .before .before .before .before .before .before .pre .0) (c .if1 .taken)
 
 returns-2 : tie.Need-returns-2
 returns-2 c =
-    let a = c .before .before .before .before .before .args in
-    given-unknown (a .missing) (a .unknown) (a .found) (flowOf (a .way)) (a .place) (a .segment .now) (c .before .before .before .before .before .pre .0) (c .before .before .if1 .left) (c .if2 .taken)
+    let a = c .before .before .before .before .before .before .before .before .args in
+    given-unknown (a .missing) (a .unknown) (a .found) (flowOf (a .way)) (a .place) (a .segment .now) (c .before .before .before .before .before .before .before .before .pre .0) (c .before .before .if1 .left) (c .if2 .taken)
 
 returns-3 : tie.Need-returns-3
 returns-3 c =
     let a = c .before .before .before .before .before .before .before .before .before .before .args in
-    given-27 (a .missing) (a .unknown) (a .found) (flowOf (a .way)) (a .place) (a .segment .now) (c .before .before .before .before .before .before .before .before .before .before .pre .0) (c .before .before .before .before .before .before .before .if1 .left) (c .before .before .before .before .before .if2 .left) (c .if3 .taken)
+    given-27 (a .missing) (a .unknown) (a .found) (flowOf (a .way)) (a .place) (a .segment .now) (c .before .before .before .before .before .before .before .before .before .before .pre .0) (c .before .before .before .before .if1 .left) (c .before .before .if2 .left) (c .if3 .taken)
 
 returns-4 : tie.Need-returns-4
 returns-4 c =
     let a = c .before .before .before .before .before .before .before .before .before .before .before .before .args in
-    given-28 (a .missing) (a .unknown) (a .found) (flowOf (a .way)) (a .place) (a .segment .now) (c .before .before .before .before .before .before .before .before .before .before .before .before .pre .0) (c .before .before .before .before .before .before .before .before .before .if1 .left) (c .before .before .before .before .before .before .before .if2 .left) (c .before .before .if3 .left)
+    given-28 (a .missing) (a .unknown) (a .found) (flowOf (a .way)) (a .place) (a .segment .now) (c .before .before .before .before .before .before .before .before .before .before .before .before .pre .0) (c .before .before .before .before .before .before .if1 .left) (c .before .before .before .before .if2 .left) (c .before .before .if3 .left)
     (c .enum-told .given .1)
 
 add-at : tie.Need-add-at
@@ -40,7 +40,7 @@ mac-agrees-requires c κs =
 returns-5 : tie.Need-returns-5
 returns-5 c =
     let a = c .before .before .before .before .before .before .before .before .before .before .before .before .before .before .before .before .before .args in
-    given-29 (a .missing) (a .unknown) (a .found) (flowOf (a .way)) (a .place) (a .segment .now) (c .before .before .before .before .before .before .before .before .before .before .before .before .before .before .before .before .before .pre .0) (c .before .before .before .before .before .before .before .before .before .before .before .before .before .before .if1 .left) (c .before .before .before .before .before .before .before .before .before .before .before .before .if2 .left) (c .before .before .before .before .before .before .before .if3 .left)
+    given-29 (a .missing) (a .unknown) (a .found) (flowOf (a .way)) (a .place) (a .segment .now) (c .before .before .before .before .before .before .before .before .before .before .before .before .before .before .before .before .before .pre .0) (c .before .before .before .before .before .before .before .before .before .before .before .if1 .left) (c .before .before .before .before .before .before .before .before .before .if2 .left) (c .before .before .before .before .before .before .before .if3 .left)
     (c .before .before .before .before .before .place .given .0 .0) (c .before .before .before .before .before .place .given .1) (c .before .before .extension-of .ensures) (c .before .mac-agrees .ensures) (c .if4 .taken)
 
 add-byte-at : tie.Need-add-byte-at
@@ -51,17 +51,17 @@ add-byte-at c =
 returns-6 : tie.Need-returns-6
 returns-6 c =
     let a = c .before .before .before .before .before .before .before .before .before .before .before .before .before .before .before .before .before .before .args in
-    given-good (a .missing) (a .unknown) (a .found) (flowOf (a .way)) (a .place) (a .segment .now) (c .before .before .before .before .before .before .before .before .before .before .before .before .before .before .before .before .before .before .pre .0) (c .before .before .before .before .before .before .before .before .before .before .before .before .before .before .before .if1 .left) (c .before .before .before .before .before .before .before .before .before .before .before .before .before .if2 .left) (c .before .before .before .before .before .before .before .before .if3 .left)
+    given-good (a .missing) (a .unknown) (a .found) (flowOf (a .way)) (a .place) (a .segment .now) (c .before .before .before .before .before .before .before .before .before .before .before .before .before .before .before .before .before .before .pre .0) (c .before .before .before .before .before .before .before .before .before .before .before .before .if1 .left) (c .before .before .before .before .before .before .before .before .before .before .if2 .left) (c .before .before .before .before .before .before .before .before .if3 .left)
     (c .before .before .before .before .before .before .place .given .0 .0) (c .before .before .before .before .before .before .place .given .1) (c .before .before .before .extension-of .ensures) (c .before .before .mac-agrees .ensures) (c .before .if4 .left) (c .byte-at .ensures)
 
 pub verified-spec : {M : Type 1} → statement M
 verified-spec =
     tie.close
     (tie.spec
+    (λ c. search needs)
+    (λ c. search needs)
     returns
     returns-2
-    (λ c. search needs)
-    (λ c. search needs)
     returns-3
     (λ c. search needs)
     (λ c. search needs)
