@@ -7,7 +7,7 @@ use mathlib.Core.List.{List}
 use lib.ListN.{length}
 use borrow.Author.Tests.{eq-eqb, ne-eqb, eqb-true, eqb-false, not-true, not-false}
 use Rattle.rules.specs.Answers.{Answer, answer}
-use Rattle.tcpao.specs.Layout.{stateBytes}
+use Rattle.states.specs.Layout.{stateBytes}
 use Rattle.embankery.specs.Word.{word}
 use Rattle.embankery.specs.Exports.{isState, answered, changed}
 

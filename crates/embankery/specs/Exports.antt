@@ -12,7 +12,7 @@ use Rattle.rules.specs.declared.Done.{Done}
 use Rattle.rules.specs.declared.Done.the-variants as D
 use Rattle.rules.specs.declared.State.{State}
 use Rattle.rules.specs.Answers.{Answer, answer}
-use Rattle.tcpao.specs.Layout.{stateBytes, encodeOf}
+use Rattle.states.specs.Layout.{stateBytes, encodeOf}
 use Rattle.embankery.specs.Word.{word}
 
 -- (boundary) "A state buffer of another length gets 18 from every call that takes one, before any other number."

@@ -18,8 +18,8 @@ use Rattle.rules.specs.Connection.{Arrival, isOpen, isCounted}
 use Rattle.rules.specs.Calls.{check, judged, openedPassively, openedActively, asked, signed, output}
 use Rattle.rules.specs.History.{judge, sign, ask}
 use Rattle.rules.specs.Refusals.{on, byVerdict, bySigning, oneMore, refusal}
-use Rattle.tcpao.specs.Layout.{stateBytes, decodeOf, encodeOf}
-use Rattle.tcpao.specs.LayoutLaws.{encode-decode}
+use Rattle.states.specs.Layout.{stateBytes, decodeOf, encodeOf}
+use Rattle.states.specs.LayoutLaws.{encode-decode}
 use Rattle.embankery.specs.Exports.{isState, changed, stateAfter, accepts, opens, stateWhere}
 
 -- a state buffer of another length: whatever the call below would do, no buffer changes

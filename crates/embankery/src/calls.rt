@@ -6,7 +6,7 @@ ghost use lib.ListN.{length};
 ghost use Rattle.keys.specs.Table.{checked};
 ghost use Rattle.rules.specs.Answers.{tableAnswer};
 ghost use Rattle.rules.specs.Calls.{judged, judgedSyn, openedPassively, openedActively, asked, signed, output};
-ghost use Rattle.tcpao.specs.Layout.{stateBytes, decodeOf, encodeOf};
+ghost use Rattle.states.specs.Layout.{stateBytes, decodeOf, encodeOf};
 ghost use Rattle.embankery.specs.Word.{word as wordOf, ofJudged, ofChecked, ofSigned, ofSettled};
 ghost use Rattle.embankery.specs.Exports.{isState, answered, changed, stateAfter, stateWhere, accepts as acceptsOf, opens as opensOf, strictly};
 use crate::answer::of_done;
@@ -35,7 +35,7 @@ fn put(bytes: &mut [u8], q: State)
     requires { ⌜ length (now bytes) ≡ stateBytes ⌝ }
     ensures { λ _. ⌜ now (bytes .exit) ≡ encodeOf q ⌝ }
 {
-    let encoded = tcpao::state::encode(q);
+    let encoded = states::state::encode(q);
     octets::copy_at(bytes, 0, &encoded);
 }
 
@@ -158,7 +158,7 @@ pub extern "C" fn tcpao_judge(
     if !is_state(state) {
         return word(WRONG_STATE, 0);
     }
-    let held = tcpao::state::decode(state);
+    let held = states::state::decode(state);
     let r = tcpao::judge::judge(table, source, destination, segment, held);
     let verdict = r.verdict;
     let judged = r.state;
@@ -176,7 +176,7 @@ pub extern "C" fn tcpao_sign(table: &[u8], segment: &[u8], out: &mut [u8], state
     if !is_state(state) {
         return word(WRONG_STATE, 0);
     }
-    let held = tcpao::state::decode(state);
+    let held = states::state::decode(state);
     let r = tcpao::sign::sign(table, segment, out, held);
     let answer = r.answer;
     let signed = r.state;
@@ -193,7 +193,7 @@ pub extern "C" fn tcpao_ask(table: &[u8], recv_id: u8, state: &mut [u8]) -> u64
     if !is_state(state) {
         return word(WRONG_STATE, 0);
     }
-    let held = tcpao::state::decode(state);
+    let held = states::state::decode(state);
     let r = tcpao::operator::ask(table, recv_id, held);
     let answer = r.answer;
     let asked = r.state;

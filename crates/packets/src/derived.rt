@@ -4,8 +4,8 @@ use crate::ends::End;
 use crate::ends::entries;
 use crate::ends::table;
 use keys::entry::Pair;
-use tcpao::derive;
-use tcpao::way::Way;
+use traffic::derive;
+use traffic::way::Way;
 
 // "'source' is whoever sent the segment", here the remote side.
 fn arriving(pair: Pair, source_isn: u32, destination_isn: u32) -> Way {

@@ -22,8 +22,7 @@ use Rattle.rules.specs.Segment.{keyId}
 use Rattle.rules.specs.Connection.{Arrival, sized, arrivalPair, available, nextKey, opened, empty}
 use Rattle.rules.specs.Calls.{refuse, synMissing, synUnknown, judgeTests, check, judgeSynTests, checkSyn, verdictOf, indexOf, afterJudging, judgedBy, judged, judgedSyn, openedBy, openedPassively}
 use Rattle.tcpao.specs.Arriving.{AtNumber, TakenBy}
-use Rattle.tcpao.proofs.Joined.{yes, no, isFinal, Else}
-use Rattle.tcpao.proofs.Checks.{refusal-final}
+use Rattle.numbers.specs.GroupLaws.{yes, no, isFinal, Else, refusal-final}
 
 -- the key rule
 

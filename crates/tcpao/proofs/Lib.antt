@@ -1,20 +1,5 @@
 -- Laws that the functions' proofs share.
-pub mod Assembly
-pub mod Cases
-pub mod Covered
-pub mod Fields
-pub mod Parts
-pub mod Places
-pub mod Sizes
-pub mod Zeros
-pub mod Joined
-pub mod Formed
-pub mod Groups
-pub mod Checks
-pub mod Keyed
 pub mod Judging
-pub mod Chained
 pub mod OpenAnswers
-pub mod SignNumbers
 pub mod SignedLaws
 pub mod SignAnswers

@@ -19,12 +19,11 @@ use Rattle.rules.specs.declared.Settled.{Settled}
 use Rattle.rules.specs.Numbers.{test, first}
 use Rattle.rules.specs.Connection.{sized, pairOf, opening, empty}
 use Rattle.rules.specs.Calls.{refuse, unrefused, addressTests, tableTests, openTests, settledBy, openedWith, openedActively}
-use Rattle.tcpao.proofs.Joined.{Else, none}
-use Rattle.tcpao.proofs.Chained.{stop, pass}
+use Rattle.numbers.specs.GroupLaws.{Else, passed, stop, pass}
 
 -- addresses that 19 lets by have at most 16 bytes
 pub small : (a b : List ℕ) {z : Outcome} {x r : ℕ} → z ≡ first (addressTests a b) unrefused → z ≡ Good x r → (length a ≤ 16) × (length b ≤ 16)
-small a b e g = go (eqb (length a) 4 && eqb (length b) 4) refl (not-false (sized a b) (none (addressTests a b) [] unrefused e refl g .0))
+small a b e g = go (eqb (length a) 4 && eqb (length b) 4) refl (not-false (sized a b) (passed (addressTests a b) e refl g .0))
   where
     go : (p : Bool) → (eqb (length a) 4 && eqb (length b) 4) ≡ p → sized a b ≡ true → (length a ≤ 16) × (length b ≤ 16)
     go true q h = let k = and-true _ _ q in (omega (arith, eqb-true (length a) 4 (k .0)), omega (arith, eqb-true (length b) 4 (k .1)))

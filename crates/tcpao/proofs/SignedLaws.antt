@@ -16,8 +16,8 @@ use Rattle.rules.specs.MacLaws.{length-mac}
 use Rattle.rules.specs.Segment.{signedHeader, signedWith}
 use Rattle.rules.specs.Connection.{leaving, extensionOf}
 use Rattle.rules.specs.Calls.{signedSegment, written}
-use Rattle.tcpao.specs.Filled.{filled}
-use Rattle.tcpao.specs.TagLaws.{tagOf, tag-mac-parts}
+use Rattle.traffic.specs.Filled.{filled}
+use Rattle.traffic.specs.TagLaws.{tagOf, tag-mac-parts}
 use Rattle.tcpao.specs.SignedBytes.{headBytes, Signable}
 
 -- The head.
@@ -97,18 +97,18 @@ module _ (s out : List ℕ) (secret : Secret) (can : Signable s out secret) {end
       let b : getD (take end s) 12 0 ≡ getD s 12 0 = getD-take end s 12 0 (omega arith) in
       (omega (arith, cut), omega arith)
 
-  pub writes : (x : ℕ) (q : State) (entry : Entry) (o : List ℕ) {head tag c : List ℕ} → entry .secret ≡ secret
+  pub writes : (x : ℕ) (q : State) (entry : Entry) (o : List ℕ) {extension : ℕ} {head tag c : List ℕ} → entry .secret ≡ secret → extension ≡ extensionOf x
       → head ≡ headBytes (q .«send_id») (q .«ask_id») (4 + n) (take end s)
-      → tag ≡ tagOf secret (leaving (q .line)) (extensionOf x) 20 (length s + (4 + n)) (head ++ (replicate n 0 ++ drop 20 (take end s))) (drop end s)
+      → tag ≡ tagOf secret (leaving (q .line)) extension 20 (length s + (4 + n)) (head ++ (replicate n 0 ++ drop 20 (take end s))) (drop end s)
       → c ≡ written (head ++ (take n tag ++ drop 20 s)) o → c ≡ written (signedSegment entry q x s) o
   unfolding signedSegment
-  writes x q entry o {head} {tag} {c} es eh et ec =
+  writes x q entry o {extension} {head} {tag} {c} es ex eh et ec =
       let k = q .«send_id» in
       let r = q .«ask_id» in
       let f = leaving (q .line) in
       let g : take end s ≡ take (headerEnd s) s = ap (λ (i : ℕ). take i s) e in
       let h : head ≡ headBytes k r (4 + n) (take (headerEnd s) s) = eh ∙ ap (headBytes k r (4 + n)) g in
-      let t = et ∙ (λ i. tagOf secret f (extensionOf x) 20 (length s + (4 + n)) (h i ++ (replicate n 0 ++ drop 20 (g i))) (drop (e i) s)) in
+      let t = et ∙ (λ i. tagOf secret f (ex i) 20 (length s + (4 + n)) (h i ++ (replicate n 0 ++ drop 20 (g i))) (drop (e i) s)) in
       let m = mac-is k r s (can .low) (can .inside) secret f (extensionOf x) tag (can .words) (can .header) (can .short) t in
       let l : length (take n tag) ≡ n = ap length m ∙ length-mac secret f (extensionOf x) 20 (signedWith k r (replicate n 0) s) (can .short) in
       ec

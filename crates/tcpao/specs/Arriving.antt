@@ -1,27 +1,12 @@
--- What arrives, as the code puts it together: the flow of a pair's arriving direction, and what is known of an outcome when the state is
--- written. A reader need not believe these: the calls cite the crate `rules` alone.
+-- What is known of an outcome when the state is written. A reader need not believe these: the calls cite the crate `rules` alone.
 use Prim.Native.Nat.{ℕ}
 use mathlib.Core.Path.{_≡_}
 use mathlib.Core.Bool.{true, false}
 use Rattle.wire.specs.Header.{sequence, wellSized}
-use Rattle.keys.specs.declared.entry.Pair.{Pair}
 use Rattle.rules.specs.declared.Line.{Line}
 use Rattle.rules.specs.declared.Outcome.{Outcome}
 use Rattle.rules.specs.declared.Outcome.the-variants.{Good}
-use Rattle.rules.specs.Mac.{Flow}
-use Rattle.rules.specs.Connection.{Arrival, sized, localAddress, remoteAddress, isOpen}
-
--- "'source' is whoever sent the segment": our remote side
-abbrev pub arrivingOn : Pair → ℕ → ℕ → Flow
-arrivingOn p sourceIsn destinationIsn =
-    record {
-      source = remoteAddress p;
-      destination = localAddress p;
-      sourcePort = p .«remote_port»;
-      destinationPort = p .«local_port»;
-      sourceIsn = sourceIsn;
-      destinationIsn = destinationIsn;
-    }
+use Rattle.rules.specs.Connection.{Arrival, sized, isOpen}
 
 -- what is accepted while opening stands at its own number
 abbrev pub AtNumber : Line → ℕ → Outcome → Type 0

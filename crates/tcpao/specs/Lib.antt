@@ -1,13 +1,2 @@
-pub mod Filled
-pub mod Assembled
-pub mod Way
-pub mod MacContext
-pub mod MacContextLaws
-pub mod TagLaws
-pub mod Layout
-pub mod WordLaws
-pub mod LayoutLaws
 pub mod Arriving
-pub mod Groups
-pub mod SignGroups
 pub mod SignedBytes

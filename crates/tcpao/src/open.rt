@@ -1,33 +1,16 @@
-// Active opening: document 01, "A connection's life", "Active opening names a SendID; its entry must match the pair." Also what it shares with
-// the operator's call: the tests of the table and of the key, and the answer. Assumes nothing.
+// Active opening: document 01, "A connection's life", "Active opening names a SendID; its entry must match the pair." Also the answer, which it
+// shares with the operator's call. Assumes nothing.
 ghost use mathlib.Core.Path.{_≡_};
-ghost use mathlib.Core.Bool.{not};
-ghost use mathlib.Core.List.{[], _∷_, _++_};
-ghost use Rattle.rules.specs.Numbers.{test, first};
-ghost use Rattle.rules.specs.Calls.{refuse, tableTests, unrefused, settledBy, openedActively};
-use crate::faults::address_faults;
-use crate::faults::table_faults;
-use crate::writers::empty;
-use crate::writers::opening;
-use crate::writers::pair_of;
+ghost use Rattle.rules.specs.Calls.{settledBy, openedActively};
+use numbers::faults::address_faults;
+use numbers::opening::key_faults;
 use rules::Done;
 use rules::Outcome;
 use rules::Settled;
 use rules::State;
-
-// 10 to 17, then 35, where no entry answers.
-pub(crate) fn key_faults(table: &[u8], there: bool) -> Outcome
-    ensures { λ r. ⌜ r ≡ first (tableTests (now (table .entry)) ++ (test (refuse 35) (not there) ∷ [])) unrefused ⌝ }
-{
-    let loaded = table_faults(table);
-    let Outcome::Good(_, _) = loaded else {
-        return loaded;
-    };
-    if there {
-        return Outcome::Good(0, 0);
-    }
-    Outcome::Bad(35, 0)
-}
+use states::writers::empty;
+use states::writers::opening;
+use states::writers::pair_of;
 
 // "A refusal leaves outputs and state alike".
 pub(crate) fn settled_by(outcome: Outcome, old: State, new: State) -> Settled

@@ -2,35 +2,19 @@
 // "A connection's life", "An operator call sets the RecvID asked of the peer; nothing else does." Assumes nothing.
 ghost use mathlib.Core.Path.{_≡_};
 ghost use Rattle.keys.specs.Table.{checked};
-ghost use Rattle.rules.specs.Numbers.{first};
-ghost use Rattle.rules.specs.Calls.{askTests, unrefused, asked};
-use crate::faults::family_faults;
-use crate::open::key_faults;
+ghost use Rattle.rules.specs.Calls.{asked};
 use crate::open::settled_by;
-use crate::writers::with_asked;
 use keys::table::Loaded;
-use rules::Line;
-use rules::Outcome;
+use numbers::opening::ask_faults;
 use rules::Settled;
 use rules::State;
+use states::writers::with_asked;
 
 // 10 to 17 with the entry's index, or how many entries there are.
 pub fn check_table(table: &[u8]) -> Loaded
     ensures { λ r. ⌜ r ≡ checked (now (table .entry)) ⌝ }
 {
     keys::table::check(table)
-}
-
-// Which number: 18, 10 to 17, then 35, "no entry matching the pair has .. the RecvID to ask".
-fn ask_faults(table: &[u8], recv_id: u8, line: Line) -> Outcome
-    ensures { λ r. ⌜ r ≡ first (askTests (now (table .entry)) «recv_id» line) unrefused ⌝ }
-{
-    let family = family_faults(line);
-    let Outcome::Good(_, _) = family else {
-        return family;
-    };
-    let found = keys::table::find_recv(table, line.pair, recv_id);
-    key_faults(table, found.there)
 }
 
 pub fn ask(table: &[u8], recv_id: u8, state: State) -> Settled

@@ -8,23 +8,24 @@ ghost use lib.ListN.{length, getD, take, drop, replicate};
 ghost use Rattle.rules.specs.Connection.{isOpen, leaving};
 ghost use Rattle.rules.specs.Calls.{signedSegment, written, signed, output};
 ghost use Rattle.rules.specs.declared.Signing.the-variants as S;
-ghost use Rattle.tcpao.specs.Filled.{filled};
-ghost use Rattle.tcpao.specs.Way.{flowOf};
-ghost use Rattle.tcpao.specs.TagLaws.{tagOf};
+ghost use Rattle.traffic.specs.Filled.{filled};
+ghost use Rattle.traffic.specs.Way.{flowOf};
+ghost use Rattle.traffic.specs.TagLaws.{tagOf};
 ghost use Rattle.tcpao.specs.SignedBytes.{headBytes, Signable};
-use crate::signing::added_bytes;
-use crate::signing::check_sign;
-use crate::tag::segment_tag;
-use crate::way::Way;
-use crate::writers::is_open;
-use crate::writers::with_sent;
 use keys::entry::Entry;
 use keys::entry::Secret;
+use numbers::signing::added_bytes;
+use numbers::signing::check_sign;
 use rules::Line;
 use rules::Outcome;
 use rules::Signed;
 use rules::Signing;
 use rules::State;
+use states::position::extension_of;
+use states::writers::is_open;
+use states::writers::with_sent;
+use traffic::tag::segment_tag;
+use traffic::way::Way;
 
 // "For a bare SYN (SYN set, ACK clear) the destination ISN is zero", and while opening nothing else is signed.
 fn destination_isn(line: Line) -> u32
@@ -142,14 +143,7 @@ fn write_signed(segment: &[u8], out: &mut [u8], entry: Entry, state: State, x: u
     let secret = entry.secret;
     let n = secret.mac_bytes;
     let head = head_of(&segment[..end], state.send_id, state.ask_id, 4 + n);
-    let tag = tag_of(
-        segment,
-        end,
-        head,
-        secret,
-        state.line,
-        (x / 4294967296) as u32,
-    );
+    let tag = tag_of(segment, end, head, secret, state.line, extension_of(x));
     let m = n as usize;
     lay(segment, out, head, &tag[..m]);
 }

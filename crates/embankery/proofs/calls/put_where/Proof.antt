@@ -1,6 +1,6 @@
 -- `embankery::calls::put_where` meets its contract. Assumes nothing.
 use borrow.Author.Needs.{needs}
-use Rattle.tcpao.specs.Layout.{encodeOf}
+use Rattle.states.specs.Layout.{encodeOf}
 use Rattle.embankery.proofs.Exported.{stays, opens}
 use Rattle.embankery.proofs.calls.put_where.Statement.{statement}
 use Rattle.embankery.proofs.calls.put_where.Tie as tie

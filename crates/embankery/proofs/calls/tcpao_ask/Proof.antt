@@ -4,7 +4,7 @@ use mathlib.Core.Path.{sym, ap, _∙_, subst}
 use borrow.Author.Needs.{needs}
 use Rattle.rules.specs.declared.Settled.{Settled}
 use Rattle.rules.specs.Calls.{asked}
-use Rattle.tcpao.specs.Layout.{decodeOf, encodeOf}
+use Rattle.states.specs.Layout.{decodeOf, encodeOf}
 use Rattle.embankery.specs.Word.{ofSettled}
 use Rattle.embankery.specs.Numbers.{asked-fits}
 use Rattle.embankery.proofs.Exported.{other, whole, refused, done}

@@ -4,7 +4,7 @@ use mathlib.Core.Path.{sym, ap, _∙_, subst}
 use borrow.Author.Needs.{needs}
 use Rattle.rules.specs.declared.Judged.{Judged}
 use Rattle.rules.specs.Calls.{judged}
-use Rattle.tcpao.specs.Layout.{decodeOf, encodeOf}
+use Rattle.states.specs.Layout.{decodeOf, encodeOf}
 use Rattle.embankery.specs.Word.{ofJudged}
 use Rattle.embankery.specs.Numbers.{judged-fits}
 use Rattle.embankery.proofs.Exported.{other, whole, refused, done}

@@ -6,7 +6,7 @@ use mathlib.Core.List.{List}
 use borrow.Author.Needs.{needs}
 use Rattle.rules.specs.declared.Settled.{Settled}
 use Rattle.rules.specs.Calls.{openedActively}
-use Rattle.tcpao.specs.Layout.{encodeOf}
+use Rattle.states.specs.Layout.{encodeOf}
 use Rattle.embankery.specs.Word.{ofSettled}
 use Rattle.embankery.specs.Exports.{opens}
 use Rattle.embankery.specs.Numbers.{active-fits}

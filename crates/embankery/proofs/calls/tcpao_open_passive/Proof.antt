@@ -6,7 +6,7 @@ use mathlib.Core.List.{List}
 use borrow.Author.Needs.{needs}
 use Rattle.rules.specs.declared.Judged.{Judged}
 use Rattle.rules.specs.Calls.{openedPassively}
-use Rattle.tcpao.specs.Layout.{encodeOf}
+use Rattle.states.specs.Layout.{encodeOf}
 use Rattle.embankery.specs.Word.{ofJudged}
 use Rattle.embankery.specs.Exports.{accepts, strictly}
 use Rattle.embankery.specs.Numbers.{opened-fits}

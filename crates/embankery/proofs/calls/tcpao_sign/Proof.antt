@@ -4,7 +4,7 @@ use mathlib.Core.Path.{sym, ap, _∙_, subst}
 use borrow.Author.Needs.{needs}
 use Rattle.rules.specs.declared.Signed.{Signed}
 use Rattle.rules.specs.Calls.{signed, output}
-use Rattle.tcpao.specs.Layout.{decodeOf, encodeOf}
+use Rattle.states.specs.Layout.{decodeOf, encodeOf}
 use Rattle.embankery.specs.Word.{ofSigned}
 use Rattle.embankery.specs.Numbers.{signed-fits}
 use Rattle.embankery.proofs.Exported.{unchanged, made, other, whole, refused, done}

@@ -3,7 +3,7 @@ use Prim.Native.Nat.{ℕ}
 use mathlib.Core.Path.{sym, ap, _∙_}
 use borrow.Author.Needs.{needs}
 use Rattle.rules.specs.Connection.{opened, withAccepted}
-use Rattle.tcpao.proofs.Joined.{yes, no}
+use Rattle.numbers.specs.GroupLaws.{yes, no}
 use Rattle.tcpao.proofs.judge.accepted.Statement.{statement}
 use Rattle.tcpao.proofs.judge.accepted.Tie as tie
 

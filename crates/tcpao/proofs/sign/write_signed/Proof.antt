@@ -20,14 +20,14 @@ head-of-requires c κs =
 
 slice-aggregate-lay : tie.Need-slice-aggregate-lay
 slice-aggregate-lay c =
-    let b = c .before .before .before .before .before .before .before .before .before in
+    let b = c .before .before .before .before .before .before .before .before .before .before in
     let t = c .before .before .tag-of .result in
     let k : length t ≡ 20 = search needs in
     sym (length-take-le (b .args .entry .secret .«mac_bytes») t (omega (arith, b .pre .short)))
 
 lay-requires : tie.Need-lay-requires
 lay-requires c κs =
-    let b = c .before .before .before .before .before .before .before .before .before in
+    let b = c .before .before .before .before .before .before .before .before .before .before in
     let t = c .before .before .tag-of .result in
     let k : length t ≡ 20 = search needs in
     let l = length-take-le (b .args .entry .secret .«mac_bytes») t (omega (arith, b .pre .short)) in
@@ -35,10 +35,10 @@ lay-requires c κs =
 
 returns : tie.Need-returns
 returns c =
-    let b = c .before .before .before .before .before .before .before .before .before .before .before .before in
+    let b = c .before .before .before .before .before .before .before .before .before .before .before .before .before in
     writes (b .args .segment .now) (b .args .out .now) (b .args .entry .secret) (b .pre)
-    (c .before .before .before .before .before .before .before .before .before .header-end .ensures) (b .args .x) (b .args .state) (b .args .entry) (b .args .out .now) refl
-    (c .before .before .before .before .before .before .head-of .ensures) (c .before .before .before .before .before .tag-of .ensures) (c .before .before .lay .ensures)
+    (c .before .before .before .before .before .before .before .before .before .before .header-end .ensures) (b .args .x) (b .args .state) (b .args .entry) (b .args .out .now) refl
+    (c .before .before .before .before .before .before .extension-of .ensures) (c .before .before .before .before .before .before .before .head-of .ensures) (c .before .before .before .before .before .tag-of .ensures) (c .before .before .lay .ensures)
 
 pub write-signed-spec : {M : Type 1} → statement M
 write-signed-spec =
@@ -48,7 +48,7 @@ write-signed-spec =
     slice-aggregate-head-of
     (λ c. search needs)
     head-of-requires
-    (λ c. search needs)
+    (λ c κs. search needs)
     (λ c κs. search needs)
     (λ c. search needs)
     (λ c. search needs)

@@ -1,0 +1,33 @@
+-- What `verified` is given is what the definition's tests look at.
+use Prim.Native.Nat.{ℕ, _≤_}
+use mathlib.Core.Path.{sym, ap, subst, _∙_}
+use borrow.Author.Needs.{needs}
+use Rattle.keys.specs.declared.table.Found.{Found}
+use Rattle.rules.specs.declared.Place.the-variants.{At}
+use Rattle.rules.specs.Segment.{keyId}
+use Rattle.numbers.specs.Groups.{arrivingOn}
+use Rattle.numbers.proofs.Checks.{entry-mac, keyed-is}
+use Rattle.numbers.proofs.check.keyed_syn.Statement.{statement}
+use Rattle.numbers.proofs.check.keyed_syn.Tie as tie
+
+entry-for-requires : tie.Need-entry-for-requires
+entry-for-requires c κs = (c .carried .ensures, c .before .before .before .pre .1)
+
+verified-requires : tie.Need-verified-requires
+verified-requires c κs =
+    let a = c .before .before .before .before .before .before .before .before .args in (
+      c .before .before .before .before .before .carried .ensures,
+      c .before .before .before .before .before .before .before .before .pre .1,
+      subst (λ (f : Found). f .entry .secret .«mac_bytes» ≤ 16) (sym (c .before .before .before .before .entry-for .ensures))
+          (entry-mac (a .table .now) (a .pair) (keyId (a .segment .now)) (c .before .before .before .before .before .before .before .before .pre .0)),
+    )
+
+returns : tie.Need-returns
+returns c =
+    let a = c .before .before .before .before .before .before .before .before .before .args in
+    let number = c .before .before .before .before .sequence .ensures in
+    keyed-is (a .segment .now) (c .before .before .syn-missing .ensures) (c .before .syn-unknown .ensures) (c .before .before .before .before .before .entry-for .ensures)
+    (c .before .before .before .arriving-way .ensures ∙ ap (λ (n : ℕ). arrivingOn (a .pair) n 0) number) (ap At number) (c .verified .ensures)
+
+pub keyed-syn-spec : {M : Type 1} → statement M
+keyed-syn-spec = tie.close (tie.spec (λ c κs. search needs) entry-for-requires (λ c κs. search needs) (λ c κs. search needs) (λ c κs. search needs) (λ c κs. search needs) (λ c. search needs) verified-requires returns)

@@ -1,0 +1,21 @@
+-- Two groups, the first before the second.
+use borrow.Author.Needs.{needs}
+use mathlib.Core.Path.{refl}
+use Rattle.rules.specs.Calls.{unrefused, familyTests}
+use Rattle.numbers.specs.Groups.{inputTests}
+use Rattle.numbers.specs.GroupLaws.{decided, behind}
+use Rattle.numbers.proofs.faults.state_faults.Statement.{statement}
+use Rattle.numbers.proofs.faults.state_faults.Tie as tie
+
+returns : tie.Need-returns
+returns c =
+    let a = c .before .before .before .before .before .args in
+    decided (familyTests (a .line)) (inputTests (a .table .now) (a .source .now) (a .destination .now)) unrefused (c .before .family-faults .ensures) (c .match .keys2)
+
+returns-2 : tie.Need-returns-2
+returns-2 c =
+    let a = c .before .before .before .before .before .before .before .args in
+    behind (familyTests (a .line)) (inputTests (a .table .now) (a .source .now) (a .destination .now)) unrefused (c .before .before .before .family-faults .ensures) refl (c .before .enum-told .given .1) (c .input-faults .ensures)
+
+pub state-faults-spec : {M : Type 1} → statement M
+state-faults-spec = tie.close (tie.spec (λ c κs. search needs) (λ c. search needs) returns (λ c κs. search needs) returns-2)

@@ -1,0 +1,194 @@
+// Which number an arriving segment gets, or its position: document 01, "Numbers given back", with a state and without one. Nothing here writes a
+// state. The two checks assume nothing. What a step assumes is what the tests before it left; an accepted bare SYN has passed them all, so that
+// whoever opens by it may ask `entry_for` and `arrival_pair` again.
+ghost use mathlib.Core.Path.{_≡_};
+ghost use mathlib.Core.Bool.{true, false, cond};
+ghost use Rattle.wire.specs.Header.{sequence as sequenceOf, wellSized};
+ghost use Rattle.keys.specs.Table.{checked, recvEntry};
+ghost use Rattle.rules.specs.Numbers.{first};
+ghost use Rattle.rules.specs.Segment.{ao, keyId};
+ghost use Rattle.rules.specs.Connection.{sized, arrivalPair, isOpen, placeOn};
+ghost use Rattle.rules.specs.Calls.{isRefused, synMissing, synUnknown, check as checkOf, checkSyn};
+ghost use Rattle.traffic.specs.Way.{flowOf};
+ghost use Rattle.numbers.specs.Groups.{arrivingOn, keyedTests, synKeyedTests, goodAt};
+use crate::faults::arrival_faults;
+use crate::faults::form_faults;
+use crate::faults::input_faults;
+use crate::faults::state_faults;
+use crate::faults::syn_faults;
+use crate::verify::carried;
+use crate::verify::key_id;
+use crate::verify::verified;
+use keys::entry::Pair;
+use keys::table::Found;
+use rules::Line;
+use rules::Outcome;
+use rules::Place;
+use states::position::place_on;
+use states::writers::is_open;
+use states::writers::pair_of;
+use traffic::way::Way;
+use wire::header::sequence;
+use wire::options::Occurrence;
+
+// The way of what arrives on a pair: its source is our remote side.
+fn arriving_way(pair: Pair, source_isn: u32, destination_isn: u32) -> Way
+    ensures { λ r. ⌜ flowOf r ≡ arrivingOn pair «source_isn» «destination_isn» ⌝ }
+{
+    let source = pair.remote;
+    let destination = pair.local;
+    Way {
+        family: pair.family,
+        source,
+        destination,
+        source_port: pair.remote_port,
+        destination_port: pair.local_port,
+        source_isn,
+        destination_isn,
+    }
+}
+
+// The ISN of whoever sent a segment: "its sequence number is the peer's ISN" of the SYN+ACK that opens.
+fn peer_isn(line: Line, number: u32) -> u32
+    ensures { λ r. ⌜ r ≡ cond (isOpen line) (line .«peer_isn») number ⌝ }
+{
+    if is_open(line) {
+        return line.peer_isn;
+    }
+    number
+}
+
+// How the table is looked up: the entry that matches the pair and has the segment's KeyID as its RecvID.
+pub fn entry_for(table: &[u8], pair: Pair, option: Occurrence, segment: &[u8]) -> Found
+    requires { ⌜ (option ≡ ao (now segment)) × (wellSized (now segment) ≡ true) ⌝ }
+    ensures { λ r. ⌜ r ≡ recvEntry (now (table .entry)) pair (keyId (now (segment .entry))) ⌝ }
+{
+    keys::table::find_recv(table, pair, key_id(option, segment))
+}
+
+// 25 to 29 with a state, on a table that is not refused.
+fn keyed(table: &[u8], segment: &[u8], line: Line, reference: u64) -> Outcome
+    requires { ⌜ (isRefused (checked (now table)) ≡ false) × (wellSized (now segment) ≡ true) ⌝ }
+    ensures { λ r. ⌜ r ≡ first (keyedTests (now (table .entry)) line reference (now (segment .entry))) (goodAt (placeOn line reference (sequenceOf (now (segment .entry)))) (now (segment .entry))) ⌝ }
+{
+    let pair = line.pair;
+    let option = carried(segment);
+    let found = entry_for(table, pair, option, segment);
+    let number = sequence(segment);
+    let way = arriving_way(pair, peer_isn(line, number), line.isn);
+    let place = place_on(line, reference, number);
+    verified(
+        Outcome::Bad(25, 0),
+        Outcome::Bad(26, 0),
+        found,
+        way,
+        place,
+        option,
+        segment,
+    )
+}
+
+// With a state, opening or open.
+pub fn check(
+    table: &[u8],
+    source: &[u8],
+    destination: &[u8],
+    segment: &[u8],
+    line: Line,
+    reference: u64,
+) -> Outcome
+    ensures { λ r. ⌜ r ≡ checkOf (now (table .entry)) line reference (record { source = now (source .entry); destination = now (destination .entry); segment = now (segment .entry) }) ⌝ }
+{
+    let state = state_faults(table, source, destination, line);
+    let Outcome::Good(_, _) = state else {
+        return state;
+    };
+    let form = form_faults(segment);
+    let Outcome::Good(_, _) = form else {
+        return form;
+    };
+    let arrival = arrival_faults(line, source, destination, segment);
+    let Outcome::Good(_, _) = arrival else {
+        return arrival;
+    };
+    keyed(table, segment, line, reference)
+}
+
+// "Bare SYN without TCP-AO: 25 if any entry matches the pair, otherwise pass."
+fn syn_missing(table: &[u8], pair: Pair) -> Outcome
+    ensures { λ r. ⌜ r ≡ synMissing (now (table .entry)) pair ⌝ }
+{
+    if keys::table::any_match(table, pair) {
+        return Outcome::Bad(25, 0);
+    }
+    Outcome::Passed
+}
+
+// A bare SYN with an unknown KeyID: "a setting decides: pass (the RFC's first default) or drop 26".
+fn syn_unknown(strict: bool) -> Outcome
+    ensures { λ r. ⌜ r ≡ synUnknown strict ⌝ }
+{
+    if strict {
+        return Outcome::Bad(26, 0);
+    }
+    Outcome::Passed
+}
+
+// The pair of what arrives, as this end holds it.
+pub fn arrival_pair(source: &[u8], destination: &[u8], segment: &[u8]) -> Pair
+    requires { ⌜ sized (now source) (now destination) ≡ true ⌝ }
+    ensures { λ r. ⌜ r ≡ arrivalPair (record { source = now (source .entry); destination = now (destination .entry); segment = now (segment .entry) }) ⌝ }
+{
+    pair_of(
+        destination,
+        source,
+        wire::header::destination_port(segment),
+        wire::header::source_port(segment),
+    )
+}
+
+// 25 to 29 of a bare SYN without a state. "For a bare SYN .. the destination ISN is zero."
+fn keyed_syn(table: &[u8], segment: &[u8], pair: Pair, strict: bool) -> Outcome
+    requires { ⌜ (isRefused (checked (now table)) ≡ false) × (wellSized (now segment) ≡ true) ⌝ }
+    ensures { λ r. ⌜ r ≡ first (synKeyedTests (now (table .entry)) pair strict (now (segment .entry))) (goodAt (Place.At (sequenceOf (now (segment .entry)))) (now (segment .entry))) ⌝ }
+{
+    let option = carried(segment);
+    let found = entry_for(table, pair, option, segment);
+    let number = sequence(segment);
+    let way = arriving_way(pair, number, 0);
+    verified(
+        syn_missing(table, pair),
+        syn_unknown(strict),
+        found,
+        way,
+        Place::At(number as u64),
+        option,
+        segment,
+    )
+}
+
+// A bare SYN, without a state.
+pub fn check_syn(
+    table: &[u8],
+    source: &[u8],
+    destination: &[u8],
+    segment: &[u8],
+    strict: bool,
+) -> Outcome
+    ensures { λ r. ⌜ r ≡ checkSyn (now (table .entry)) (record { source = now (source .entry); destination = now (destination .entry); segment = now (segment .entry) }) strict ⌝ }
+{
+    let input = input_faults(table, source, destination);
+    let Outcome::Good(_, _) = input else {
+        return input;
+    };
+    let form = form_faults(segment);
+    let Outcome::Good(_, _) = form else {
+        return form;
+    };
+    let stage = syn_faults(segment);
+    let Outcome::Good(_, _) = stage else {
+        return stage;
+    };
+    let pair = arrival_pair(source, destination, segment);
+    keyed_syn(table, segment, pair, strict)
+}

@@ -1,0 +1,188 @@
+// The tests that come before a key is looked at: document 01, "Numbers given back", 10 to 24. One function for each group of the crate `rules`;
+// where none of its tests applies, it gives Good(0, 0), of which nothing is made. Assumes nothing.
+ghost use mathlib.Core.Path.{_≡_};
+ghost use mathlib.Core.Bool.{_&&_};
+ghost use Rattle.wire.specs.Header.{syn, ack};
+ghost use Rattle.rules.specs.Numbers.{first};
+ghost use Rattle.rules.specs.Segment.{isBareSyn};
+ghost use Rattle.rules.specs.Calls.{unrefused, familyTests, addressTests, tableTests, pairTests, stageTests, synTests};
+ghost use Rattle.numbers.specs.Groups.{inputTests, stateTests, countTests, formTests, arrivalTests};
+use keys::entry::Pair;
+use keys::table::Loaded;
+use rules::Line;
+use rules::Outcome;
+use states::writers::is_address;
+use states::writers::is_open;
+use wire::options::Options;
+
+// 10 to 17, with the entry's index.
+pub fn table_faults(table: &[u8]) -> Outcome
+    ensures { λ r. ⌜ r ≡ first (tableTests (now (table .entry))) unrefused ⌝ }
+{
+    match keys::table::check(table) {
+        Loaded::Valid(_) => Outcome::Good(0, 0),
+        Loaded::Refused(n, i) => Outcome::Bad(n, i),
+    }
+}
+
+// 18: "state's family is neither IPv4 nor IPv6".
+pub fn family_faults(line: Line) -> Outcome
+    ensures { λ r. ⌜ r ≡ first (familyTests line) unrefused ⌝ }
+{
+    let pair = line.pair;
+    if pair.family == 4 {
+        return Outcome::Good(0, 0);
+    }
+    if pair.family == 6 {
+        return Outcome::Good(0, 0);
+    }
+    Outcome::Bad(18, 0)
+}
+
+// 19: "addresses not both 4 or both 16 bytes".
+pub fn address_faults(a: &[u8], b: &[u8]) -> Outcome
+    ensures { λ r. ⌜ r ≡ first (addressTests (now (a .entry)) (now (b .entry))) unrefused ⌝ }
+{
+    if a.len() == 4 {
+        if b.len() == 4 {
+            return Outcome::Good(0, 0);
+        }
+        return Outcome::Bad(19, 0);
+    }
+    if a.len() == 16 {
+        if b.len() == 16 {
+            return Outcome::Good(0, 0);
+        }
+        return Outcome::Bad(19, 0);
+    }
+    Outcome::Bad(19, 0)
+}
+
+// Without a state: 19, then the table's number.
+pub fn input_faults(table: &[u8], a: &[u8], b: &[u8]) -> Outcome
+    ensures { λ r. ⌜ r ≡ first (inputTests (now (table .entry)) (now (a .entry)) (now (b .entry))) unrefused ⌝ }
+{
+    let sizes = address_faults(a, b);
+    let loaded = table_faults(table);
+    let Outcome::Good(_, _) = sizes else {
+        return sizes;
+    };
+    loaded
+}
+
+// With a state: 18 before 19.
+pub fn state_faults(table: &[u8], source: &[u8], destination: &[u8], line: Line) -> Outcome
+    ensures { λ r. ⌜ r ≡ first (stateTests (now (table .entry)) (now (source .entry)) (now (destination .entry)) line) unrefused ⌝ }
+{
+    let family = family_faults(line);
+    let Outcome::Good(_, _) = family else {
+        return family;
+    };
+    input_faults(table, source, destination)
+}
+
+// 22: "two TCP-AO, or TCP-AO and MD5 together".
+fn option_faults(ao: usize, md5: usize) -> Outcome
+    ensures { λ r. ⌜ r ≡ first (countTests ao md5) unrefused ⌝ }
+{
+    if 1 < ao {
+        return Outcome::Bad(22, 0);
+    }
+    if ao == 0 {
+        return Outcome::Good(0, 0);
+    }
+    if md5 == 0 {
+        return Outcome::Good(0, 0);
+    }
+    Outcome::Bad(22, 0)
+}
+
+// 20: "bad length or offset"; 21: "malformed options"; 22.
+pub fn form_faults(segment: &[u8]) -> Outcome
+    ensures { λ r. ⌜ r ≡ first (formTests (now (segment .entry))) unrefused ⌝ }
+{
+    if !wire::header::well_sized(segment) {
+        return Outcome::Bad(20, 0);
+    }
+    match wire::options::of_segment(segment) {
+        Options::Malformed => Outcome::Bad(21, 0),
+        Options::Found(seen) => option_faults(seen.ao.count, seen.md5.count),
+    }
+}
+
+// 23: "pair is not the state's". The source of what arrives is our remote side.
+fn pair_faults(pair: Pair, source: &[u8], destination: &[u8], segment: &[u8]) -> Outcome
+    ensures { λ r. ⌜ r ≡ first (pairTests pair (record { source = now (source .entry); destination = now (destination .entry); segment = now (segment .entry) })) unrefused ⌝ }
+{
+    let remote = pair.remote;
+    let local = pair.local;
+    if !is_address(source, pair.family, remote) {
+        return Outcome::Bad(23, 0);
+    }
+    if !is_address(destination, pair.family, local) {
+        return Outcome::Bad(23, 0);
+    }
+    if wire::header::source_port(segment) != pair.remote_port {
+        return Outcome::Bad(23, 0);
+    }
+    if wire::header::destination_port(segment) != pair.local_port {
+        return Outcome::Bad(23, 0);
+    }
+    Outcome::Good(0, 0)
+}
+
+// "a bare SYN (SYN set, ACK clear)"
+pub fn is_bare_syn(segment: &[u8]) -> bool
+    ensures { λ r. ⌜ r ≡ isBareSyn (now (segment .entry)) ⌝ }
+{
+    if wire::header::syn(segment) {
+        return !wire::header::ack(segment);
+    }
+    false
+}
+
+fn is_syn_ack(segment: &[u8]) -> bool
+    ensures { λ r. ⌜ r ≡ (syn (now (segment .entry)) && ack (now (segment .entry))) ⌝ }
+{
+    if wire::header::syn(segment) {
+        return wire::header::ack(segment);
+    }
+    false
+}
+
+// 24: "wrong segment for the stage". Open: a bare SYN; opening: anything but SYN with ACK;
+fn stage_faults(line: Line, segment: &[u8]) -> Outcome
+    ensures { λ r. ⌜ r ≡ first (stageTests line (now (segment .entry))) unrefused ⌝ }
+{
+    if is_open(line) {
+        if is_bare_syn(segment) {
+            return Outcome::Bad(24, 0);
+        }
+        return Outcome::Good(0, 0);
+    }
+    if is_syn_ack(segment) {
+        return Outcome::Good(0, 0);
+    }
+    Outcome::Bad(24, 0)
+}
+
+// without a state: anything but a bare SYN.
+pub fn syn_faults(segment: &[u8]) -> Outcome
+    ensures { λ r. ⌜ r ≡ first (synTests (now (segment .entry))) unrefused ⌝ }
+{
+    if is_bare_syn(segment) {
+        return Outcome::Good(0, 0);
+    }
+    Outcome::Bad(24, 0)
+}
+
+// 23, then 24.
+pub fn arrival_faults(line: Line, source: &[u8], destination: &[u8], segment: &[u8]) -> Outcome
+    ensures { λ r. ⌜ r ≡ first (arrivalTests line (record { source = now (source .entry); destination = now (destination .entry); segment = now (segment .entry) })) unrefused ⌝ }
+{
+    let pair = pair_faults(line.pair, source, destination, segment);
+    let Outcome::Good(_, _) = pair else {
+        return pair;
+    };
+    stage_faults(line, segment)
+}

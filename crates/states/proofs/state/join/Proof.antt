@@ -1,0 +1,36 @@
+-- `state::join`: five parts, each put where the one before ends.
+use borrow.Author.Needs.{needs}
+use Rattle.states.proofs.Parts.{all-put}
+use Rattle.states.proofs.state.join.Statement.{statement}
+use Rattle.states.proofs.state.join.Tie as tie
+
+returns : tie.Need-returns
+returns c =
+    let a = c .before .before .before .before .before .before .before .before .before .before .before .before .before .before .before .before .before .before .before .before .args in
+    all-put (a .t1) (a .t2) (a .t3) (a .t4) (a .t5) _ _ _ _ _ (search needs) (search needs) (search needs) (search needs) (search needs)
+    (c .before .before .before .before .before .before .before .before .before .before .before .before .before .before .before .before .before .copy-at .ensures)
+    (c .before .before .before .before .before .before .before .before .before .before .before .before .before .copy-at2 .ensures)
+    (c .before .before .before .before .before .before .before .before .before .copy-at3 .ensures)
+    (c .before .before .before .before .before .words-at .ensures)
+    (c .before .words-at2 .ensures)
+
+pub join-spec : {M : Type 1} → statement M
+join-spec =
+    tie.close
+    (tie.spec
+    (λ c. search needs)
+    (λ c. search needs)
+    (λ c κs. search needs)
+    (λ c. search needs)
+    (λ c. search needs)
+    (λ c κs. search needs)
+    (λ c. search needs)
+    (λ c. search needs)
+    (λ c κs. search needs)
+    (λ c. search needs)
+    (λ c. search needs)
+    (λ c κs. search needs)
+    (λ c. search needs)
+    (λ c. search needs)
+    (λ c κs. search needs)
+    returns)

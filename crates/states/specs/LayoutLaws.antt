@@ -1,0 +1,151 @@
+-- The layout of a state: each field stands at its place, and reading and writing are inverse to each other.
+-- Assumes of a state what every value of its type has (`Value`), and of bytes that they are below 256; the contracts of `state::encode` and
+-- `state::decode` repeat both laws without these.
+use Prim.Native.Nat.{ℕ, _+_, _*_, _^_, _≤_, _<_}
+use mathlib.Core.Path.{_≡_, refl, sym, ap, _∙_}
+use mathlib.Core.List.{List, [], _∷_, _++_, append-nil}
+use native.Mathlib.Omega.{arith}
+use lib.ListN.{length, getD, take, drop, length-drop, drop-of-length-le, take-append-drop}
+use lib.Seq.{take-at, drop-at, drop-cons, drop-drop, getD-drop}
+use Rattle.octets.specs.Octets.{get16, get32, bytes16, bytes32, bytes64}
+use Rattle.keys.specs.MatchLaws.{Octets}
+use Rattle.rules.specs.declared.State.{State}
+use Rattle.rules.specs.Connection.{slots}
+use Rattle.states.specs.Layout.{familyAt, stageAt, sendIdAt, askIdAt, localPortAt, remotePortAt, isnAt, peerIsnAt, localAt, remoteAt, sentAt, seenAt, acceptedAt, dropsAt, stateBytes, get64, wordsAt, wordBytes, decodePair, decodeLine, decodeOf, Row, rows, joined, encodeOf}
+use Rattle.states.specs.WordLaws.{back16, back32, back64, from16, from32, from64, forth16, forth32, forth64, length-words, words-back, words-from, words-forth}
+
+-- What every value of the type `State` has: its arrays are full, and each number is within its width.
+pub record Value (s : State) : Type 0 where
+  pub local : length (s .line .pair .local) ≡ 16
+  pub remote : length (s .line .pair .remote) ≡ 16
+  pub counts : length (s .drops) ≡ slots
+  pub local-port : s .line .pair .«local_port» < 2 ^ 16
+  pub remote-port : s .line .pair .«remote_port» < 2 ^ 16
+  pub isn : s .line .isn < 2 ^ 32
+  pub peer-isn : s .line .«peer_isn» < 2 ^ 32
+  pub sent : s .sent < 2 ^ 64
+  pub seen : s .seen < 2 ^ 64
+  pub accepted : s .accepted < 2 ^ 64
+  pub drops : (i : ℕ) → getD (s .drops) i 0 < 2 ^ 64
+
+-- A state's bytes.
+
+-- as the parts that the code puts together: what stands before the addresses, both addresses, three numbers, the counts
+abbrev pub headOf : State → List ℕ
+headOf s =
+    s .line .pair .family
+    ∷ s .line .stage
+    ∷ s .«send_id»
+    ∷ s .«ask_id»
+    ∷ (bytes16 (s .line .pair .«local_port»)
+    ++ (bytes16 (s .line .pair .«remote_port») ++ (bytes32 (s .line .isn) ++ bytes32 (s .line .«peer_isn»))))
+
+abbrev pub numbersOf : State → List ℕ
+numbersOf s = s .sent ∷ s .seen ∷ s .accepted ∷ []
+
+abbrev pub fromNumbers : State → List ℕ
+fromNumbers s = wordBytes (numbersOf s) ++ wordBytes (s .drops)
+
+abbrev pub fromRemote : State → List ℕ
+fromRemote s = s .line .pair .remote ++ fromNumbers s
+
+abbrev pub fromLocal : State → List ℕ
+fromLocal s = s .line .pair .local ++ fromRemote s
+
+pub parts : (s : State) → encodeOf s ≡ headOf s ++ fromLocal s
+unfolding encodeOf joined rows wordBytes
+parts s = ap (λ (l : List ℕ). headOf s ++ (s .line .pair .local ++ (s .line .pair .remote ++ (wordBytes (numbersOf s) ++ l)))) (append-nil (wordBytes (s .drops)))
+
+-- each field begins where the one before ends, at the place that is named for it, and the last ends at the state's length
+abbrev pub Placed : ℕ → List Row → ℕ → Type 0
+Placed n [] end = n ≡ end
+Placed n (r ∷ l) end = (r .at ≡ n) × Placed (n + length (r .bytes)) l end
+
+pub in-place : (s : State) → Value s → Placed 0 (rows s) stateBytes
+unfolding rows
+in-place s v =
+    let a = v .local in
+    let b = v .remote in
+    let c = length-words (s .drops) in
+    let d = v .counts in
+    (refl, (refl, (refl, (refl, (refl, (refl, (refl, (refl, (refl, (omega arith, (omega arith, (omega arith, (omega arith, (omega arith, omega arith))))))))))))))
+
+-- "reading and writing it back gives the same bytes" ..
+
+-- n bytes, and all that stands behind them
+glue : (b x r : List ℕ) (at n : ℕ) → x ≡ take n (drop at b) → r ≡ drop (at + n) b → x ++ r ≡ drop at b
+glue b x r at n p q = (λ i. p i ++ (q ∙ sym (drop-drop n at b)) i) ∙ take-append-drop n (drop at b)
+
+module _ (b : List ℕ) (whole : length b ≡ stateBytes) (o : Octets b) where
+  behind : (at : ℕ) → Octets (drop at b)
+  behind at k = rw (getD-drop at b k 0) (o (at + k))
+
+  byte : (at : ℕ) → at < stateBytes → getD b at 0 ∷ [] ≡ take 1 (drop at b)
+  byte at h = rw (drop-cons b at 0 (omega arith))
+
+  two : (at : ℕ) → at + 2 ≤ stateBytes → bytes16 (get16 b at) ≡ take 2 (drop at b)
+  two at h = let d = length-drop at b in ap bytes16 (from16 b at) ∙ forth16 (drop at b) (omega arith) (behind at)
+
+  four : (at : ℕ) → at + 4 ≤ stateBytes → bytes32 (get32 b at) ≡ take 4 (drop at b)
+  four at h = let d = length-drop at b in ap bytes32 (from32 b at) ∙ forth32 (drop at b) (omega arith) (behind at)
+
+  eight : (at : ℕ) → at + 8 ≤ stateBytes → bytes64 (get64 b at) ≡ take 8 (drop at b)
+  eight at h = let d = length-drop at b in ap bytes64 (from64 b at) ∙ forth64 (drop at b) (omega arith) (behind at)
+
+  pub encode-decode : encodeOf (decodeOf b) ≡ b
+  unfolding encodeOf joined rows decodeOf decodeLine decodePair
+  encode-decode =
+      glue b _ _ familyAt 1 (byte familyAt (omega arith))
+      (glue b _ _ stageAt 1 (byte stageAt (omega arith))
+      (glue b _ _ sendIdAt 1 (byte sendIdAt (omega arith))
+      (glue b _ _ askIdAt 1 (byte askIdAt (omega arith))
+      (glue b _ _ localPortAt 2 (two localPortAt (omega arith))
+      (glue b _ _ remotePortAt 2 (two remotePortAt (omega arith))
+      (glue b _ _ isnAt 4 (four isnAt (omega arith))
+      (glue b _ _ peerIsnAt 4 (four peerIsnAt (omega arith))
+      (glue b _ _ localAt 16 refl
+      (glue b _ _ remoteAt 16 refl
+      (glue b _ _ sentAt 8 (eight sentAt (omega arith))
+      (glue b _ _ seenAt 8 (eight seenAt (omega arith))
+      (glue b _ _ acceptedAt 8 (eight acceptedAt (omega arith))
+      (glue b _ _ dropsAt (8 * slots) (words-forth slots b dropsAt o (omega arith)) (sym (drop-of-length-le b {i = stateBytes} (omega arith))))))))))))))))
+
+-- .. and writing and reading it back the same state
+
+module _ (s : State) (v : Value s) where
+  remote-from : drop 16 (fromLocal s) ≡ fromRemote s
+  remote-from = drop-at (s .line .pair .local) (fromRemote s) 16 (v .local)
+
+  numbers-from : (k : ℕ) → drop (32 + k) (fromLocal s) ≡ drop k (fromNumbers s)
+  numbers-from k =
+      sym (drop-drop k 32 (fromLocal s))
+      ∙ ap (drop k) (sym (drop-drop 16 16 (fromLocal s)) ∙ ap (drop 16) remote-from ∙ drop-at (s .line .pair .remote) (fromNumbers s) 16 (v .remote))
+
+  read : decodeOf (headOf s ++ fromLocal s) ≡ s
+  unfolding decodeOf decodeLine decodePair wordBytes
+  read i =
+      record {
+        line =
+            record {
+              stage = s .line .stage;
+              pair =
+                  record {
+                    family = s .line .pair .family;
+                    «local_port» = back16 (s .line .pair .«local_port») (v .local-port) i;
+                    «remote_port» = back16 (s .line .pair .«remote_port») (v .remote-port) i;
+                    local = take-at (s .line .pair .local) (fromRemote s) 16 (v .local) i;
+                    remote = (ap (take 16) remote-from ∙ take-at (s .line .pair .remote) (fromNumbers s) 16 (v .remote)) i;
+                  };
+              isn = back32 (s .line .isn) (v .isn) i;
+              «peer_isn» = back32 (s .line .«peer_isn») (v .peer-isn) i;
+            };
+        sent = (from64 (headOf s ++ fromLocal s) sentAt ∙ ap (λ (l : List ℕ). get64 l 0) (numbers-from 0) ∙ back64 (s .sent) (v .sent)) i;
+        seen = (from64 (headOf s ++ fromLocal s) seenAt ∙ ap (λ (l : List ℕ). get64 l 0) (numbers-from 8) ∙ back64 (s .seen) (v .seen)) i;
+        «send_id» = s .«send_id»;
+        «ask_id» = s .«ask_id»;
+        accepted = (from64 (headOf s ++ fromLocal s) acceptedAt ∙ ap (λ (l : List ℕ). get64 l 0) (numbers-from 16) ∙ back64 (s .accepted) (v .accepted)) i;
+        drops = (words-from slots (headOf s ++ fromLocal s) dropsAt 0 ∙ ap (λ (l : List ℕ). wordsAt slots l 0) (numbers-from 24) ∙ (rw (v .counts) at (words-back [] (s .drops) (v .drops)))) i;
+      }
+
+  pub decode-encode : decodeOf (encodeOf s) ≡ s
+  decode-encode = ap decodeOf (parts s) ∙ read

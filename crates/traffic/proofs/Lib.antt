@@ -1,0 +1,6 @@
+-- Laws that the functions' proofs share.
+pub mod Assembly
+pub mod Cases
+pub mod Covered
+pub mod Sizes
+pub mod Zeros

@@ -1,0 +1,77 @@
+// Traffic keys: document 01, "Traffic keys"; RFC 5925 §5.2, RFC 5926 §3.1. The definition is `trafficKey` of the crate `rules`.
+// Every secret and every way has one.
+ghost use mathlib.Core.Path.{_≡_};
+ghost use Prim.Native.Nat.{_+_, _≤_, min};
+ghost use Rattle.rules.specs.Mac.{context, derivationInput, aesKey, derivationKey, applied, trafficKey};
+ghost use Rattle.traffic.specs.Assembled.{Pushed, none};
+ghost use Rattle.traffic.specs.Filled.{padded20};
+ghost use Rattle.traffic.specs.Way.{flowOf};
+use crate::assembled::Assembled;
+use crate::way::Way;
+use keys::algorithm::HmacSha1_96;
+use keys::algorithm::output_bits;
+use keys::entry::Secret;
+
+// "one byte 1, the six bytes "TCP-AO""
+const LABEL: [u8; 7] = *b"\x01TCP-AO";
+
+// "The context is source address, destination address, source port, destination port, source ISN, destination ISN"
+fn push_context(a: Assembled, way: Way) -> Assembled
+    requires { ⌜ a .len + 44 ≤ 104 ⌝ }
+    ensures { λ r. ⌜ Pushed a (context (flowOf way)) r ⌝ }
+{
+    crate::way::push_addresses(a, way)
+        .push16(way.source_port)
+        .push16(way.destination_port)
+        .push32(way.source_isn)
+        .push32(way.destination_isn)
+}
+
+fn derivation_input(bits: u16, way: Way) -> Assembled
+    ensures { λ r. ⌜ Pushed none (derivationInput bits (flowOf way)) r ⌝ }
+{
+    let label = LABEL;
+    push_context(Assembled::new().push(&label), way).push16(bits)
+}
+
+// "AES-CMAC under the master key if that has 16 bytes; otherwise under AES-CMAC of the master key with an all-zero key"
+fn aes_key(key: &[u8]) -> [u8; 16]
+    ensures { λ r. ⌜ r ≡ aesKey (now (key .entry)) ⌝ }
+{
+    if key.len() == 16 {
+        let mut k = [0u8; 16];
+        octets::copy_at(&mut k, 0, key);
+        return k;
+    }
+    mac::cmac::cmac([0u8; 16], key)
+}
+
+// The algorithm's MAC under the master key.
+fn derived(algorithm: u8, key: &[u8], input: &[u8]) -> [u8; 20]
+    ensures { λ r. ⌜ r ≡ padded20 (applied algorithm (derivationKey algorithm (now (key .entry))) (now (input .entry))) ⌝ }
+{
+    if algorithm == 1 {
+        return mac::hmac::hmac_sha1(key, input);
+    }
+    let k = aes_key(key);
+    crate::context::padded(mac::cmac::cmac(k, input))
+}
+
+// How many bytes the master key has: what its length says, but never more than there are.
+fn key_bytes(len: u8) -> usize
+    ensures { λ r. ⌜ r ≡ min len 80 ⌝ }
+{
+    if len < 80 { len as usize } else { 80 }
+}
+
+// The traffic key; zeros stand behind one of algorithm 2.
+pub fn traffic_key(secret: Secret, way: Way) -> [u8; HmacSha1_96::TRAFFIC_KEY_BYTES]
+    ensures { λ r. ⌜ r ≡ padded20 (trafficKey secret (flowOf way)) ⌝ }
+{
+    let a = derivation_input(output_bits(secret.algorithm), way);
+    let input = a.bytes;
+    let end = a.len;
+    let key = secret.key;
+    let n = key_bytes(secret.key_len);
+    derived(secret.algorithm, &key[..n], &input[..end])
+}
