@@ -40,12 +40,7 @@ fn passive(syn: &[u8; 36]) -> State {
     let t = tables::head();
     let checked = tcpao::judge::judge_syn(&t, &tables::GAUGE, &tables::HEAD, syn, true);
     let v = checked.verdict;
-    rows::opening(
-        true,
-        b"SYN, without a state      ",
-        syn,
-        coded(v),
-    );
+    rows::opening(true, b"SYN, without a state      ", syn, coded(v));
     text(b"-\n");
     let j = tcpao::judge::open_passive(&t, &tables::GAUGE, &tables::HEAD, syn, HEAD_ISN, true);
     let state = j.state;
@@ -60,12 +55,7 @@ fn answered(syn_ack: &[u8; 36], state: State) -> State {
     let j = tcpao::judge::judge(&t, &tables::HEAD, &tables::GAUGE, syn_ack, state);
     let next = j.state;
     let v = j.verdict;
-    rows::opening(
-        false,
-        b"SYN+ACK, opens the gauge  ",
-        syn_ack,
-        coded(v),
-    );
+    rows::opening(false, b"SYN+ACK, opens the gauge  ", syn_ack, coded(v));
     rows::signs(next.send_id);
     next
 }

@@ -117,9 +117,11 @@ pub fn head() -> [u8; 208] {
 
 // The key that a KeyID or RNextKeyID names: 1, 2, or 0 for none.
 pub fn key_of(id: u8) -> u8 {
-    match id {
-        61 | 84 => 1,
-        62 | 85 => 2,
-        _ => 0,
+    if id == GAUGE_1 || id == HEAD_1 {
+        return 1;
     }
+    if id == GAUGE_2 || id == HEAD_2 {
+        return 2;
+    }
+    0
 }

@@ -6,6 +6,14 @@ use crate::words::key;
 use crate::words::text;
 use keys::table::Loaded;
 
+fn key_ids(name: &[u8], gauge: u8, head: u8) {
+    text(name);
+    decimal(gauge as u64);
+    text(b" from the gauge and ");
+    decimal(head as u64);
+    text(b" from the head station.\n");
+}
+
 fn loaded(answer: Loaded) {
     match answer {
         Loaded::Valid(n) => {
@@ -36,8 +44,16 @@ pub fn program() {
     text(
         b"pass ffffffff. Whatever the order of arrival, each end finds where a segment truly lies, written extension:number.\n\n",
     );
-    text(b"Key 1 is HMAC-SHA-1-96, with KeyID 61 from the gauge and 84 from the head station.\n");
-    text(b"Key 2 is AES-128-CMAC-96, with KeyID 62 from the gauge and 85 from the head station.\n");
+    key_ids(
+        b"Key 1 is HMAC-SHA-1-96, with KeyID ",
+        tables::GAUGE_1,
+        tables::HEAD_1,
+    );
+    key_ids(
+        b"Key 2 is AES-128-CMAC-96, with KeyID ",
+        tables::GAUGE_2,
+        tables::HEAD_2,
+    );
     checked();
 }
 
@@ -65,17 +81,17 @@ pub fn first() {
 
 pub fn asked() {
     text(
-        b"     The head station's operator asks that the gauge sign under key 2. Segments 10 to 12 say so; 7 to 9 were signed before,\n",
+        b"     The head station's operator asks that the gauge sign under key 2. Segments 10 to 12 say so; 7 to 9 were signed\n",
     );
     text(
-        b"     and where they come late the gauge goes back to key 1 until the next that asks for key 2.\n",
+        b"     before, and where one comes late the gauge goes back to key 1 until the next that asks for key 2.\n",
     );
 }
 
 pub fn gauge_signs(id: u8) {
     text(b"     The gauge signs what follows under ");
     key(id);
-    text(b".\n");
+    text(b". The forgery 16 comes first and moves no reference.\n");
 }
 
 fn listed(no: u8) {
@@ -118,12 +134,13 @@ pub fn ends() {
 
 pub fn reasons() {
     text(
-        b"\nDemand 3, proved of every order, promises the verdict on each true segment, the reference, and how many are accepted and\n",
+        b"\nDemand 3 (docs/CLAIMS.md) is proved of every order: where no forgery verifies under a key, each true segment is accepted\n",
     );
     text(
-        b"dropped in all. The drops agree number by number since each forgery fails at the same test in both orders, and the\n",
+        b"with its extension, and the reference and how many were accepted and dropped in all are the same. Here the drops agree\n",
     );
     text(
-        b"outgoing key does since the last true segment to reach the gauge asks for key 2 in both.\n",
+        b"one by one too, since each forgery fails at the same test in both orders, and the outgoing key agrees since the last\n",
     );
+    text(b"true segment to reach the gauge asks for key 2 in both.\n");
 }
