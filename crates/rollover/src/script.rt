@@ -1,74 +1,89 @@
-// What arrives, numbered from 1 in the order of sending, and the orders of arrival. Assumes nothing.
+// What is sent, numbered from 1 in the order of sending, and the order of events in both runs. Assumes nothing.
 
-// What an arrival is: data as signed; or, made on the way from the one numbered before it, the same once more or a forgery.
-pub enum Kind {
-    Data,
-    Again,
-    DataChanged,
-    WrongMac,
-    UnknownKey,
-    FarAhead,
+// What a numbered segment is: data that one end signs; or, made on the way from the segment numbered before it, the same once more or a
+// forgery.
+pub const DATA: u8 = 0;
+
+pub const AGAIN: u8 = 1;
+
+const DATA_CHANGED: u8 = 2;
+
+const WRONG_MAC: u8 = 3;
+
+const UNKNOWN_KEY: u8 = 4;
+
+const FAR_AHEAD: u8 = 5;
+
+// Which byte of the copy is changed, and which of its bits: one of the data, the MAC's first, the KeyID, the sequence number's first.
+pub const CHANGED_BYTE: [u8; 6] = [0, 0, 40, 24, 22, 4];
+
+pub const CHANGED_BITS: [u8; 6] = [0, 0, 1, 128, 93, 112];
+
+pub fn kind(no: u8) -> u8 {
+    match no {
+        3 => DATA_CHANGED,
+        6 | 12 => AGAIN,
+        8 => WRONG_MAC,
+        14 => UNKNOWN_KEY,
+        16 => FAR_AHEAD,
+        _ => DATA,
+    }
 }
 
-// How many arrivals there are.
+// The last number.
 pub const LAST: u8 = 16;
 
-// The first run, in three parts: what is sent, then how it arrives.
-pub const SENT_BY_GAUGE: [u8; 6] = [1, 2, 3, 4, 5, 6];
-
-pub const FIRST_ORDER: [u8; 6] = [1, 5, 3, 2, 6, 4];
-
-pub const SENT_BEFORE_ASKING: [u8; 3] = [7, 8, 9];
-
-pub const SENT_ASKING: [u8; 3] = [10, 11, 12];
-
-pub const SECOND_ORDER: [u8; 6] = [10, 8, 9, 7, 11, 12];
-
-pub const SENT_UNDER_KEY_2: [u8; 4] = [13, 14, 15, 16];
-
-pub const THIRD_ORDER: [u8; 4] = [16, 14, 15, 13];
-
-// The second run: of the true arrivals at the gauge 7 to 12 the last again asks for key 2.
-pub const OTHER_ORDER: [u8; 16] = [15, 12, 6, 16, 9, 4, 8, 14, 5, 7, 2, 10, 13, 3, 11, 1];
-
-pub fn kind_of(no: u8) -> Kind {
-    match no {
-        3 => Kind::DataChanged,
-        6 | 12 => Kind::Again,
-        8 => Kind::WrongMac,
-        14 => Kind::UnknownKey,
-        16 => Kind::FarAhead,
-        _ => Kind::Data,
-    }
-}
-
-// Whether one of the ends signs it; else it is made on the way.
-pub fn is_signed(no: u8) -> bool {
-    match kind_of(no) {
-        Kind::Data => true,
-        Kind::Again => false,
-        Kind::DataChanged => false,
-        Kind::WrongMac => false,
-        Kind::UnknownKey => false,
-        Kind::FarAhead => false,
-    }
-}
-
-// Whether it arrives as one of the ends signed it.
-pub fn is_true(no: u8) -> bool {
-    match kind_of(no) {
-        Kind::Data => true,
-        Kind::Again => true,
-        Kind::DataChanged => false,
-        Kind::WrongMac => false,
-        Kind::UnknownKey => false,
-        Kind::FarAhead => false,
-    }
-}
-
+// 7 to 12 come from the head station, the others from the gauge.
 pub fn from_gauge(no: u8) -> bool {
     match no {
         7..=12 => false,
         _ => true,
     }
 }
+
+// Where the data of a segment begin, counted from the sender's ISN; 24 bytes in each.
+pub const OFFSETS: [u8; 17] = [0, 1, 25, 0, 49, 73, 0, 1, 0, 25, 49, 73, 0, 97, 0, 121, 0];
+
+// Events: SEND + n sends n, n alone is its arrival, and ASK is the head station's operator asking for key 2.
+pub const SEND: u8 = 100;
+
+pub const ASK: u8 = 200;
+
+pub const FIRST_RUN: [u8; 33] = [
+    101,
+    102,
+    103,
+    104,
+    105,
+    106,
+    1,
+    5,
+    3,
+    2,
+    6,
+    4,
+    107,
+    108,
+    109,
+    200,
+    110,
+    111,
+    112,
+    10,
+    8,
+    9,
+    7,
+    11,
+    12,
+    113,
+    114,
+    115,
+    116,
+    16,
+    14,
+    15,
+    13,
+];
+
+// The same arrivals. Of those at the gauge, 7 to 12, the last true one again asks for key 2.
+pub const SECOND_RUN: [u8; 16] = [15, 12, 6, 16, 9, 4, 8, 14, 5, 7, 2, 10, 13, 3, 11, 1];

@@ -2,10 +2,6 @@
 // They match this connection's two addresses and ports and no others. Assumes nothing.
 use crate::storage::lay;
 
-pub const GAUGE: [u8; 4] = [10, 4, 0, 17];
-
-pub const HEAD: [u8; 4] = [10, 4, 0, 1];
-
 pub const GAUGE_PORT: u16 = 40017;
 
 pub const HEAD_PORT: u16 = 4470;
@@ -19,109 +15,43 @@ pub const GAUGE_2: u8 = 62;
 
 pub const HEAD_2: u8 = 85;
 
-const KEY_1: [u8; 20] = *b"pond 4, first season";
-
-const KEY_2: [u8; 21] = *b"pond 4, second season";
-
-struct Side {
-    port: u16,
-    address: [u8; 4],
+pub fn address(gauge: bool) -> [u8; 4] {
+    if gauge { [10, 4, 0, 17] } else { [10, 4, 0, 1] }
 }
 
-struct Ids {
-    send: u8,
-    recv: u8,
+// An entry is kind 4, flags 1 (all options covered), algorithm, SendID, RecvID; local port low and high, remote port low and high; local
+// address and prefix, remote address and prefix; key length, and the key padded with zeros to 80 bytes.
+const GAUGE_FRONT: [u8; 24] =
+    *b"\x04\x01\x01\x3d\x54\x9c\x51\x9c\x51\x11\x76\x11\x76\x0a\x04\x00\x11\x20\x0a\x04\x00\x01\x20\x14";
+
+const HEAD_FRONT: [u8; 24] =
+    *b"\x04\x01\x01\x54\x3d\x11\x76\x11\x76\x9c\x51\x9c\x51\x0a\x04\x00\x01\x20\x0a\x04\x00\x11\x20\x14";
+
+fn front(gauge: bool) -> [u8; 24] {
+    if gauge { GAUGE_FRONT } else { HEAD_FRONT }
 }
 
-fn gauge_side() -> Side {
-    Side {
-        port: GAUGE_PORT,
-        address: GAUGE,
-    }
-}
-
-fn head_side() -> Side {
-    Side {
-        port: HEAD_PORT,
-        address: HEAD,
-    }
-}
-
-// What stands before the key: kind, flags (all options covered), algorithm, IDs; ports, low and high; addresses, all 32 bits; key length.
-fn front(algorithm: u8, ids: Ids, local: Side, remote: Side, key_length: u8) -> [u8; 24] {
-    let p = octets::bytes16(local.port);
-    let q = octets::bytes16(remote.port);
-    let a = local.address;
-    let b = remote.address;
-    [
-        4,
-        1,
-        algorithm,
-        ids.send,
-        ids.recv,
-        p[0],
-        p[1],
-        p[0],
-        p[1],
-        q[0],
-        q[1],
-        q[0],
-        q[1],
-        a[0],
-        a[1],
-        a[2],
-        a[3],
-        32,
-        b[0],
-        b[1],
-        b[2],
-        b[3],
-        32,
-        key_length,
-    ]
-}
-
-// Two entries of 104 bytes, the key at byte 24 of each and zeros behind it.
-fn table(one: Ids, two: Ids, local: Side, remote: Side) -> [u8; 208] {
+// Key 1 is for algorithm 1. The entry of key 2 differs from that of key 1 in the algorithm, 2, and in its IDs, one higher.
+pub fn table(gauge: bool) -> [u8; 208] {
+    let f = front(gauge);
     let mut t = [0u8; 208];
-    lay(&mut t, 0, &front(1, one, local, remote, 20));
-    lay(&mut t, 24, &KEY_1);
-    lay(&mut t, 104, &front(2, two, local, remote, 21));
-    lay(&mut t, 128, &KEY_2);
+    lay(&mut t, 0, &f);
+    lay(&mut t, 24, b"pond 4, first season");
+    lay(&mut t, 104, &f);
+    lay(&mut t, 106, &[2, second(f[3]), second(f[4])]);
+    lay(&mut t, 128, b"pond 4, other season");
     t
 }
 
-pub fn gauge() -> [u8; 208] {
-    let one = Ids {
-        send: GAUGE_1,
-        recv: HEAD_1,
-    };
-    let two = Ids {
-        send: GAUGE_2,
-        recv: HEAD_2,
-    };
-    table(one, two, gauge_side(), head_side())
-}
-
-pub fn head() -> [u8; 208] {
-    let one = Ids {
-        send: HEAD_1,
-        recv: GAUGE_1,
-    };
-    let two = Ids {
-        send: HEAD_2,
-        recv: GAUGE_2,
-    };
-    table(one, two, head_side(), gauge_side())
+fn second(id: u8) -> u8 {
+    std::num::wrapping_add_u8(id, 1)
 }
 
 // The key that a KeyID or RNextKeyID names: 1, 2, or 0 for none.
 pub fn key_of(id: u8) -> u8 {
-    if id == GAUGE_1 || id == HEAD_1 {
-        return 1;
+    match id {
+        GAUGE_1 | HEAD_1 => 1,
+        GAUGE_2 | HEAD_2 => 2,
+        _ => 0,
     }
-    if id == GAUGE_2 || id == HEAD_2 {
-        return 2;
-    }
-    0
 }

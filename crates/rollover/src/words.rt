@@ -1,7 +1,7 @@
-// What is printed: bytes as they stand, numbers, and the words for a kind, a direction, a key and a verdict, each padded to its
-// column's width. Assumes nothing.
+// What is printed: bytes as they stand, numbers, and the words for a kind, a direction, a key and a verdict, each padded to its column's
+// width. Assumes nothing.
 use crate::script;
-use crate::script::Kind;
+use crate::storage::part;
 use crate::tables;
 use libc::STDOUT_FILENO;
 
@@ -48,21 +48,24 @@ pub fn direction(from_gauge: bool) {
     }
 }
 
-// What is made from the segment numbered before it.
-fn made(no: u8, before: &[u8], behind: &[u8]) {
-    text(before);
-    two(std::num::wrapping_sub_u64(no as u64, 1));
-    text(behind);
-}
+// The kinds of `script`, 17 bytes each.
+const KINDS: [u8; 102] = *b"data             \
+    repeat of        \
+    forged data of   \
+    forged MAC of    \
+    forged KeyID of  \
+    forged number of ";
 
+// What a numbered segment is; all but data name the segment that they are made from.
 pub fn what(no: u8) {
-    match script::kind_of(no) {
-        Kind::Data => text(b"data                      "),
-        Kind::Again => made(no, b"data   ", b" once more       "),
-        Kind::DataChanged => made(no, b"forged ", b": data changed   "),
-        Kind::WrongMac => made(no, b"forged ", b": wrong MAC      "),
-        Kind::UnknownKey => made(no, b"forged ", b": unknown KeyID  "),
-        Kind::FarAhead => made(no, b"forged ", b": far ahead      "),
+    let kind = script::kind(no);
+    let at = kind as usize * 17;
+    text(part(&KINDS, at, 17));
+    if kind == script::DATA {
+        text(b"    ");
+    } else {
+        two(std::num::wrapping_sub_u64(no as u64, 1));
+        text(b"  ");
     }
 }
 
@@ -74,40 +77,36 @@ pub fn key(id: u8) {
     }
 }
 
-fn reason(n: u64) {
-    match n {
-        20 => text(b"bad length or offset "),
-        21 => text(b"malformed options    "),
-        22 => text(b"two signing options  "),
-        23 => text(b"pair not the state's "),
-        24 => text(b"wrong for the stage  "),
-        25 => text(b"TCP-AO missing       "),
-        26 => text(b"KeyID has no entry   "),
-        27 => text(b"MAC length wrong     "),
-        28 => text(b"no position          "),
-        29 => text(b"MAC differs          "),
-        _ => text(b"call refused         "),
-    }
-}
+// The meanings of 20 to 29, 21 bytes each.
+const REASONS: [u8; 210] = *b"bad length or offset \
+    malformed options    \
+    two signing options  \
+    pair not the state's \
+    wrong for the stage  \
+    TCP-AO missing       \
+    KeyID has no entry   \
+    MAC length wrong     \
+    no position          \
+    MAC differs          ";
 
-fn dropped(n: u64) {
+fn dropped(number: u8) {
     text(b"drop ");
-    two(n);
+    two(number as u64);
     text(b": ");
-    reason(n);
-}
-
-fn accepted(extension: u64) {
-    text(b"accept, extension ");
-    decimal(extension);
-    text(b"           ");
+    let at = std::num::wrapping_sub_u8(number, 20) as usize * 21;
+    text(part(&REASONS, at, 21));
 }
 
 // A verdict as `verdicts` keeps it.
 pub fn verdict(code: u64) {
-    match code % 256 {
-        0 => accepted(code / 4294967296),
-        1 => text(b"pass                          "),
-        _ => dropped(code % 256),
+    let number = code % 256;
+    if number == 0 {
+        text(b"accept, extension ");
+        decimal(code / 4294967296);
+        text(b"           ");
+    } else if number == 1 {
+        text(b"pass                          ");
+    } else {
+        dropped(number as u8);
     }
 }

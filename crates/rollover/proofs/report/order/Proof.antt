@@ -1,9 +1,9 @@
--- `rollover::titles::order` is safe and ends. Assumes nothing.
+-- `rollover::report::order` is safe and ends. Assumes nothing.
 use Prim.Native.Nat.{_-_, _≤_}
 use lib.ListN.{length}
 use borrow.Author.Needs.{needs}
-use Rattle.rollover.proofs.titles.order.Statement.{statement}
-use Rattle.rollover.proofs.titles.order.Tie as tie
+use Rattle.rollover.proofs.report.order.Statement.{statement}
+use Rattle.rollover.proofs.report.order.Tie as tie
 
 abbrev Inv-loop : tie.InvT-loop
 Inv-loop list i₀ i = i ≤ length list
