@@ -67,7 +67,8 @@ fn asked(ends: Ends) -> Ends {
     with_state(false, s.state, ends)
 }
 
-fn judged(gauge: bool, segment: &[u8], state: State) -> Judged {
+// Judges a segment that arrives at the gauge, or at the head station.
+pub fn judged(gauge: bool, segment: &[u8], state: State) -> Judged {
     let t = tables::table(gauge);
     let source = tables::address(!gauge);
     let destination = tables::address(gauge);

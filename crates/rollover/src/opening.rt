@@ -1,4 +1,5 @@
 // The opening: an active one at the gauge, a passive one at the head station. Assumes nothing.
+use crate::ends;
 use crate::ends::Ends;
 use crate::rows;
 use crate::segments;
@@ -57,10 +58,7 @@ fn passive(syn: &[u8; 36]) -> State {
 }
 
 fn answered(syn_ack: &[u8; 36], waiting: State) -> State {
-    let t = tables::table(true);
-    let source = tables::address(false);
-    let destination = tables::address(true);
-    let j = tcpao::judge::judge(&t, &source, &destination, syn_ack, waiting);
+    let j = ends::judged(true, syn_ack, waiting);
     let v = j.verdict;
     let state = j.state;
     rows::opening(
