@@ -26,8 +26,10 @@ archive: $(ARCHIVE)
 $(ARCHIVE): $(SOURCES)
 	rt staticlib embankery
 
+# The published vectors, then two ends that exchange segments across the rollover.
 demonstration: proved
 	cd crates/vectors/data && ../../../target/bin/vectors
+	target/bin/rollover
 
 bench: archive
 	cd rust && cargo run --offline --locked --release --quiet --package bench

@@ -1,0 +1,89 @@
+// The opening: an active one at the gauge, a passive one at the head station. Assumes nothing.
+use crate::ends;
+use crate::ends::Ends;
+use crate::rows;
+use crate::segments;
+use crate::tables;
+use crate::verdicts::coded;
+use rules::State;
+
+// Both ISNs lie just below the rollover.
+const GAUGE_ISN: u32 = 0xffffffc0;
+
+const HEAD_ISN: u32 = 0xffffffd8;
+
+fn active() -> State {
+    let t = tables::table(true);
+    let local = tables::address(true);
+    let remote = tables::address(false);
+    let opened = tcpao::open::open_active(
+        &t,
+        &local,
+        &remote,
+        tables::GAUGE_PORT,
+        tables::HEAD_PORT,
+        GAUGE_ISN,
+        tables::GAUGE_1,
+    );
+    opened.state
+}
+
+// Signs a segment without data: header 20, TCP-AO 16.
+fn signed(gauge: bool, number: u32, flags: u8, state: State, out: &mut [u8; 36]) -> State {
+    let t = tables::table(gauge);
+    let segment = segments::header(state, number, flags);
+    let s = tcpao::sign::sign(&t, &segment, out, state);
+    s.state
+}
+
+// The SYN is first judged without a state.
+fn judge_syn(syn: &[u8; 36]) {
+    let t = tables::table(false);
+    let source = tables::address(true);
+    let destination = tables::address(false);
+    let c = tcpao::judge::judge_syn(&t, &source, &destination, syn, true);
+    let v = c.verdict;
+    rows::opening(true, b"SYN, no state yet    ", syn, coded(v), 0);
+}
+
+fn passive(syn: &[u8; 36]) -> State {
+    let t = tables::table(false);
+    let source = tables::address(true);
+    let destination = tables::address(false);
+    let j = tcpao::judge::open_passive(&t, &source, &destination, syn, HEAD_ISN, true);
+    let v = j.verdict;
+    let state = j.state;
+    rows::opening(true, b"SYN, opens           ", syn, coded(v), state.send_id);
+    state
+}
+
+fn answered(syn_ack: &[u8; 36], waiting: State) -> State {
+    let j = ends::judged(true, syn_ack, waiting);
+    let v = j.verdict;
+    let state = j.state;
+    rows::opening(
+        false,
+        b"SYN+ACK, opens       ",
+        syn_ack,
+        coded(v),
+        state.send_id,
+    );
+    state
+}
+
+pub fn open() -> Ends {
+    let mut syn = [0u8; 36];
+    let mut syn_ack = [0u8; 36];
+    rows::opening_title();
+    let waiting = signed(true, GAUGE_ISN, segments::SYN, active(), &mut syn);
+    judge_syn(&syn);
+    let head = signed(
+        false,
+        HEAD_ISN,
+        segments::SYN_ACK,
+        passive(&syn),
+        &mut syn_ack,
+    );
+    let gauge = answered(&syn_ack, waiting);
+    Ends { gauge, head }
+}
