@@ -64,14 +64,6 @@ module _ (t : List ℕ) (at : ℕ) where
   unfolding item
   entry-at e q = q ∙ ap entryOf (tail-is t at)
 
--- a first test, and a second one of what passed it
-
-pub and-no : (a b r : Bool) → r ≡ a → r ≡ false → false ≡ (a && b)
-and-no a b r e h = rw (sym e ∙ h)
-
-pub and-yes : (a b r q : Bool) → r ≡ a → r ≡ true → q ≡ b → q ≡ (a && b)
-and-yes a b r q e h g = rw (sym e ∙ h) g
-
 -- what a first test decided
 
 or-hit : (a b c : Bool) → a ≡ true → (a || b) ≡ c → true ≡ c
