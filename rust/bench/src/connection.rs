@@ -8,35 +8,39 @@ const PORTS: [u16; 2] = [50_000, 179];
 const ISNS: [u32; 2] = [0x1234_5678, 0x9abc_def0];
 const ADDRESSES: [[u8; 4]; 2] = [[10, 11, 12, 13], [172, 27, 28, 29]];
 
-/// Which local ports and which remote addresses an entry matches, beside any remote port and any
-/// local address.
-pub struct Whom {
+/// One side of whom an entry matches. The address has 4 or 16 bytes.
+#[derive(Clone)]
+pub struct Side {
     pub ports: [u16; 2],
-    /// 4 or 16 bytes.
-    pub remote: Vec<u8>,
+    pub address: Vec<u8>,
     pub bits: u8,
 }
 
-impl Whom {
-    pub fn anybody() -> Whom {
-        Whom {
-            ports: [0, 65_535],
-            remote: vec![0; 4],
+impl Side {
+    pub const ANY_PORT: [u16; 2] = [0, 65_535];
+
+    /// Any IPv4 address and any port.
+    pub fn any() -> Side {
+        Side {
+            ports: Side::ANY_PORT,
+            address: vec![0; 4],
             bits: 0,
         }
     }
 }
 
 /// One entry of a key table, by `KEY`.
-pub fn entry(algorithm: u8, send_id: u8, recv_id: u8, whom: &Whom) -> Vec<u8> {
-    let kind = if whom.remote.len() == 4 { 4 } else { 6 };
-    let mut entry = vec![kind, 1, algorithm, send_id, recv_id];
-    for port in [whom.ports[0], whom.ports[1], 0, 65_535] {
+pub fn entry(algorithm: u8, ids: [u8; 2], local: &Side, remote: &Side) -> Vec<u8> {
+    let kind = if remote.address.len() == 4 { 4 } else { 6 };
+    let mut entry = vec![kind, 1, algorithm, ids[0], ids[1]];
+    for port in [local.ports, remote.ports].concat() {
         entry.extend(port.to_be_bytes());
     }
-    entry.extend(vec![0; whom.remote.len() + 1]);
-    entry.extend(&whom.remote);
-    entry.extend([whom.bits, KEY.len() as u8]);
+    for side in [local, remote] {
+        entry.extend(&side.address);
+        entry.push(side.bits);
+    }
+    entry.push(KEY.len() as u8);
     entry.extend(KEY);
     entry.extend([0; 80 - KEY.len()]);
     entry
@@ -60,7 +64,7 @@ impl End {
                 [100 + i, i]
             }
         };
-        let entry_of = |i: u8| entry(algorithm, ids(i)[0], ids(i)[1], &Whom::anybody());
+        let entry_of = |i: u8| entry(algorithm, ids(i), &Side::any(), &Side::any());
         let [send_id, recv_id] = ids(entries - 1);
         let there = 1 - here;
 

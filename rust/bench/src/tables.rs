@@ -1,6 +1,6 @@
 //! Checking a key table of 64 entries, against one HMAC-SHA-1 of 1,400 bytes.
 
-use crate::connection::{entry, Whom, KEY};
+use crate::connection::{entry, Side, KEY};
 use crate::timing::Table;
 use bench::{check_table, hmac_sha1, Bytes};
 use reference::{boundary, Rules};
@@ -10,37 +10,54 @@ const ROUNDS: usize = 201;
 /// Calls to a round.
 const COUNT: usize = 10;
 
-/// What each of 64 entries is, by its index.
-type Row = fn(u8) -> Vec<u8>;
+/// A table of 64 entries, by their index.
+struct Entries {
+    name: &'static str,
+    entry: fn(u8) -> Vec<u8>,
+}
 
-const TABLES: [(&str, Row); 4] = [
-    ("IPv4, different IDs", |i| {
-        entry(1, i, 100 + i, &Whom::anybody())
-    }),
-    ("IPv4, the same IDs, different ports", |i| {
-        let port = 1_000 + u16::from(i);
-        let whom = Whom {
-            ports: [port, port],
-            ..Whom::anybody()
-        };
-        entry(1, 1, 2, &whom)
-    }),
-    ("IPv6, the same IDs, different /128", |i| {
-        entry(1, 1, 2, &host(i, [0, 65_535]))
-    }),
-    ("IPv6, the same IDs and /128, ports", |i| {
-        let port = 1_000 + u16::from(i);
-        entry(1, 1, 2, &host(7, [port, port]))
-    }),
+/// Where all entries share their IDs, each is compared with all before it: with its ports, then with
+/// one address, then with the other.
+const TABLES: [Entries; 4] = [
+    Entries {
+        name: "IPv4, different IDs",
+        entry: |i| entry(1, [i, 100 + i], &Side::any(), &Side::any()),
+    },
+    Entries {
+        name: "IPv4, the same IDs, ports differ",
+        entry: |i| {
+            let ports = [1_000 + u16::from(i); 2];
+            let local = Side {
+                ports,
+                ..Side::any()
+            };
+            entry(1, [1, 2], &local, &Side::any())
+        },
+    },
+    Entries {
+        name: "IPv6, the same IDs, one /128 differs",
+        entry: |i| {
+            let local = Side {
+                bits: 0,
+                address: vec![0; 16],
+                ..host(0)
+            };
+            entry(1, [1, 2], &local, &host(i))
+        },
+    },
+    Entries {
+        name: "IPv6, the same IDs, second /128 differs",
+        entry: |i| entry(1, [1, 2], &host(i), &host(7)),
+    },
 ];
 
 /// A host's IPv6 address whose last byte is given.
-fn host(last: u8, ports: [u16; 2]) -> Whom {
-    let mut remote = b"\x20\x01\x0d\xb8 IPv6 host ".to_vec();
-    remote.push(last);
-    Whom {
-        ports,
-        remote,
+fn host(last: u8) -> Side {
+    let mut address = b"\x20\x01\x0d\xb8 IPv6 host ".to_vec();
+    address.push(last);
+    Side {
+        ports: Side::ANY_PORT,
+        address,
         bits: 128,
     }
 }
@@ -58,9 +75,9 @@ pub fn run() {
         ROUNDS,
         10.0,
     );
-    for (label, row) in TABLES {
-        let bytes: Vec<u8> = (0..64).flat_map(row).collect();
-        table.row(label, true, COUNT, &mut || ours(&bytes), &mut hmac);
+    for Entries { name, entry } in &TABLES {
+        let bytes: Vec<u8> = (0..64).flat_map(entry).collect();
+        table.row(name, true, COUNT, &mut || ours(&bytes), &mut hmac);
     }
     table.verdict("Checks of a table");
 
@@ -71,13 +88,15 @@ pub fn run() {
         ROUNDS,
         1.25,
     );
-    for (label, row) in TABLES {
-        let bytes: Vec<u8> = (0..64).flat_map(row).collect();
-        table.row(label, true, COUNT, &mut || ours(&bytes), &mut || {
+    // The last is only reported: there the two look at the sides in different order.
+    for (i, Entries { name, entry }) in TABLES.iter().enumerate() {
+        let bytes: Vec<u8> = (0..64).flat_map(entry).collect();
+        let limited = i < 3;
+        table.row(name, limited, COUNT, &mut || ours(&bytes), &mut || {
             plain(&bytes)
         });
     }
-    table.verdict("Checks of a table");
+    table.verdict("Checks of the first three");
 }
 
 fn ours(table: &[u8]) {
