@@ -2,3 +2,4 @@
 pub mod Bytes
 pub mod Tests
 pub mod Walk
+pub mod Marks

@@ -5,21 +5,32 @@ use mathlib.Core.Path.{_≡_, refl, sym, ap, _∙_, subst}
 use mathlib.Core.List.{List, _++_}
 use native.Mathlib.Omega.{arith}
 use native.Mathlib.Numerals.{add-one}
-use lib.ListN.{length, getD, drop, drop-of-length-le}
+use lib.ListN.{length, getD, take, drop, drop-of-length-le}
 use lib.Seq.{drop-cons}
-use borrow.Author.Tests.{eq-eqb, ne-eqb, le-leb, lt-leb, lt-ltb, le-ltb}
+use lib.Bits.{bitOr, and-le-l, and-le-r, or-add-and}
+use lib.Dec.{eqb, leb}
+use borrow.Author.Tests.{eq-eqb, ne-eqb, eqb-true, eqb-false, lt-ltb, le-ltb}
 use Rattle.octets.specs.Octets.{get16}
 use Rattle.wire.specs.Prefix.{agree, clearPast}
-use Rattle.keys.specs.Entry.{width, sideOf}
-use Rattle.keys.specs.Match.{fixed, meet}
+use Rattle.keys.specs.Entry.{width, padded, sideOf, selectorOf}
+use Rattle.keys.specs.Match.{fixed, meet, overlap}
 use Rattle.keys.specs.Table.{Line, first, zeros, sideLines}
 use Rattle.keys.specs.LineLaws.{lacks, passed-first, first-passed, first-given}
 use Rattle.keys.proofs.Bytes.{tail, agree-padded}
 use Rattle.keys.specs.declared.entry.Side.{Side}
+use Rattle.keys.specs.declared.entry.Selector.{Selector}
 
 pub and-last : (b : Bool) → (b && true) ≡ b
 and-last true = refl
 and-last false = refl
+
+-- a first test, and a second one of what passed it
+
+pub and-no : (a b r : Bool) → r ≡ a → r ≡ false → false ≡ (a && b)
+and-no a b r e h = rw (sym e ∙ h)
+
+pub and-yes : (a b r q : Bool) → r ≡ a → r ≡ true → q ≡ b → q ≡ (a && b)
+and-yes a b r q e h g = rw (sym e ∙ h) g
 
 -- a number that lines give, and what follows where they give none
 pub given : (a b : List Line) (n : ℕ) → n ≡ first a → (n ≡ 0 → ⊥) → n ≡ first (a ++ b)
@@ -32,22 +43,42 @@ passing a b n m l e z q = q ∙ sym (first-passed a b (passed-first a l (sym e �
 pub agree-by : (a b : List ℕ) (n m : ℕ) (r : Bool) → r ≡ agree n a b → n ≡ m → r ≡ agree m a b
 agree-by a b n m r e q = e ∙ ap (λ (k : ℕ). agree k a b) q
 
--- a side read from an entry's bytes against another
+-- an entry's bytes against a selector
 
-module _ (f : ℕ) (e : List ℕ) (ports at : ℕ) (b : Side) (x y h l : ℕ) (xe : x ≡ get16 e (ports + 2)) (he : h ≡ min x (b .high)) (ye : y ≡ get16 e ports) (le : l ≡ max y (b .low)) where
-  pub ports-apart : h < l → false ≡ meet f (sideOf (width f) ports at e) b
-  unfolding meet sideOf
-  ports-apart k =
-      rw (lt-leb (max (get16 e ports) (b .low)) (min (get16 e (ports + 2)) (b .high)) (subst (λ (n : ℕ). n < max (get16 e ports) (b .low)) (he ∙ ap (λ (n : ℕ). min n (b .high)) xe) (subst (λ (n : ℕ). h < n) (le ∙ ap (λ (n : ℕ). max n (b .low)) ye) k)))
+module _ (e : List ℕ) where
+  abbrev portsMeet : ℕ → Side → Bool
+  portsMeet ports b = leb (max (get16 e ports) (b .low)) (min (get16 e (ports + 2)) (b .high))
 
-  pub sides-meet : (w p q n : ℕ) (r : Bool) → l ≤ h → w ≡ width f → p ≡ fixed f (getD e (at + w) 0) → q ≡ fixed f (b .bits) → n ≡ min p q → r ≡ agree n (tail e at) (b .address)
-      → r ≡ meet f (sideOf (width f) ports at e) b
-  unfolding meet sideOf
-  sides-meet w p q n r k we pe qe ne re =
+  abbrev addressesMeet : ℕ → ℕ → Side → Bool
+  addressesMeet f at b = agree (min (fixed f (getD e (at + width f) 0)) (fixed f (b .bits))) (padded (take (width f) (drop at e))) (b .address)
+
+  pub ports-by : (ports : ℕ) (b : Side) (x y l h : ℕ) → x ≡ get16 e ports → l ≡ max x (b .low) → y ≡ get16 e (ports + 2) → h ≡ min y (b .high) → leb l h ≡ portsMeet ports b
+  ports-by ports b x y l h xe le ye he = λ i. leb ((le ∙ ap (λ (n : ℕ). max n (b .low)) xe) i) ((he ∙ ap (λ (n : ℕ). min n (b .high)) ye) i)
+
+  pub addresses-by : (f at : ℕ) (b : Side) (w p q n : ℕ) (r : Bool) → w ≡ width f → p ≡ fixed f (getD e (at + w) 0) → q ≡ fixed f (b .bits) → n ≡ min p q → r ≡ agree n (tail e at) (b .address)
+      → r ≡ addressesMeet f at b
+  addresses-by f at b w p q n r we pe qe ne re =
       let m = min (fixed f (getD e (at + width f) 0)) (fixed f (b .bits)) in
       let z : n ≡ m = ne ∙ (λ i. min ((pe ∙ ap (λ (v : ℕ). fixed f (getD e (at + v) 0)) we) i) (qe i)) in
-      rw (le-leb (max (get16 e ports) (b .low)) (min (get16 e (ports + 2)) (b .high)) (subst (λ (v : ℕ). max (get16 e ports) (b .low) ≤ v) (he ∙ ap (λ (v : ℕ). min v (b .high)) xe) (subst (λ (v : ℕ). v ≤ h) (le ∙ ap (λ (v : ℕ). max v (b .low)) ye) k)), and-last)
-      (agree-by (tail e at) (b .address) n m r re z ∙ agree-padded e (b .address) at (width f) m (omega arith))
+      agree-by (tail e at) (b .address) n m r re z ∙ agree-padded e (b .address) at (width f) m (omega arith)
+
+  shuffle : (p q r s : Bool) → ((p && (r && true)) && ((q && (s && true)) && true)) ≡ (p && (q && (r && s)))
+  shuffle true true true true = refl
+  shuffle true true true false = refl
+  shuffle true true false s = refl
+  shuffle true false true s = refl
+  shuffle true false false s = refl
+  shuffle false q r s = refl
+
+  -- the ports of both sides, then the addresses
+  pub overlap-is : (b : Selector) (w : ℕ) → w ≡ width (getD e 0 0) → getD e 0 0 ≡ b .family
+      → (portsMeet 9 (b .remote) && (portsMeet 5 (b .local) && (addressesMeet (getD e 0 0) (14 + w) (b .remote) && addressesMeet (getD e 0 0) 13 (b .local)))) ≡ overlap (selectorOf (width (getD e 0 0)) e) b
+  unfolding overlap selectorOf meet sideOf
+  overlap-is b w we fe =
+      let f = getD e 0 0 in
+      rw (eq-eqb f (b .family) fe)
+      (ap (λ (v : ℕ). portsMeet 9 (b .remote) && (portsMeet 5 (b .local) && (addressesMeet f (14 + v) (b .remote) && addressesMeet f 13 (b .local)))) we
+      ∙ sym (shuffle (portsMeet 9 (b .remote)) (portsMeet 5 (b .local)) (addressesMeet f (14 + width f) (b .remote)) (addressesMeet f 13 (b .local))))
 
 -- 15 of one side, whose family's addresses have w bytes
 
@@ -63,13 +94,26 @@ side-set f s w r b e h q g = rw (le-ltb (8 * width f) (s .bits) (omega arith), s
     flip true = refl
     flip false = refl
 
--- a loop over the padding
+-- a loop over the padding: `d` is 0 exactly if the bytes passed are
 
-pub zeros-more : (s : List ℕ) (i : ℕ) (r : Bool) → i < length s → getD s i 0 ≡ 0 → zeros (drop i s) ≡ r → zeros (drop (i + 1) s) ≡ r
-zeros-more s i r h e q = rw add-one (sym (rw (drop-cons s i 0 h, eq-eqb (getD s i 0) 0 e)) ∙ q)
+either : (d x : ℕ) → eqb (bitOr d x) 0 ≡ (eqb d 0 && eqb x 0)
+either d x = go (eqb d 0) (eqb x 0) refl refl
+  where
+    none : bitOr d x ≡ 0 → (d ≡ 0) × (x ≡ 0)
+    none e = let o = or-add-and d x in let l = and-le-l d x in let r = and-le-r d x in (omega arith, omega arith)
 
-pub zeros-not : (s : List ℕ) (i : ℕ) (r : Bool) → i < length s → (getD s i 0 ≡ 0 → ⊥) → zeros (drop i s) ≡ r → false ≡ r
-zeros-not s i r h e q = sym (rw (drop-cons s i 0 h, ne-eqb (getD s i 0) 0 e)) ∙ q
+    go : (p q : Bool) → eqb d 0 ≡ p → eqb x 0 ≡ q → eqb (bitOr d x) 0 ≡ (p && q)
+    go true true e f = rw (eqb-true d 0 e, eqb-true x 0 f)
+    go true false e f = ne-eqb _ _ (λ z. eqb-false x 0 f (none z .1))
+    go false q e f = ne-eqb _ _ (λ z. eqb-false d 0 e (none z .0))
 
-pub zeros-end : (s : List ℕ) (i : ℕ) (r : Bool) → length s ≤ i → zeros (drop i s) ≡ r → true ≡ r
-zeros-end s i r h q = sym (ap zeros (drop-of-length-le s h)) ∙ q
+regroup : (p q r : Bool) → ((p && q) && r) ≡ (p && (q && r))
+regroup true q r = refl
+regroup false q r = refl
+
+pub zeros-more : (s : List ℕ) (i d : ℕ) (r : Bool) → i < length s → (eqb d 0 && zeros (drop i s)) ≡ r → (eqb (bitOr d (getD s i 0)) 0 && zeros (drop (i + 1) s)) ≡ r
+zeros-more s i d r h q =
+    rw (add-one, either d (getD s i 0), regroup) (sym (ap (λ (l : List ℕ). eqb d 0 && zeros l) (drop-cons s i 0 h)) ∙ q)
+
+pub zeros-end : (s : List ℕ) (i d : ℕ) (r : Bool) → length s ≤ i → (eqb d 0 && zeros (drop i s)) ≡ r → eqb d 0 ≡ r
+zeros-end s i d r h q = sym (and-last (eqb d 0)) ∙ sym (ap (λ (l : List ℕ). eqb d 0 && zeros l) (drop-of-length-le s h)) ∙ q

@@ -64,14 +64,6 @@ module _ (t : List ℕ) (at : ℕ) where
   unfolding item
   entry-at e q = q ∙ ap entryOf (tail-is t at)
 
--- a first test, and a second one of what passed it
-
-pub and-no : (a b r : Bool) → r ≡ a → r ≡ false → false ≡ (a && b)
-and-no a b r e h = rw (sym e ∙ h)
-
-pub and-yes : (a b r q : Bool) → r ≡ a → r ≡ true → q ≡ b → q ≡ (a && b)
-and-yes a b r q e h g = rw (sym e ∙ h) g
-
 -- what a first test decided
 
 or-hit : (a b c : Bool) → a ≡ true → (a || b) ≡ c → true ≡ c
@@ -223,6 +215,13 @@ module _ {t : List ℕ} {limit at i : ℕ} (w : Walking t limit at i) where
   pub walk-sound : (n : ℕ) → n ≡ first (itemLines (take i (entries t)) (itemAt t at)) → n ≡ 0 → at + size (getD t at 0) ≤ length t
   walk-sound n q z = sound-inside t at (item-good (take i (entries t)) (itemAt t at) (sym q ∙ z))
 
+  -- the entry that begins here is one more of those taken
+  pub walk-more : (n : ℕ) → n ≡ first (itemLines (take i (entries t)) (itemAt t at)) → n ≡ 0 → take (i + 1) (entries t) ≡ take i (entries t) ++ (itemAt t at .entry ∷ [])
+  walk-more n q z =
+      let b = take i (entries t) in
+      let x = itemAt t at in
+      taken-more (entries t) b (entries (drop (at + size (getD t at 0)) t)) (x .entry) i (w .taken) (w .split ∙ ap (λ (m : List Entry). b ++ m) (entries-next t at (item-good b x (sym q ∙ z))))
+
   pub walk-next : (n s : ℕ) → at < length t → (i ≡ limit → ⊥) → n ≡ first (itemLines (take i (entries t)) (itemAt t at)) → n ≡ 0 → s ≡ size (getD t at 0) → Walking t limit (at + s) (i + 1)
   unfolding first
   walk-next n s h e q z y =
@@ -233,7 +232,7 @@ module _ {t : List ℕ} {limit at i : ℕ} (w : Walking t limit at i) where
       let k = w .counted in
       let v : drop (at + size (getD t at 0)) t ≡ drop (at + s) t = ap (λ (m : ℕ). drop (at + m) t) (sym y) in
       let c : entries t ≡ b ++ (x .entry ∷ entries (drop (at + s) t)) = w .split ∙ ap (λ (m : List Entry). b ++ m) (entries-next t at g ∙ ap (λ (m : List ℕ). x .entry ∷ entries m) v) in
-      let d : take (i + 1) (entries t) ≡ b ++ (x .entry ∷ []) = taken-more (entries t) b (entries (drop (at + s) t)) (x .entry) i (w .taken) c in
+      let d = walk-more n q z in
       record {
         within = omega arith;
         counted = omega arith;

@@ -2,9 +2,12 @@
 // Every value of the types is an input. Where an entry is read from its bytes, it is there whole.
 ghost use mathlib.Core.Path.{_≡_};
 ghost use Prim.Native.Nat.{_+_, _≤_, max, min};
-ghost use lib.ListN.{length, getD};
-ghost use Rattle.keys.specs.Entry.{size, width, sideOf, selectorOf};
-ghost use Rattle.keys.specs.Match.{fixed, holds, matches as matchesOf, meet, overlap, share};
+ghost use lib.ListN.{length, take, drop, getD};
+ghost use lib.Dec.{leb};
+ghost use Rattle.octets.specs.Octets.{get16};
+ghost use Rattle.wire.specs.Prefix.{agree};
+ghost use Rattle.keys.specs.Entry.{size, width, padded, selectorOf};
+ghost use Rattle.keys.specs.Match.{fixed, holds, matches as matchesOf, overlap, share};
 use crate::entry::Ids;
 use crate::entry::Pair;
 use crate::entry::Selector;
@@ -69,22 +72,29 @@ pub fn matches(s: Selector, p: Pair) -> bool
     side_holds(s.family, s.remote, p.remote_port, b)
 }
 
-// Whether a side of an entry, read from its bytes, has a port and an address in common with another side.
-// Its ports stand at `ports`, its address at `at`. Nothing is copied: the loader asks this of many pairs.
-fn side_meets(e: &[u8], family: u8, ports: usize, at: usize, b: Side) -> bool
-    requires { ⌜ (ports + 4 ≤ length (now e)) × (at + width family + 1 ≤ length (now e)) ⌝ }
-    ensures { λ r. ⌜ r ≡ meet family (sideOf (width family) ports at (now (e .entry))) b ⌝ }
+// Whether a side of an entry has a port in common with another side. Its ports stand at `ports` of the entry's bytes.
+fn ports_meet(e: &[u8], ports: usize, b: Side) -> bool
+    requires { ⌜ ports + 4 ≤ length (now e) ⌝ }
+    ensures { λ r. ⌜ r ≡ leb (max (get16 (now (e .entry)) ports) (b .low)) (min (get16 (now (e .entry)) (ports + 2)) (b .high)) ⌝ }
 {
-    if smaller(octets::load16(e, ports + 2), b.high) < larger(octets::load16(e, ports), b.low) {
-        return false;
-    }
+    let low = larger(octets::load16(e, ports), b.low);
+    let high = smaller(octets::load16(e, ports + 2), b.high);
+    low <= high
+}
+
+// Whether a side of an entry has an address in common with another side. Its address stands at `at` of the entry's bytes.
+fn addresses_meet(e: &[u8], family: u8, at: usize, b: Side) -> bool
+    requires { ⌜ at + width family + 1 ≤ length (now e) ⌝ }
+    ensures { λ r. ⌜ r ≡ agree (min (fixed family (getD (now (e .entry)) (at + width family) 0)) (fixed family (b .bits))) (padded (take (width family) (drop at (now (e .entry))))) (b .address) ⌝ }
+{
     let y = b.address;
     let x = fixed_bits(family, e[at + width_of(family)]);
     let n = shorter(x, fixed_bits(family, b.bits));
     wire::prefix::agrees(&e[at..], &y, n)
 }
 
-// Some socket pair is matched by the entry whose bytes begin with e's, and by b.
+// Some socket pair is matched by the entry whose bytes begin with e's, and by b. Nothing of e is copied, and ports are compared first:
+// the loader asks this of many pairs.
 pub(crate) fn overlaps(e: &[u8], b: Selector) -> bool
     requires { ⌜ size (getD (now e) 0 0) ≤ length (now e) ⌝ }
     ensures { λ r. ⌜ r ≡ overlap (selectorOf (width (getD (now (e .entry)) 0 0)) (now (e .entry))) b ⌝ }
@@ -94,10 +104,16 @@ pub(crate) fn overlaps(e: &[u8], b: Selector) -> bool
     if family != other {
         return false;
     }
-    if !side_meets(e, family, 9, 14 + width_of(family), b.remote) {
+    if !ports_meet(e, 9, b.remote) {
         return false;
     }
-    side_meets(e, family, 5, 13, b.local)
+    if !ports_meet(e, 5, b.local) {
+        return false;
+    }
+    if !addresses_meet(e, family, 14 + width_of(family), b.remote) {
+        return false;
+    }
+    addresses_meet(e, family, 13, b.local)
 }
 
 pub(crate) fn shares(a: Ids, b: Ids) -> bool

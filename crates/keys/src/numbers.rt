@@ -51,18 +51,17 @@ fn side_number(family: u8, s: Side) -> u8
     0
 }
 
-// Whether every byte from n on is zero.
+// Whether every byte from n on is zero. All are looked at, so that the compiler can take many at once.
 fn zero_from(s: &[u8], n: usize) -> bool
     ensures { λ r. ⌜ r ≡ zeros (drop n (now (s .entry))) ⌝ }
 {
+    let mut set: u8 = 0;
     let mut i: usize = n;
     while i < s.len() {
-        if s[i] != 0 {
-            return false;
-        }
+        set = set | s[i];
         i += 1;
     }
-    true
+    set == 0
 }
 
 fn key_number(s: Secret) -> u8

@@ -1,9 +1,10 @@
 // The key table as a whole: the loader with its numbers 10 to 17, and the searches. Document 01, "Key table (house bytes)" and "Numbers given back".
 // Any bytes are a table. Entries before another are read again from their bytes, their IDs first, so that no array of them is kept.
 ghost use mathlib.Core.Path.{_≡_};
-ghost use mathlib.Core.Bool.{_&&_};
+ghost use mathlib.Core.Bool.{cond, _&&_};
 ghost use Prim.Native.Nat.{_+_, _≤_, _<_};
 ghost use lib.ListN.{length, take, getD};
+ghost use lib.Dec.{eqb};
 ghost use Rattle.keys.specs.Entry.{size, itemAt, sound, entries};
 ghost use Rattle.keys.specs.Match.{share, overlap};
 ghost use Rattle.keys.specs.Table.{first, itemLines, clashing, loaded, checked, nobody, found, hasId, answers, sendEntry, recvEntry, anyEntry};
@@ -18,6 +19,7 @@ use crate::entry::ids_of;
 use crate::entry::known_kind;
 use crate::entry::selector_of;
 use crate::entry::size_of;
+use wire::bytes::byte_at;
 
 // "At most 64 entries".
 pub const MAX_ENTRIES: usize = 64;
@@ -85,7 +87,7 @@ fn clashes_before(table: &[u8], i: usize, e: Entry) -> bool
     false
 }
 
-// The number, 11 or 10 and on to 17, of what begins at `at` behind i entries; 0 if none applies.
+// The number, 11 or 10 and on to 17, of what begins at `at`, where the first i entries are compared with it; 0 if none applies.
 fn number_at(table: &[u8], at: usize, i: usize) -> u8
     requires { ⌜ at < length (now table) ⌝ }
     ensures { λ r. ⌜ r ≡ first (itemLines (take i (entries (now (table .entry)))) (itemAt (now (table .entry)) at)) ⌝ }
@@ -107,20 +109,50 @@ fn number_at(table: &[u8], at: usize, i: usize) -> u8
     0
 }
 
-// The table's answer where so many entries are allowed.
+// The IDs of what begins at `at`; a byte that is not there counts as 0.
+fn ids_at(table: &[u8], at: usize) -> Ids
+    requires { ⌜ at < length (now table) ⌝ }
+    ensures { λ r. ⌜ r ≡ itemAt (now (table .entry)) at .entry .ids ⌝ }
+{
+    Ids {
+        send: byte_at(&table[at..], 3),
+        recv: byte_at(&table[at..], 4),
+    }
+}
+
+// How many of the i entries before one of these IDs have to be compared with it: none where neither ID is marked.
+fn to_compare(sends: &[u8; 256], recvs: &[u8; 256], ids: Ids, i: usize) -> usize
+    ensures { λ r. ⌜ r ≡ cond (eqb (getD (now (sends .entry)) (ids .send) 0) 0 && eqb (getD (now (recvs .entry)) (ids .recv) 0) 0) 0 i ⌝ }
+{
+    if sends[ids.send as usize] != 0 {
+        return i;
+    }
+    if recvs[ids.recv as usize] != 0 {
+        return i;
+    }
+    0
+}
+
+// The table's answer where so many entries are allowed. The SendIDs and RecvIDs of the entries passed are marked: an entry that
+// shares neither clashes with none of them.
 pub fn load(table: &[u8], limit: usize) -> Loaded
     ensures { λ r. ⌜ r ≡ loaded limit (now (table .entry)) ⌝ }
 {
+    let mut sends = [0u8; 256];
+    let mut recvs = [0u8; 256];
     let mut at: usize = 0;
     let mut i: usize = 0;
     while at < table.len() {
         if i == limit {
             return Loaded::Refused(12, i);
         }
-        let n = number_at(table, at, i);
+        let ids = ids_at(table, at);
+        let n = number_at(table, at, to_compare(&sends, &recvs, ids, i));
         if n != 0 {
             return Loaded::Refused(n, i);
         }
+        sends[ids.send as usize] = 1;
+        recvs[ids.recv as usize] = 1;
         at = at + size_of(table[at]);
         i += 1;
     }

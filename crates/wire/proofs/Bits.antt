@@ -7,12 +7,13 @@ use mathlib.Core.List.{List}
 use lib.ListN.{length, getD}
 use lib.Dec.{eqb, ltb}
 use lib.Pow.{shl-exact, mod-pow-add}
-use lib.Bits.{bitAnd, and-mask}
+use lib.Bits.{bitAnd, bitOr, bitXor, and-mask}
 use native.Mathlib.Omega.{arith}
 use native.Mathlib.Nat.{add-zero, add-suc, pow-suc, div-div-eq-div-mul, div-one, one-mul, mod-one}
 use native.Mathlib.Numerals.{add-one}
 use borrow.Author.Tests.{eq-eqb, ne-eqb, eqb-true, eqb-false, lt-ltb, le-ltb, ltb-true, ltb-false}
 use Rattle.wire.specs.Prefix.{agree, clearTo, clearPast}
+use Rattle.wire.proofs.Same.{kept}
 
 -- the first n bits of a byte, and those past them
 abbrev topEqual : ℕ → ℕ → ℕ → Bool
@@ -97,6 +98,18 @@ pub agree-last : (a b : List ℕ) (i w p n x y : ℕ) → x < 256 → y < 256 �
     → agree (8 * i) a b ≡ true → topEqual n x y ≡ agree p a b
 agree-last a b i w p n x y ha hb ea eb q h k e =
     (λ j. topEqual n (ea j) (eb j)) ∙ last a b w (omega arith) (omega arith) p n h k (rw q at e)
+
+-- the bytes before i agree exactly if the difference d is 0: one byte more
+pub agree-kept : (a b : List ℕ) (i d : ℕ) → getD a i 0 < 256 → getD b i 0 < 256 → eqb d 0 ≡ agree (8 * i) a b → eqb (bitOr d (bitXor (getD a i 0) (getD b i 0))) 0 ≡ agree (8 * (i + 1)) a b
+agree-kept a b i d ha hb e =
+    let n : 8 * (i + 1) ≡ 8 * i + 8 = omega arith in
+    kept d (getD a i 0) (getD b i 0) ∙ rw (e, n, byte a b i ha hb 8 (omega arith), div-one (getD a i 0), div-one (getD b i 0))
+
+-- bytes at the front that differ decide
+pub agree-front : (a b : List ℕ) (n p : ℕ) (r : Bool) → r ≡ agree (8 * n) a b → r ≡ false → 8 * n ≤ p → false ≡ agree p a b
+agree-front a b n p r e z h =
+    let k : p ≡ 8 * n + (p - 8 * n) = omega arith in
+    rw k (sym (stays (8 * n) (p - 8 * n) a b (sym e ∙ z)))
 
 -- a mask of the low bits
 pub one-shl : (k : ℕ) → k ≤ 8 → (1 * 2 ^ k) % 2 ^ 64 ≡ 2 ^ k

@@ -32,7 +32,7 @@ unfolding sameBytes
 step a b i h k = rw (add-one, drop-cons a i 0, drop-cons b i 0)
 
 -- a byte's difference is 0 exactly if the bytes are equal, and once it is not 0 it stays so
-kept : (d x y : ℕ) → eqb (bitOr d (bitXor x y)) 0 ≡ (eqb d 0 && eqb x y)
+pub kept : (d x y : ℕ) → eqb (bitOr d (bitXor x y)) 0 ≡ (eqb d 0 && eqb x y)
 kept d x y = go (eqb d 0) (eqb x y) refl refl where
   zero-of : bitOr d (bitXor x y) ≡ 0 → (d ≡ 0) × (x ≡ y)
   zero-of e =

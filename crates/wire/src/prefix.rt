@@ -1,7 +1,8 @@
 // Address prefixes by shifts and masks: document 01, "Key table", "the first prefix-length bits agree", and number 15, "address bits set past it".
 // Assumes nothing: addresses of any length, and prefixes longer than they are. A byte that is not there counts as 0.
 ghost use mathlib.Core.Path.{_≡_};
-ghost use Prim.Native.Nat.{_-_, _/_, _%_, _^_, _≤_, min};
+ghost use Prim.Native.Nat.{_*_, _-_, _/_, _%_, _^_, _≤_, min};
+ghost use lib.ListN.{length};
 ghost use lib.Dec.{eqb};
 ghost use Rattle.wire.specs.Prefix.{agree, clearPast};
 use crate::bytes::byte_at;
@@ -17,13 +18,37 @@ fn byte_agrees(x: u8, y: u8, n: usize) -> bool
     p == q
 }
 
-// The first `bits` bits of two addresses are the same.
+fn smaller(n: usize, m: usize) -> usize
+    ensures { λ r. ⌜ r ≡ min n m ⌝ }
+{
+    if n < m { n } else { m }
+}
+
+// The first n bytes of two addresses are the same. All are looked at, so that the compiler can take many at once.
+fn front_agrees(a: &[u8], b: &[u8], n: usize) -> bool
+    requires { ⌜ (n ≤ length (now a)) × (n ≤ length (now b)) ⌝ }
+    ensures { λ r. ⌜ r ≡ agree (8 * n) (now (a .entry)) (now (b .entry)) ⌝ }
+{
+    let mut difference: u8 = 0;
+    let mut i: usize = 0;
+    while i < n {
+        difference = difference | (a[i] ^ b[i]);
+        i += 1;
+    }
+    difference == 0
+}
+
+// The first `bits` bits of two addresses are the same: first the bytes that both have, then those that one lacks, then what is left of a byte.
 pub fn agrees(a: &[u8], b: &[u8], bits: u8) -> bool
     ensures { λ r. ⌜ r ≡ agree bits (now (a .entry)) (now (b .entry)) ⌝ }
 {
     let whole = (bits as usize) >> 3;
     let rest = (bits as usize) & 7;
-    let mut i: usize = 0;
+    let both = smaller(whole, smaller(a.len(), b.len()));
+    if !front_agrees(a, b, both) {
+        return false;
+    }
+    let mut i: usize = both;
     while i < whole {
         if byte_at(a, i) != byte_at(b, i) {
             return false;

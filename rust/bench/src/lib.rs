@@ -1,4 +1,4 @@
-//! Safe calls of the archive's four functions on messages (include/embankery.h).
+//! Safe calls of the archive's functions that are timed or compared here (include/embankery.h).
 //!
 //! A slice is a pointer that is good for its length, and a `&mut` slice overlaps no other: that is
 //! all that the header asks of a caller, so each call here is safe.
@@ -34,6 +34,29 @@ mod c {
             message_len: usize,
             out: *mut u8,
             out_len: usize,
+        ) -> u64;
+        pub fn tcpao_check_table(table: *const u8, table_len: usize) -> u64;
+        pub fn tcpao_judge(
+            table: *const u8,
+            table_len: usize,
+            source: *const u8,
+            source_len: usize,
+            destination: *const u8,
+            destination_len: usize,
+            segment: *const u8,
+            segment_len: usize,
+            state: *mut u8,
+            state_len: usize,
+        ) -> u64;
+        pub fn tcpao_sign(
+            table: *const u8,
+            table_len: usize,
+            segment: *const u8,
+            segment_len: usize,
+            out: *mut u8,
+            out_len: usize,
+            state: *mut u8,
+            state_len: usize,
         ) -> u64;
     }
 }
@@ -77,6 +100,48 @@ pub fn aes128_cmac(key: &[u8], message: &[u8], out: &mut [u8]) -> u64 {
             message.len(),
             out.as_mut_ptr(),
             out.len(),
+        )
+    }
+}
+
+pub fn check_table(table: &[u8]) -> u64 {
+    unsafe { c::tcpao_check_table(table.as_ptr(), table.len()) }
+}
+
+pub fn judge(
+    table: &[u8],
+    source: &[u8],
+    destination: &[u8],
+    segment: &[u8],
+    state: &mut [u8],
+) -> u64 {
+    unsafe {
+        c::tcpao_judge(
+            table.as_ptr(),
+            table.len(),
+            source.as_ptr(),
+            source.len(),
+            destination.as_ptr(),
+            destination.len(),
+            segment.as_ptr(),
+            segment.len(),
+            state.as_mut_ptr(),
+            state.len(),
+        )
+    }
+}
+
+pub fn sign(table: &[u8], segment: &[u8], out: &mut [u8], state: &mut [u8]) -> u64 {
+    unsafe {
+        c::tcpao_sign(
+            table.as_ptr(),
+            table.len(),
+            segment.as_ptr(),
+            segment.len(),
+            out.as_mut_ptr(),
+            out.len(),
+            state.as_mut_ptr(),
+            state.len(),
         )
     }
 }

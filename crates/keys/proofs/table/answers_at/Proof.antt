@@ -2,7 +2,8 @@
 use borrow.Author.Needs.{needs}
 use mathlib.Core.Path.{ap, _∙_}
 use borrow.Author.Tests.{not-true, not-false}
-use Rattle.keys.proofs.Walk.{tail-whole, ids-at, selector-at, and-no, and-yes}
+use Rattle.keys.proofs.Tests.{and-no, and-yes}
+use Rattle.keys.proofs.Walk.{tail-whole, ids-at, selector-at}
 use Rattle.keys.specs.Match.{matches}
 use Rattle.keys.specs.Table.{hasId, answers}
 use Rattle.keys.specs.declared.entry.Ids.{Ids}

@@ -1,0 +1,101 @@
+//! A connection that is open at both ends, and key tables for it, as bytes: document 01, "Key table
+//! (house bytes)", and BOUNDARY.md, "The state".
+
+use bench::Bytes;
+
+pub const KEY: [u8; 16] = *b"sixteen key byte";
+const PORTS: [u16; 2] = [50_000, 179];
+const ISNS: [u32; 2] = [0x1234_5678, 0x9abc_def0];
+const ADDRESSES: [[u8; 4]; 2] = [[10, 11, 12, 13], [172, 27, 28, 29]];
+
+/// One side of whom an entry matches. The address has 4 or 16 bytes.
+#[derive(Clone)]
+pub struct Side {
+    pub ports: [u16; 2],
+    pub address: Vec<u8>,
+    pub bits: u8,
+}
+
+impl Side {
+    pub const ANY_PORT: [u16; 2] = [0, 65_535];
+
+    /// Any IPv4 address and any port.
+    pub fn any() -> Side {
+        Side {
+            ports: Side::ANY_PORT,
+            address: vec![0; 4],
+            bits: 0,
+        }
+    }
+}
+
+/// One entry of a key table, by `KEY`.
+pub fn entry(algorithm: u8, ids: [u8; 2], local: &Side, remote: &Side) -> Vec<u8> {
+    let kind = if remote.address.len() == 4 { 4 } else { 6 };
+    let mut entry = vec![kind, 1, algorithm, ids[0], ids[1]];
+    for port in [local.ports, remote.ports].concat() {
+        entry.extend(port.to_be_bytes());
+    }
+    for side in [local, remote] {
+        entry.extend(&side.address);
+        entry.push(side.bits);
+    }
+    entry.push(KEY.len() as u8);
+    entry.extend(KEY);
+    entry.extend([0; 80 - KEY.len()]);
+    entry
+}
+
+/// What one end of the connection holds. End 0 signs, end 1 judges.
+#[derive(Clone)]
+pub struct End {
+    pub table: Vec<u8>,
+    pub state: Vec<u8>,
+    pub address: [u8; 4],
+}
+
+impl End {
+    /// An end whose table has so many entries for anybody, with different IDs; the last is in use.
+    pub fn open(here: usize, algorithm: u8, entries: u8) -> End {
+        let ids = |i: u8| {
+            if here == 0 {
+                [i, 100 + i]
+            } else {
+                [100 + i, i]
+            }
+        };
+        let entry_of = |i: u8| entry(algorithm, ids(i), &Side::any(), &Side::any());
+        let [send_id, recv_id] = ids(entries - 1);
+        let there = 1 - here;
+
+        let mut state = vec![4, 1, send_id, recv_id];
+        state.extend(PORTS[here].to_be_bytes());
+        state.extend(PORTS[there].to_be_bytes());
+        state.extend(ISNS[here].to_be_bytes());
+        state.extend(ISNS[there].to_be_bytes());
+        for end in [here, there] {
+            state.extend(ADDRESSES[end]);
+            state.extend([0; 12]);
+        }
+        state.extend(u64::from(ISNS[here]).to_be_bytes());
+        state.extend(u64::from(ISNS[there]).to_be_bytes());
+        state.extend([0; 88]);
+        End {
+            table: (0..entries).flat_map(entry_of).collect(),
+            state,
+            address: ADDRESSES[here],
+        }
+    }
+}
+
+/// A segment of n bytes that end 0 may sign: no options, ACK.
+pub fn segment(n: usize) -> Vec<u8> {
+    let mut segment = Vec::new();
+    segment.extend(PORTS[0].to_be_bytes());
+    segment.extend(PORTS[1].to_be_bytes());
+    segment.extend((ISNS[0] + 1).to_be_bytes());
+    segment.extend((ISNS[1] + 1).to_be_bytes());
+    segment.extend([0x50, 0x10, 0x20, 0, 0, 0, 0, 0]);
+    segment.extend(Bytes(3).take(n - 20));
+    segment
+}
