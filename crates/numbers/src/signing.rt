@@ -20,6 +20,7 @@ use rules::Outcome;
 use rules::Place;
 use rules::State;
 use states::position::place_on;
+use states::position::value_of;
 use states::writers::is_open;
 use wire::options::Options;
 
@@ -132,15 +133,6 @@ fn segment_faults(added: u16, line: Line, segment: &[u8]) -> Outcome
         return ports;
     };
     stage_faults(line, segment)
-}
-
-fn value_of(place: Place) -> u64
-    ensures { λ r. ⌜ r ≡ value place ⌝ }
-{
-    match place {
-        Place::At(x) => x,
-        Place::Nowhere => 0,
-    }
 }
 
 // 36: "no position, or a SYN (bare or with ACK) whose position is not our ISN".

@@ -2,7 +2,7 @@
 // Assumes nothing.
 ghost use mathlib.Core.Path.{_≡_};
 ghost use Rattle.rules.specs.Position.{position};
-ghost use Rattle.rules.specs.Connection.{placeOn, extensionOf};
+ghost use Rattle.rules.specs.Connection.{placeOn, value, extensionOf};
 use crate::writers::is_open;
 use rules::Line;
 use rules::Place;
@@ -39,6 +39,16 @@ pub fn place_on(line: Line, reference: u64, number: u32) -> Place
         return locate(reference, number);
     }
     Place::At(number as u64)
+}
+
+// The position, where there is one.
+pub fn value_of(place: Place) -> u64
+    ensures { λ r. ⌜ r ≡ value place ⌝ }
+{
+    match place {
+        Place::At(x) => x,
+        Place::Nowhere => 0,
+    }
 }
 
 // "The extension is X divided by 2^32, rounded down."

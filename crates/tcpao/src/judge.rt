@@ -1,5 +1,5 @@
-// The calls that judge: document 01, "A connection's life" and "Numbers given back". `check` says which number or position; here the answer
-// and the new state are made of it. No call assumes anything; what a step assumes of the outcome is a fact of `check`.
+// The calls that judge: document 01, "A connection's life" and "Numbers given back". `numbers::check` says which number or position; here the answer
+// and the new state are made of it. No call assumes anything; what a step assumes of the outcome is a fact of that check.
 ghost use mathlib.Core.Path.{_≡_};
 ghost use mathlib.Core.Bool.{false, cond};
 ghost use Rattle.keys.specs.Table.{recvEntry};

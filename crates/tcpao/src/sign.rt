@@ -1,4 +1,4 @@
-// Signing: document 01, "A connection's life" and "What the MAC covers". The number is decided first (signing.rt); only then is a byte of the
+// Signing: document 01, "A connection's life" and "What the MAC covers". The number is decided first (`numbers::signing`); only then is a byte of the
 // output written, and only the signed length's. Assumes nothing at the call; the functions below it say what the tests left.
 ghost use mathlib.Core.Path.{_≡_};
 ghost use mathlib.Core.Bool.{cond};
