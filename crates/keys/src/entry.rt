@@ -67,7 +67,7 @@ pub(crate) fn size_of(kind: u8) -> usize
 }
 
 // How many bytes an address has.
-pub(crate) fn width_of(family: u8) -> usize
+pub fn width_of(family: u8) -> usize
     ensures { λ r. ⌜ r ≡ width family ⌝ }
 {
     if family == 4 { 4 } else { 16 }

@@ -1,5 +1,5 @@
 // The rules of a TCP-AO connection: the types that the calls take and give. What the calls do with them is defined in specs/;
-// the code is in the crate `tcpao`. Document 01, "Positions", "A connection's life", "Numbers given back".
+// the code is in `states`, `numbers` and `tcpao`. Document 01, "Positions", "A connection's life", "Numbers given back".
 // Every value of these types is a value that a call may get: no field is an enum, and nothing is assumed of it.
 use keys::entry::Pair;
 

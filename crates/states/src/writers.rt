@@ -49,18 +49,11 @@ pub fn pair_of(local: &[u8], remote: &[u8], local_port: u16, remote_port: u16) -
     }
 }
 
-// How many bytes an address has.
-fn width_of(family: u8) -> usize
-    ensures { λ r. ⌜ r ≡ width family ⌝ }
-{
-    if family == 4 { 4 } else { 16 }
-}
-
 // Whether an address is the one that a pair of this family holds in a field. What stands behind an IPv4 address there means nothing.
 pub fn is_address(address: &[u8], family: u8, field: [u8; 16]) -> bool
     ensures { λ r. ⌜ r ≡ sameBytes (now (address .entry)) (take (width family) field) ⌝ }
 {
-    let w = width_of(family);
+    let w = keys::entry::width_of(family);
     wire::bytes::same(address, &field[..w])
 }
 

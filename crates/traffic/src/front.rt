@@ -43,7 +43,7 @@ fn push_pseudo_header(a: Assembled, way: Way, len: usize) -> Assembled
     ensures { λ r. ⌜ Pushed a (pseudoHeader (flowOf way) len) r ⌝ }
 {
     let b = crate::way::push_addresses(a, way);
-    let w = crate::way::width_of(way.family);
+    let w = keys::entry::width_of(way.family);
     if w == 4 {
         let n = protocol_and_length(len);
         return b.push(&n);

@@ -19,19 +19,12 @@ pub struct Way {
     pub destination_isn: u32,
 }
 
-// How many bytes an address has.
-pub(crate) fn width_of(family: u8) -> usize
-    ensures { λ r. ⌜ r ≡ width family ⌝ }
-{
-    if family == 4 { 4 } else { 16 }
-}
-
 // Both addresses, with which the context and the pseudo-header begin.
 pub(crate) fn push_addresses(a: Assembled, way: Way) -> Assembled
     requires { ⌜ a .len + 32 ≤ 104 ⌝ }
     ensures { λ r. ⌜ Pushed a (flowOf way .source ++ flowOf way .destination) r ⌝ }
 {
-    let w = width_of(way.family);
+    let w = keys::entry::width_of(way.family);
     let source = way.source;
     let destination = way.destination;
     a.push(&source[..w]).push(&destination[..w])
