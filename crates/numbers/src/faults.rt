@@ -150,7 +150,7 @@ fn is_syn_ack(segment: &[u8]) -> bool
     false
 }
 
-// 24: "wrong segment for the stage". Open: a bare SYN; opening: anything but SYN with ACK;
+// 24: "wrong segment for the stage". Open: a bare SYN; opening: anything but SYN with ACK.
 fn stage_faults(line: Line, segment: &[u8]) -> Outcome
     ensures { λ r. ⌜ r ≡ first (stageTests line (now (segment .entry))) unrefused ⌝ }
 {
@@ -166,7 +166,7 @@ fn stage_faults(line: Line, segment: &[u8]) -> Outcome
     Outcome::Bad(24, 0)
 }
 
-// without a state: anything but a bare SYN.
+// 24 without a state: anything but a bare SYN.
 pub fn syn_faults(segment: &[u8]) -> Outcome
     ensures { λ r. ⌜ r ≡ first (synTests (now (segment .entry))) unrefused ⌝ }
 {

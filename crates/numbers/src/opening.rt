@@ -1,4 +1,5 @@
-// Which number an active opening or the operator's call gives: document 01, "Numbers given back", 10 to 18 and 35. Assumes nothing.
+// Which number an active opening or the operator's call gives: document 01, "Numbers given back", 10 to 18 and 35; an active
+// opening tests 19 before (`tcpao::open`). Assumes nothing.
 ghost use mathlib.Core.Path.{_≡_};
 ghost use mathlib.Core.Bool.{not};
 ghost use mathlib.Core.List.{[], _∷_, _++_};

@@ -1,5 +1,5 @@
 // Octets: bytes copied into a lent buffer, and numbers in network byte order (highest byte first).
-// Every other crate stands on this one. Assumes nothing.
+// Every other crate stands on this one. Copies and reads assume that the place lies inside the buffer; nothing else is assumed.
 ghost use mathlib.Core.Path.{_≡_};
 ghost use Prim.Native.Nat.{_+_, _≤_};
 ghost use lib.ListN.{length};
