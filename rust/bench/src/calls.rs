@@ -91,9 +91,9 @@ fn cases() -> Vec<(Keys, usize)> {
 
 pub fn against_reference() -> Outcome {
     let mut table = Table::new(
-        "Whole calls against a plain Rust implementation of the rules (rust/reference), which copies the\n\
-         message into Vecs. \"IDs\": 64 entries with different IDs; \"peers\": 64 with the same IDs and\n\
-         different remote addresses.",
+        "Whole calls against a plain Rust implementation of the rules (rust/reference), which\n\
+         copies the message into Vecs. \"IDs\": 64 entries with different IDs; \"peers\": 64 with the\n\
+         same IDs and different remote addresses.",
         "call, MAC, entries, bytes",
         "reference",
         ROUNDS,

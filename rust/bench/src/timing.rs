@@ -49,7 +49,8 @@ pub struct Table {
 impl Table {
     pub fn new(title: &str, what: &str, other: &str, rounds: usize, limit: Limit) -> Table {
         println!("\n{title}");
-        println!("Nanoseconds a call over {rounds} interleaved rounds. Buffers are reused, not cleared.\n");
+        println!("Nanoseconds a call over {rounds} interleaved rounds.");
+        println!("Buffers are reused, not cleared.\n");
         println!(
             "{:40} |            minimum            |            median",
             ""

@@ -91,11 +91,11 @@ pub fn judge_syn(
 ///
 /// It holds no key; the table goes beside it to each call, and may change between calls. A value is
 /// always a state of IPv4 or IPv6. Copies are apart from each other: of two that both sign, the peer
-/// sees one sender. `==` compares all bytes of two states, also the twelve behind an IPv4 address, which
-/// mean nothing; an opening sets these to zero.
+/// sees one sender. `==` compares all bytes of two states, also the twelve behind an IPv4 address,
+/// which mean nothing; an opening sets these to zero.
 ///
-/// Addresses are taken as they are: an IPv4-mapped one counts as IPv6, and of an IPv6 socket address the
-/// scope and the flow are dropped.
+/// Addresses are taken as they are: an IPv4-mapped one counts as IPv6, and of an IPv6 socket address
+/// the scope and the flow are dropped.
 ///
 /// ```
 /// use embankery::{Connection, Entry, KeyTable, UnknownKeyId, Verdict};
