@@ -6,7 +6,8 @@
 
 #include "embankery.h"
 
-enum { ENTRY = 104, STATE = 152, ROOM = 64, SYN = 2, ACK = 16, PORT_A = 40000, PORT_B = 179 };
+enum { ENTRY = EMBANKERY_IPV4_ENTRY_BYTES, STATE = EMBANKERY_STATE_BYTES, ROOM = 64 };
+enum { SYN = 2, ACK = 16, PORT_A = 40000, PORT_B = 179 };
 
 static const uint8_t A[4] = {10, 0, 0, 1}, B[4] = {10, 0, 0, 2};
 
@@ -40,11 +41,11 @@ static size_t make_segment(uint8_t segment[ROOM], uint16_t from, uint16_t to, ui
 /* The value beside the number, which must be the one expected. */
 static unsigned expect(unsigned number, uint64_t answer)
 {
-    if ((answer & 255) != number) {
-        fprintf(stderr, "expected %u, got %u\n", number, (unsigned)(answer & 255));
+    if (EMBANKERY_NUMBER(answer) != number) {
+        fprintf(stderr, "expected %u, got %u\n", number, EMBANKERY_NUMBER(answer));
         exit(1);
     }
-    return (unsigned)(answer >> 32);
+    return EMBANKERY_VALUE(answer);
 }
 
 int main(void)

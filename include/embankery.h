@@ -2,8 +2,9 @@
  * and a small TCP. Link libembankery.a (x86-64 Linux).
  *
  * Every call may be made with any bytes of any lengths: none asks for anything to be tested
- * beforehand. What C itself needs stays the caller's:
- *   - a pointer is good for the length beside it; where the length is 0 it is not used and may be NULL;
+ * beforehand. What C itself needs stays the caller's, and is said again at each call ("C needs"):
+ *   - a pointer is good for the length beside it; where the length is 0 it is not used and may be NULL
+ *     (tested, not proved);
  *   - a buffer lent for writing (a pointer without const) overlaps no other buffer of the call, so
  *     nothing is signed in place;
  *   - no other thread writes to a buffer of the call while it runs, or touches one lent for writing.
@@ -28,7 +29,8 @@ extern "C" {
 /* The answer.
  *
  * The calls whose names begin tcpao_ give a number in bits 0 to 7 of the answer, and a value in bits
- * 32 to 63. Bits 8 to 31 are zero.
+ * 32 to 63. Bits 8 to 31 are zero; bits 8 to 15 are kept for later versions, so take the number by
+ * EMBANKERY_NUMBER.
  *
  *   no.  meaning                                              value
  *    0   accept, or done                                      of tcpao_judge, tcpao_judge_syn and
@@ -36,7 +38,9 @@ extern "C" {
  *                                                             number extension; of tcpao_sign the signed
  *                                                             length; of tcpao_check_table how many
  *                                                             entries; else 0
- *    1   pass: a bare SYN that TCP-AO is not asked of         0
+ *    1   pass: a bare SYN without TCP-AO whose pair no entry  0
+ *        matches, or, with setting 0, one whose KeyID has no
+ *        entry for the pair
  *
  *   The table of keys is refused:                             the entry's index, from 0
  *   10   an entry is cut
@@ -71,7 +75,8 @@ extern "C" {
  *   33   its ports are not the state's
  *   34   it is the wrong segment for the stage
  *   35   no entry that matches the pair has the SendID (opening, signing) or the RecvID to ask
- *   36   its sequence number has no position, or it is a SYN whose position is not our ISN
+ *   36   its sequence number has no position, or it is a SYN (bare or with ACK) whose position is not
+ *        our ISN
  *   37   the output is too short
  *
  * Where several apply, 18 is given before 19, then 10 to 17, and then the others in the order of this
@@ -90,7 +95,8 @@ extern "C" {
 /* The key table.
  *
  * Entries one behind the other, at most EMBANKERY_ENTRIES; none is allowed. The order matters only for
- * the index of a refusal. Numbers of two bytes are big-endian. Of one entry, with an address of w bytes:
+ * which refusal is given, and its index. Numbers of two bytes are big-endian. Of one entry, with an
+ * address of w bytes:
  *
  *   bytes  field
  *   1      kind: 4 (IPv4, w = 4) or 6 (IPv6, w = 16)
@@ -105,6 +111,10 @@ extern "C" {
  *   1      key length, 1 to 80
  *   80     the key, and zeros behind it
  *
+ * An entry matches a socket pair of its family when both ports lie in the ranges and, on each side, the
+ * first prefix-length bits agree; prefix length 0 matches every address. Address bits past the prefix
+ * are zero.
+ *
  * Every call that takes a table checks it anew, as tcpao_check_table does.
  */
 #define EMBANKERY_ENTRIES 64
@@ -114,9 +124,11 @@ extern "C" {
 /* A connection's state.
  *
  * EMBANKERY_STATE_BYTES bytes of the caller's, which the openings write and the calls on a connection
- * read and write. Nothing else is kept anywhere, so a state may be copied, stored and given back as
- * bytes. Integers are big-endian. Any bytes are a state; one whose family is neither 4 nor 6, such as
- * all zero, belongs to no connection and gets 18.
+ * read and write. state must be writable even where the call is refused: the calls may write back the
+ * bytes that they found. Nothing else is kept anywhere, so a state may be copied, stored and given back
+ * as bytes; but an old copy takes the references, keys and counts back to what they were. Integers are
+ * big-endian. Any bytes are a state; one whose family is neither 4 nor 6, such as all zero, belongs to
+ * no connection and gets 18.
  *
  *   at   bytes  field
  *   0    1      family: 4 or 6
@@ -127,7 +139,8 @@ extern "C" {
  *   6    2      remote port
  *   8    4      our ISN
  *   12   4      the peer's ISN
- *   16   16     local address, IPv4 in the first four bytes
+ *   16   16     local address, IPv4 in the first four bytes; those behind are zero from an opening,
+ *               and are carried untouched
  *   32   16     remote address, likewise
  *   48   8      reference of the direction that we sign
  *   56   8      reference of the arriving direction
@@ -136,6 +149,10 @@ extern "C" {
  *
  * The segment that opens is not counted, and a count stops at 2^64 - 1. Later versions may append
  * fields; what stands here keeps its place.
+ *
+ * Once open, a segment's position is the whole number from 0 to 2^64 - 1 that has its sequence number as
+ * lower half and lies less than 2^31 from its direction's reference, if there is one; the extension is
+ * the upper half. While opening a segment's position is its sequence number, and its extension 0.
  *
  * WARNING: an opening that is refused, or whose SYN is only passed, does not clear the buffer. One that
  * was used before still holds the old connection, and later calls would go on with that. Look at the
@@ -147,15 +164,21 @@ extern "C" {
 #define EMBANKERY_ADDED_BYTES 16
 #define EMBANKERY_SEGMENT_BYTES 65535
 
-/* Checks a key table. Gives 0 with the number of entries, or 10 to 17 with an entry's index. */
+/* Checks a key table. Gives 0 with the number of entries, or 10 to 17 with an entry's index. Writes
+ * nothing.
+ *
+ * C needs: table is good for table_len bytes.
+ */
 uint64_t tcpao_check_table(const uint8_t *table, size_t table_len);
 
 /* Opens actively: writes the state of a connection whose SYN is yet to be signed and sent. send_id names
  * the entry whose key signs it; the entry must match the pair. The key asked of the peer is that
  * entry's RecvID.
  *
- * Gives 0, or 18 (of state_len only), 19, 10 to 17, 35. Writes all of state where it gives 0, and else
- * nothing: see the warning above.
+ * Gives 0, or 18 (of state_len only), 19, 10 to 17, 35. Writes all of state where it gives 0; else state
+ * stays: see the warning above.
+ *
+ * C needs: pointers good for their lengths; state overlaps neither table, local nor remote.
  */
 uint64_t tcpao_open_active(const uint8_t *table, size_t table_len, const uint8_t *local, size_t local_len,
                            const uint8_t *remote, size_t remote_len, uint16_t local_port,
@@ -169,28 +192,42 @@ uint64_t tcpao_open_active(const uint8_t *table, size_t table_len, const uint8_t
  * for the pair, setting decides: 0 gives 1 (pass), any other value gives 26.
  *
  * Gives 0 with the extension, which is 0; or 1, 19, 10 to 17, 20 to 22, 24 to 27, 29. Writes nothing.
+ *
+ * C needs: pointers good for their lengths.
  */
 uint64_t tcpao_judge_syn(const uint8_t *table, size_t table_len, const uint8_t *source, size_t source_len,
                          const uint8_t *destination, size_t destination_len, const uint8_t *segment,
                          size_t segment_len, uint8_t setting);
 
 /* Opens passively: takes the same bare SYN and our ISN, judges it again as tcpao_judge_syn does and, where
- * that accepts, writes the state of an open connection.
+ * that accepts, writes the state of an open connection. source is the peer, destination is us. The entry
+ * found gives the outgoing key and the key asked of the peer; the SYN's RNextKeyID may then change the
+ * outgoing key, as at tcpao_judge.
  *
  * Gives what tcpao_judge_syn gives, or 18 (of state_len only) before all others. Writes all of state where
- * it gives 0, and else nothing, also where it gives 1: see the warning above.
+ * it gives 0; else state stays, also where it gives 1: see the warning above.
+ *
+ * C needs: pointers good for their lengths; state overlaps neither table, source, destination nor segment.
  */
 uint64_t tcpao_open_passive(const uint8_t *table, size_t table_len, const uint8_t *source,
                             size_t source_len, const uint8_t *destination, size_t destination_len,
                             const uint8_t *segment, size_t segment_len, uint32_t isn, uint8_t setting,
                             uint8_t *state, size_t state_len);
 
-/* Judges an arriving segment on a connection. While opening that is the SYN+ACK; once open every segment
- * that carries SYN and ACK, or no SYN. An accepted SYN+ACK opens.
+/* Judges an arriving segment on a connection. source is the peer, destination is us. While opening the
+ * segment must be the SYN+ACK; once open it may be any that carries SYN and ACK, or no SYN.
  *
- * Gives 0 with the extension, or 18, 19, 10 to 17, 20 to 29. Where it gives 0 it writes state: what is
- * accepted moves the reference, may change the outgoing SendID, and is counted once open. A drop, 20 to
- * 29, on an open connection adds one to its count. Else state stays.
+ * Gives 0 with the extension, or 18, 19, 10 to 17, 20 to 29. It changes state so:
+ *   - 0 while opening: sets the stage to open, the peer's ISN to the segment's number, both references
+ *     to the ISNs, and all counts to 0;
+ *   - 0 once open: sets the arriving direction's reference to the larger of the old one and the
+ *     segment's position, and adds one to the count of accepted segments;
+ *   - 0 in both cases: where the segment's RNextKeyID is the SendID of an entry that matches the pair,
+ *     that becomes the outgoing SendID;
+ *   - 20 to 29 once open: adds one to that number's count.
+ * Else state stays.
+ *
+ * C needs: pointers good for their lengths; state overlaps neither table, source, destination nor segment.
  */
 uint64_t tcpao_judge(const uint8_t *table, size_t table_len, const uint8_t *source, size_t source_len,
                      const uint8_t *destination, size_t destination_len, const uint8_t *segment,
@@ -201,17 +238,23 @@ uint64_t tcpao_judge(const uint8_t *table, size_t table_len, const uint8_t *sour
  * opening only the bare SYN whose number is our ISN may be signed; once open a SYN+ACK or a segment
  * without SYN.
  *
- * out must have EMBANKERY_ADDED_BYTES more than the segment, else 37. Gives 0 with the signed length n, or
- * 18, 10 to 17, 30 to 37. Where it gives 0 it writes the first n bytes of out, and the reference in
- * state; what stands in out behind them stays. Else both stay.
+ * out must have at least EMBANKERY_ADDED_BYTES more than the segment, else 37. Gives 0 with the signed
+ * length n, or 18, 10 to 17, 30 to 37. Where it gives 0 it writes the first n bytes of out, and what
+ * stands behind them stays; in state it changes only the reference of the direction that we sign, to the
+ * larger of the old one and the segment's position. Else both stay.
+ *
+ * C needs: pointers good for their lengths; out overlaps neither table, segment nor state, and state
+ * neither table nor segment.
  */
 uint64_t tcpao_sign(const uint8_t *table, size_t table_len, const uint8_t *segment, size_t segment_len,
                     uint8_t *out, size_t out_len, uint8_t *state, size_t state_len);
 
 /* Asks the peer for another key: sets the RecvID that signed segments carry as RNextKeyID from now on. An
- * entry that matches the pair must have it.
+ * entry that matches the pair must have it. It may be asked while opening, too.
  *
- * Gives 0, or 18, 10 to 17, 35. Where it gives 0 it writes that one byte of state, and else nothing.
+ * Gives 0, or 18, 10 to 17, 35. Where it gives 0 it changes that one byte of state; else state stays.
+ *
+ * C needs: pointers good for their lengths; state does not overlap table.
  */
 uint64_t tcpao_ask(const uint8_t *table, size_t table_len, uint8_t recv_id, uint8_t *state,
                    size_t state_len);
@@ -223,18 +266,30 @@ uint64_t tcpao_ask(const uint8_t *table, size_t table_len, uint8_t recv_id, uint
  * stands in out behind the bytes written stays.
  */
 
-/* SHA-1 (FIPS 180-4) of the message: writes 20 bytes. */
+/* SHA-1 (FIPS 180-4) of the message: writes 20 bytes.
+ *
+ * C needs: pointers good for their lengths; out does not overlap message.
+ */
 uint64_t mac_sha1(const uint8_t *message, size_t message_len, uint8_t *out, size_t out_len);
 
-/* HMAC-SHA-1 (RFC 2104) of the message under a key of any length, also none: writes 20 bytes. */
+/* HMAC-SHA-1 (RFC 2104) of the message under a key of any length, also none: writes 20 bytes.
+ *
+ * C needs: pointers good for their lengths; out overlaps neither key nor message.
+ */
 uint64_t mac_hmac_sha1(const uint8_t *key, size_t key_len, const uint8_t *message, size_t message_len,
                        uint8_t *out, size_t out_len);
 
-/* One block encrypted by AES-128 (FIPS 197). key_len and block_len must be 16: writes 16 bytes. */
+/* One block encrypted by AES-128 (FIPS 197). key_len and block_len must be 16: writes 16 bytes.
+ *
+ * C needs: pointers good for their lengths; out overlaps neither key nor block.
+ */
 uint64_t mac_aes128(const uint8_t *key, size_t key_len, const uint8_t *block, size_t block_len,
                     uint8_t *out, size_t out_len);
 
-/* AES-CMAC (RFC 4493) of the message. key_len must be 16: writes 16 bytes. */
+/* AES-CMAC (RFC 4493) of the message. key_len must be 16: writes 16 bytes.
+ *
+ * C needs: pointers good for their lengths; out overlaps neither key nor message.
+ */
 uint64_t mac_aes128_cmac(const uint8_t *key, size_t key_len, const uint8_t *message, size_t message_len,
                          uint8_t *out, size_t out_len);
 

@@ -1,8 +1,7 @@
-//! Signing and judging: against the plain Rust implementation of the rules, and against the two
-//! MACs that they need.
+//! Signing and judging: against the reference, and against the two MACs that they need.
 
-use crate::connection::{segment, End, KEY};
-use crate::timing::Table;
+use crate::connection::{segment, End, Keys, KEY};
+use crate::timing::{Limit, Outcome, Table};
 use crate::{count, SIZES};
 use bench::{aes128_cmac, hmac_sha1, judge, sign, Bytes};
 use reference::{boundary, Rules};
@@ -22,15 +21,15 @@ struct Exchange {
 }
 
 impl Exchange {
-    fn new(algorithm: u8, entries: u8, n: usize) -> Exchange {
-        let mut signer = End::open(0, algorithm, entries);
+    fn new(algorithm: u8, keys: Keys, n: usize) -> Exchange {
+        let mut signer = End::open(0, algorithm, keys);
         let segment = segment(n);
         let mut signed = vec![0; n + 16];
         let answer = sign(&signer.table, &segment, &mut signed, &mut signer.state);
         assert_eq!(answer, (signed.len() as u64) << 32);
         Exchange {
             signer,
-            judge: End::open(1, algorithm, entries),
+            judge: End::open(1, algorithm, keys),
             segment,
             signed,
         }
@@ -71,48 +70,62 @@ impl Exchange {
 }
 
 /// Both must give the same before their times mean anything.
-fn compare(ours: &mut Exchange, plain: &mut Exchange) {
-    assert_eq!(ours.sign(), plain.reference_sign());
+fn compare(ours: &mut Exchange, reference: &mut Exchange) {
+    assert_eq!(ours.sign(), reference.reference_sign());
     assert_eq!(ours.judge(), 0);
-    assert_eq!(plain.reference_judge(), 0);
-    assert_eq!(ours.signed, plain.signed);
-    assert_eq!(ours.signer.state, plain.signer.state);
-    assert_eq!(ours.judge.state, plain.judge.state);
+    assert_eq!(reference.reference_judge(), 0);
+    assert_eq!(ours.signed, reference.signed);
+    assert_eq!(ours.signer.state, reference.signer.state);
+    assert_eq!(ours.judge.state, reference.judge.state);
 }
 
-pub fn against_reference() {
+/// Which tables and lengths are timed. One length is enough for the second table of 64 entries.
+fn cases() -> Vec<(Keys, usize)> {
+    let mut cases: Vec<(Keys, usize)> = Vec::new();
+    for keys in [Keys::One, Keys::Different] {
+        cases.extend(SIZES.map(|n| (keys, n)));
+    }
+    cases.push((Keys::Shared, 1_400));
+    cases
+}
+
+pub fn against_reference() -> Outcome {
     let mut table = Table::new(
-        "Whole calls against the plain Rust implementation of the rules (rust/reference).",
+        "Whole calls against a plain Rust implementation of the rules (rust/reference), which\n\
+         copies the message into Vecs. \"IDs\": 64 entries with different IDs; \"peers\": 64 with the\n\
+         same IDs and different remote addresses.",
         "call, MAC, entries, bytes",
-        "plain",
+        "reference",
         ROUNDS,
-        1.25,
+        Limit {
+            rows: "whole calls by the reference",
+            ratio: 1.25,
+            wanted: true,
+        },
     );
     for (algorithm, name) in ALGORITHMS {
-        for entries in [1, 64] {
-            for n in SIZES {
-                let mut ours = Exchange::new(algorithm, entries, n);
-                let mut plain = ours.clone();
-                compare(&mut ours, &mut plain);
-                let label = |call| format!("{call:<5} {name:<10} {entries:>2} {n:>6}");
-                table.row(
-                    &label("sign"),
-                    true,
-                    count(n),
-                    &mut || assert_eq!(black_box(&mut ours).sign() & 255, 0),
-                    &mut || assert_eq!(black_box(&mut plain).reference_sign() & 255, 0),
-                );
-                table.row(
-                    &label("judge"),
-                    true,
-                    count(n),
-                    &mut || assert_eq!(black_box(&mut ours).judge() & 255, 0),
-                    &mut || assert_eq!(black_box(&mut plain).reference_judge() & 255, 0),
-                );
-            }
+        for (keys, n) in cases() {
+            let mut ours = Exchange::new(algorithm, keys, n);
+            let mut reference = ours.clone();
+            compare(&mut ours, &mut reference);
+            let label = |call| format!("{call:<5} {name:<10} {:<8} {n:>6}", keys.name());
+            table.row(
+                &label("sign"),
+                true,
+                count(n),
+                &mut || assert_eq!(black_box(&mut ours).sign() & 255, 0),
+                &mut || assert_eq!(black_box(&mut reference).reference_sign() & 255, 0),
+            );
+            table.row(
+                &label("judge"),
+                true,
+                count(n),
+                &mut || assert_eq!(black_box(&mut ours).judge() & 255, 0),
+                &mut || assert_eq!(black_box(&mut reference).reference_judge() & 255, 0),
+            );
         }
     }
-    table.verdict("Whole calls");
+    table.end()
 }
 
 /// The traffic key of 29 bytes of input, and the MAC of the signed segment behind its extension and
@@ -129,20 +142,24 @@ fn two_macs(algorithm: u8, derivation: &[u8], covered: &[u8]) -> [u8; 20] {
     mac
 }
 
-pub fn against_macs() {
+pub fn against_macs() -> Outcome {
     const BYTES: usize = 1_400;
     let mut table = Table::new(
         "Whole calls on 1,400 bytes against the two MACs that they need (one entry has the limit).",
         "call, MAC, entries",
         "MACs",
         ROUNDS,
-        1.3,
+        Limit {
+            rows: "whole calls with one entry by their two MACs",
+            ratio: 1.3,
+            wanted: true,
+        },
     );
     let derivation = Bytes(5).take(29);
     let covered = Bytes(6).take(4 + 12 + BYTES + 16);
     for (algorithm, name) in ALGORITHMS {
-        for entries in [1, 64] {
-            let mut ours = Exchange::new(algorithm, entries, BYTES);
+        for keys in [Keys::One, Keys::Different, Keys::Shared] {
+            let mut ours = Exchange::new(algorithm, keys, BYTES);
             let mut macs = || {
                 black_box(two_macs(
                     algorithm,
@@ -150,22 +167,22 @@ pub fn against_macs() {
                     black_box(&covered),
                 ));
             };
-            let label = |call| format!("{call:<5} {name:<10} {entries:>2}");
+            let label = |call| format!("{call:<5} {name:<10} {}", keys.name());
             table.row(
                 &label("sign"),
-                entries == 1,
+                keys == Keys::One,
                 count(BYTES),
                 &mut || assert_eq!(black_box(&mut ours).sign() & 255, 0),
                 &mut macs,
             );
             table.row(
                 &label("judge"),
-                entries == 1,
+                keys == Keys::One,
                 count(BYTES),
                 &mut || assert_eq!(black_box(&mut ours).judge() & 255, 0),
                 &mut macs,
             );
         }
     }
-    table.verdict("Whole calls with one entry");
+    table.end()
 }

@@ -46,6 +46,54 @@ pub fn entry(algorithm: u8, ids: [u8; 2], local: &Side, remote: &Side) -> Vec<u8
     entry
 }
 
+/// The key table of an end. Its last entry is the one in use.
+#[derive(Clone, Copy, PartialEq, Eq)]
+pub enum Keys {
+    /// One entry, for anybody.
+    One,
+    /// 64 entries for anybody, with different IDs.
+    Different,
+    /// 64 entries with the same IDs, each for another remote address.
+    Shared,
+}
+
+impl Keys {
+    pub fn name(self) -> &'static str {
+        match self {
+            Keys::One => "1",
+            Keys::Different => "64 IDs",
+            Keys::Shared => "64 peers",
+        }
+    }
+
+    fn entries(self) -> u8 {
+        match self {
+            Keys::One => 1,
+            Keys::Different | Keys::Shared => 64,
+        }
+    }
+
+    /// SendID and RecvID of an entry at end 0; the other end has them exchanged.
+    fn ids(self, i: u8) -> [u8; 2] {
+        match self {
+            Keys::One | Keys::Different => [i, 100 + i],
+            Keys::Shared => [1, 2],
+        }
+    }
+
+    /// Whom an entry is for; the last entry of `Shared` has the peer's own address.
+    fn remote(self, i: u8, peer: [u8; 4]) -> Side {
+        match self {
+            Keys::One | Keys::Different => Side::any(),
+            Keys::Shared => Side {
+                address: vec![peer[0], peer[1], peer[2], peer[3] ^ (63 - i)],
+                bits: 32,
+                ..Side::any()
+            },
+        }
+    }
+}
+
 /// What one end of the connection holds. End 0 signs, end 1 judges.
 #[derive(Clone)]
 pub struct End {
@@ -55,18 +103,14 @@ pub struct End {
 }
 
 impl End {
-    /// An end whose table has so many entries for anybody, with different IDs; the last is in use.
-    pub fn open(here: usize, algorithm: u8, entries: u8) -> End {
-        let ids = |i: u8| {
-            if here == 0 {
-                [i, 100 + i]
-            } else {
-                [100 + i, i]
-            }
-        };
-        let entry_of = |i: u8| entry(algorithm, ids(i), &Side::any(), &Side::any());
-        let [send_id, recv_id] = ids(entries - 1);
+    pub fn open(here: usize, algorithm: u8, keys: Keys) -> End {
         let there = 1 - here;
+        let ids = |i: u8| [keys.ids(i)[here], keys.ids(i)[there]];
+        let entry_of = |i: u8| {
+            let remote = keys.remote(i, ADDRESSES[there]);
+            entry(algorithm, ids(i), &Side::any(), &remote)
+        };
+        let [send_id, recv_id] = ids(keys.entries() - 1);
 
         let mut state = vec![4, 1, send_id, recv_id];
         state.extend(PORTS[here].to_be_bytes());
@@ -81,7 +125,7 @@ impl End {
         state.extend(u64::from(ISNS[there]).to_be_bytes());
         state.extend([0; 88]);
         End {
-            table: (0..entries).flat_map(entry_of).collect(),
+            table: (0..keys.entries()).flat_map(entry_of).collect(),
             state,
             address: ADDRESSES[here],
         }

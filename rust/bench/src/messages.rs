@@ -1,6 +1,6 @@
 //! SHA-1, HMAC-SHA-1 and AES-CMAC against plain Rust of the same shape.
 
-use crate::timing::Table;
+use crate::timing::{Limit, Outcome, Table};
 use crate::{count, SIZES};
 use bench::{aes128_cmac, hmac_sha1, sha1, Bytes};
 use std::hint::black_box;
@@ -63,15 +63,19 @@ fn compare() -> usize {
     inputs
 }
 
-pub fn run() {
+pub fn run() -> Outcome {
     let inputs = compare();
     println!("{inputs} messages give the same by the archive and by plain Rust.");
     let mut table = Table::new(
-        "Functions on messages against plain Rust.",
+        "Functions on messages against plain Rust of the same shape (rust/plain).",
         "function, bytes",
         "plain",
         ROUNDS,
-        1.25,
+        Limit {
+            rows: "SHA-1 and AES-CMAC by plain Rust",
+            ratio: 1.25,
+            wanted: false,
+        },
     );
     let mut bytes = Bytes(11);
     for pair in &PAIRS {
@@ -88,5 +92,5 @@ pub fn run() {
             );
         }
     }
-    table.verdict("SHA-1 and AES-CMAC");
+    table.end()
 }

@@ -1,7 +1,8 @@
-//! Checking a key table of 64 entries, against one HMAC-SHA-1 of 1,400 bytes.
+//! Checking a key table of 64 entries, against one HMAC-SHA-1 of 1,400 bytes and against the
+//! reference.
 
 use crate::connection::{entry, Side, KEY};
-use crate::timing::Table;
+use crate::timing::{Limit, Outcome, Table};
 use bench::{check_table, hmac_sha1, Bytes};
 use reference::{boundary, Rules};
 use std::hint::black_box;
@@ -62,7 +63,7 @@ fn host(last: u8) -> Side {
     }
 }
 
-pub fn run() {
+pub fn against_hmac() -> Outcome {
     let message = Bytes(13).take(1_400);
     let mut out = [0; 20];
     let mut hmac = || {
@@ -73,37 +74,47 @@ pub fn run() {
         "entries",
         "HMAC",
         ROUNDS,
-        10.0,
+        Limit {
+            rows: "checks of 64 entries by one HMAC-SHA-1 of 1,400 bytes",
+            ratio: 10.0,
+            wanted: true,
+        },
     );
     for Entries { name, entry } in &TABLES {
         let bytes: Vec<u8> = (0..64).flat_map(entry).collect();
         table.row(name, true, COUNT, &mut || ours(&bytes), &mut hmac);
     }
-    table.verdict("Checks of a table");
+    table.end()
+}
 
+pub fn against_reference() -> Outcome {
     let mut table = Table::new(
-        "The same against the plain Rust implementation of the rules (rust/reference).",
+        "The same against a plain Rust implementation of the rules (rust/reference).",
         "entries",
-        "plain",
+        "reference",
         ROUNDS,
-        1.25,
+        Limit {
+            rows: "checks of the first three tables by the reference",
+            ratio: 1.25,
+            wanted: false,
+        },
     );
     // The last is only reported: there the two look at the sides in different order.
     for (i, Entries { name, entry }) in TABLES.iter().enumerate() {
         let bytes: Vec<u8> = (0..64).flat_map(entry).collect();
         let limited = i < 3;
         table.row(name, limited, COUNT, &mut || ours(&bytes), &mut || {
-            plain(&bytes)
+            reference(&bytes)
         });
     }
-    table.verdict("Checks of the first three");
+    table.end()
 }
 
 fn ours(table: &[u8]) {
     assert_eq!(check_table(black_box(table)), 64 << 32);
 }
 
-fn plain(table: &[u8]) {
+fn reference(table: &[u8]) {
     let answer = boundary::tcpao_check_table(Rules::default(), black_box(table));
     assert_eq!(answer, 64 << 32);
 }

@@ -28,20 +28,29 @@ fn round(count: usize, call: &mut dyn FnMut()) -> f64 {
     begin.elapsed().as_nanos() as f64 / count as f64
 }
 
+/// A ratio that the limited rows of a part should not exceed.
+pub struct Limit {
+    /// Which rows, and what they are measured by.
+    pub rows: &'static str,
+    pub ratio: f64,
+    /// Whether it was asked of us, so that a miss fails the run; else it is our own aim.
+    pub wanted: bool,
+}
+
 /// What a part of the run prints: its columns' names, and then its rows.
 pub struct Table {
     /// How often each side of a row is timed.
-    pub rounds: usize,
-    /// The ratio that is wanted at most.
-    pub limit: f64,
-    /// Whether every limited row so far is within it.
-    pub within: bool,
+    rounds: usize,
+    limit: Limit,
+    /// The largest ratios of the limited rows so far, of the minimum and of the median.
+    largest: [f64; 2],
 }
 
 impl Table {
-    pub fn new(title: &str, what: &str, other: &str, rounds: usize, limit: f64) -> Table {
+    pub fn new(title: &str, what: &str, other: &str, rounds: usize, limit: Limit) -> Table {
         println!("\n{title}");
-        println!("Nanoseconds a call over {rounds} interleaved rounds.\n");
+        println!("Nanoseconds a call over {rounds} interleaved rounds.");
+        println!("Buffers are reused, not cleared.\n");
         println!(
             "{:40} |            minimum            |            median",
             ""
@@ -50,12 +59,11 @@ impl Table {
         Table {
             rounds,
             limit,
-            within: true,
+            largest: [0.0; 2],
         }
     }
 
-    /// Times both, `count` calls to a round, and prints the row. `limited`: its ratios, of the
-    /// minimum and of the median, have to be within the limit.
+    /// Times both, `count` calls to a round, and prints the row. `limited`: the limit is for it.
     pub fn row(
         &mut self,
         label: &str,
@@ -71,8 +79,10 @@ impl Table {
         }
         let (a, b) = (Times::of(a), Times::of(b));
         let ratios = [a.minimum / b.minimum, a.median / b.median];
-        let over = limited && ratios.iter().any(|ratio| *ratio > self.limit);
-        self.within &= !over;
+        if limited {
+            self.largest = [0, 1].map(|i| self.largest[i].max(ratios[i]));
+        }
+        let over = limited && ratios[0] > self.limit.ratio;
         println!(
             "{label:40} | {:>9.0}  {:>9.0}  {:>6.2} | {:>9.0}  {:>9.0}  {:>6.2}{}",
             a.minimum,
@@ -85,13 +95,75 @@ impl Table {
         );
     }
 
-    /// The last line: whether all limited rows are within the limit.
-    pub fn verdict(self, rows: &str) -> bool {
-        let verdict = if self.within { "are" } else { "are NOT" };
+    /// What came of the limit.
+    pub fn end(self) -> Outcome {
+        Outcome {
+            limit: self.limit,
+            largest: self.largest,
+        }
+    }
+}
+
+/// A limit, and the largest ratios of its rows, of the minimum and of the median.
+pub struct Outcome {
+    limit: Limit,
+    largest: [f64; 2],
+}
+
+impl Outcome {
+    /// The minimum decides: what else the machine does can only add to a time.
+    fn holds(&self) -> bool {
+        self.largest[0] <= self.limit.ratio
+    }
+
+    fn print(&self) {
         println!(
-            "\n{rows} {verdict} within {}, minimum and median.",
-            self.limit
+            "{:<8} {:<8} {:>8.2} {:>8.2}   {}: at most {}",
+            if self.limit.wanted { "wanted" } else { "own" },
+            if self.holds() { "holds" } else { "MISSED" },
+            self.largest[0],
+            self.largest[1],
+            self.limit.rows,
+            self.limit.ratio,
         );
-        self.within
+    }
+}
+
+/// The last part: which limits hold. Gives whether all that are wanted do.
+pub fn summary(outcomes: &[Outcome]) -> bool {
+    println!(
+        "\nLimits. The largest ratio by the minimum decides. Wanted limits were asked of us, and"
+    );
+    println!("the run fails if one is missed; the others are our own aims.\n");
+    println!("limit             minimum   median   of");
+    for outcome in outcomes {
+        outcome.print();
+    }
+    outcomes.iter().all(|o| o.holds() || !o.limit.wanted)
+}
+
+#[cfg(test)]
+mod tests {
+    use super::*;
+
+    fn outcome(wanted: bool, largest: [f64; 2]) -> Outcome {
+        let limit = Limit {
+            rows: "rows",
+            ratio: 1.25,
+            wanted,
+        };
+        Outcome { limit, largest }
+    }
+
+    /// A wanted limit fails the run by the minimum, and by nothing else.
+    #[test]
+    fn wanted_limits_decide() {
+        assert!(summary(&[outcome(true, [1.25, 1.3])]));
+        assert!(!summary(&[outcome(true, [1.26, 1.2])]));
+        assert!(summary(&[outcome(false, [1.26, 1.3])]));
+        assert!(!summary(&[
+            outcome(true, [1.26, 1.3]),
+            outcome(true, [1.0, 1.0])
+        ]));
     }
 }

@@ -13,12 +13,14 @@ use std::fmt;
 #[derive(Clone, Copy, Debug, PartialEq, Eq, Hash)]
 #[must_use = "a segment goes on to TCP only if the verdict says so"]
 pub enum Verdict {
-    /// The segment is authentic: give it to TCP.
+    /// Its MAC bytes are what the rules give: give it to TCP.
     Accept {
         /// The upper half of the segment's 64-bit position.
         extension: u32,
     },
-    /// A bare SYN that the table leaves alone: TCP may go on without TCP-AO.
+    /// A bare SYN without TCP-AO whose pair no entry matches, or, with
+    /// [`UnknownKeyId::Pass`](crate::UnknownKeyId::Pass), one whose KeyID has no entry for the pair:
+    /// TCP may go on without TCP-AO.
     Pass,
     /// The segment must not reach TCP.
     Drop(Refusal),
@@ -139,7 +141,7 @@ refusals! {
         33 SignPorts "signing: the segment's ports are not the connection's"
         34 SignStage "signing: this is the wrong segment for the connection's stage"
         35 NoEntry "no entry that matches the connection has the outgoing SendID, or the RecvID to ask for"
-        36 SignPosition "signing: the sequence number has no position, or a SYN's is not our ISN"
+        36 SignPosition "signing: the sequence number has no position, or a SYN's (bare or with ACK) is not our ISN"
         37 OutputTooShort "signing: the output is too short"
     }
 }

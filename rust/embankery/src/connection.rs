@@ -6,7 +6,8 @@ use crate::table::KeyTable;
 use std::fmt;
 use std::net::{IpAddr, SocketAddr};
 
-/// What a bare SYN gets that has TCP-AO with a KeyID for which the table has no entry.
+/// What a bare SYN gets that has TCP-AO with an unknown KeyID: no entry that matches the pair has it
+/// as RecvID.
 #[derive(Clone, Copy, Debug, PartialEq, Eq, Hash)]
 pub enum UnknownKeyId {
     /// It passes: TCP may go on without TCP-AO.
@@ -24,7 +25,7 @@ impl UnknownKeyId {
     }
 }
 
-/// An address as the archive takes it: 4 or 16 bytes.
+/// An address as the archive takes it: 4 or 16 bytes, so an IPv4-mapped one is IPv6.
 struct Octets {
     bytes: [u8; 16],
     len: usize,
@@ -90,7 +91,11 @@ pub fn judge_syn(
 ///
 /// It holds no key; the table goes beside it to each call, and may change between calls. A value is
 /// always a state of IPv4 or IPv6. Copies are apart from each other: of two that both sign, the peer
-/// sees one sender.
+/// sees one sender. `==` compares all bytes of two states, also the twelve behind an IPv4 address,
+/// which mean nothing; an opening sets these to zero.
+///
+/// Addresses are taken as they are: an IPv4-mapped one counts as IPv6, and of an IPv6 socket address
+/// the scope and the flow are dropped.
 ///
 /// ```
 /// use embankery::{Connection, Entry, KeyTable, UnknownKeyId, Verdict};
@@ -217,9 +222,13 @@ impl Connection {
         }
     }
 
-    /// Judges an arriving segment, of which `source` is the peer's address. Acceptance moves the
-    /// arriving direction's reference and may change the outgoing key; a drop changes nothing but,
-    /// once open, its count.
+    /// Judges an arriving segment, of which `source` is the peer's address.
+    ///
+    /// While the connection is opening, an accepted SYN+ACK opens it: that sets the peer's ISN and both
+    /// references, to the ISNs, and clears the counts. Once open, acceptance sets the arriving
+    /// direction's reference to the larger of the old one and the segment's position, and is counted.
+    /// In both cases it may change the outgoing key. A drop 20 to 29 changes nothing but, once open,
+    /// its count. Addresses of two families get 19, which is not counted.
     pub fn judge(
         &mut self,
         table: &KeyTable,
@@ -275,8 +284,8 @@ impl Connection {
         Ok(answer.done()? as usize)
     }
 
-    /// Asks the peer, in what is signed from now on, to sign under the entry with this RecvID.
-    /// Refused with 35 if no entry that matches has it.
+    /// Asks the peer, in what is signed from now on, to sign under the entry with this RecvID; also
+    /// while opening. Refused with 35 if no entry that matches has it.
     pub fn ask(&mut self, table: &KeyTable, recv_id: u8) -> Result<(), Refusal> {
         Answer(raw::ask(table.as_bytes(), recv_id, &mut self.bytes)).done()?;
         Ok(())
@@ -360,17 +369,20 @@ impl Connection {
         u32::from_be_bytes(self.field(PEER_ISN))
     }
 
-    /// The reference of the direction that we sign: the furthest 64-bit position signed.
+    /// The reference of the direction that we sign: the largest of our ISN and the positions
+    /// signed.
     pub fn sent_reference(&self) -> u64 {
         u64::from_be_bytes(self.field(SENT))
     }
 
-    /// The reference of the arriving direction: the furthest 64-bit position accepted.
+    /// The reference of the arriving direction: 0 until the peer's ISN is known, then the largest of
+    /// it and the positions accepted.
     pub fn seen_reference(&self) -> u64 {
         u64::from_be_bytes(self.field(SEEN))
     }
 
-    /// How many segments were accepted since opening. This and the counts of drops stop at 2^64-1.
+    /// How many segments were accepted since opening; the segment that opens is not counted. This and
+    /// the counts of drops stop at 2^64-1.
     pub fn accepted(&self) -> u64 {
         u64::from_be_bytes(self.field(ACCEPTED))
     }

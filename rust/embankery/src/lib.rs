@@ -7,7 +7,7 @@
 //!
 //! A [`KeyTable`] is made of [`Entry`]s. A [`Connection`] is opened, judges what arrives and signs
 //! what leaves. What a segment gets is a [`Verdict`]; what goes wrong is a [`Refusal`], with the
-//! number of document 01. No call panics, whatever it is given.
+//! number of document 01. No call panics, whatever it is given, but where memory runs out.
 //!
 //! # A first program
 //!
@@ -25,7 +25,8 @@ mod answer;
 mod connection;
 pub mod mac;
 #[allow(unsafe_code)]
-mod raw;
+#[doc(hidden)] // for the benchmark and the comparison, which make the same calls
+pub mod raw;
 mod table;
 
 pub use answer::{Refusal, Verdict};

@@ -1,10 +1,10 @@
 //! The archive's calls (include/embankery.h) over slices: the only unsafe code of this package.
 //!
-//! The header leaves to its caller what C needs: pointers that are good for their lengths and not
-//! null, a buffer lent for writing that overlaps no other buffer of the call, and no other thread
-//! that writes to a buffer meanwhile. Slices always have this: a slice is valid for its length and
-//! never null, also when it is empty, and a `&mut` slice is borrowed from everybody else. The calls
-//! keep no pointer. They ask nothing of the bytes.
+//! The header leaves to its caller what C needs: pointers that are good for their lengths (and null
+//! at most beside length 0), a buffer lent for writing that overlaps no other buffer of the call, and
+//! no other thread that writes to a buffer meanwhile. Slices always have this: a slice is valid for
+//! its length and never null, also when it is empty, and a `&mut` slice is borrowed from everybody
+//! else. The calls keep no pointer. They ask nothing of the bytes.
 
 /// The declarations, as the header has them.
 pub mod c {

@@ -2,13 +2,10 @@
 //! states of every length, the longest segments, and nothing written or read outside a buffer.
 
 mod common;
-#[allow(dead_code)]
-#[path = "../src/raw.rs"]
-mod raw;
 
 use common::{kinds, octets, segment, Bytes, Ends, ACK, FIRST_KIND, IDS, ISNS, PORTS, SYN};
+use embankery::raw::{self, c};
 use embankery::{Refusal, Verdict};
-use raw::c;
 
 /// An answer: the number in bits 0 to 7, a value in bits 32 to 63.
 fn word(number: u8, value: u32) -> u64 {
@@ -127,7 +124,7 @@ impl Given {
 type Call = fn(&Given, &mut [u8], &mut [u8]) -> u64;
 
 // SAFETY, of all: each pointer stands beside its own slice's length, and `out` and `state` overlap
-// nothing. A null pointer stands beside length 0, and only where the archive allows it.
+// nothing. A null pointer stands beside length 0, which the header allows.
 
 fn check_table(g: &Given, _: &mut [u8], _: &mut [u8]) -> u64 {
     unsafe { c::tcpao_check_table(g.ptr(&g.table), g.table.len()) }
