@@ -1,6 +1,6 @@
 # make         proves all crates, builds the archive for C and Rust, and runs the demonstration
 # make test    the gate: proves all from nothing, with the must-fail edits, and runs every test
-# make bench   the archive's speed against plain Rust's
+# make bench   the archive's speed against plain Rust's; fails where a wanted ratio is missed
 # make soak    compares the archive with the reference for a minute, or make soak TIME=3600 for an hour
 # make clean   removes what the others made
 #
