@@ -8,16 +8,15 @@ use native.Mathlib.Omega.{arith}
 use lib.ListN.{length}
 use borrow.Author.Tests.{eqb-true}
 use Rattle.keys.specs.MatchLaws.{Octets}
-use Rattle.rules.specs.declared.Outcome.{Outcome}
-use Rattle.rules.specs.declared.Outcome.the-variants.{Good, Passed, Bad}
 use Rattle.rules.specs.declared.Verdict.the-variants.{Pass, Drop}
 use Rattle.rules.specs.declared.Signing.the-variants as S
 use Rattle.rules.specs.declared.Done.the-variants as D
 use Rattle.rules.specs.declared.State.{State}
 use Rattle.rules.specs.Connection.{Arrival, isOpen, isCounted}
-use Rattle.rules.specs.Calls.{check, judged, openedPassively, openedActively, asked, signed, output}
+use Rattle.rules.specs.Calls.{judged, openedPassively, openedActively, asked, signed, output}
 use Rattle.rules.specs.History.{judge, sign, ask}
 use Rattle.rules.specs.Refusals.{on, byVerdict, bySigning, oneMore, refusal}
+use Rattle.rules.specs.GivenNumbers.{judge-never-passes}
 use Rattle.states.specs.Layout.{stateBytes, decodeOf, encodeOf}
 use Rattle.states.specs.LayoutLaws.{encode-decode}
 use Rattle.embankery.specs.Exports.{isState, changed, stateAfter, accepts, opens, stateWhere}
@@ -69,14 +68,9 @@ module _ (b : List ℕ) (o : Octets b) where
   judge-refused t a n e =
       alike (judged t a (decodeOf b) .state) (isOpen (decodeOf b .line) && isCounted n) (oneMore n (decodeOf b)) (refusal (on (judge t a) (decodeOf b)) n (ap byVerdict e) .state)
 
-  pub judge-passed : (t : List ℕ) (a : Arrival) → judged t a (decodeOf b) .verdict ≡ Pass → stateAfter b (judged t a (decodeOf b) .state) ≡ b
-  unfolding judged
-  judge-passed t a e = go (check t (decodeOf b .line) (decodeOf b .seen) a) refl
-    where
-      go : (c : Outcome) → check t (decodeOf b .line) (decodeOf b .seen) a ≡ c → stateAfter b (judged t a (decodeOf b) .state) ≡ b
-      go (Good x r) f = let z : _≡_ {A = ℕ} 0 1 = cc (rw f at e) in absurd (omega arith)
-      go Passed f = rw f (kept (decodeOf b) refl)
-      go (Bad n i) f = let z : _≡_ {A = ℕ} 0 1 = cc (rw f at e) in absurd (omega arith)
+  -- and it never passes: that is for a bare SYN without a state
+  pub judge-passes-none : (t : List ℕ) (a : Arrival) → judged t a (decodeOf b) .verdict ≡ Pass → ⊥
+  judge-passes-none t a e = let z : _≡_ {A = ℕ} 0 1 = cc (rw e at (judge-never-passes t a (decodeOf b))) in omega arith
 
   pub sign-refused : (t s out : List ℕ) (n : ℕ) → signed t s out (decodeOf b) .answer ≡ S.Refused n
       → (stateAfter b (signed t s out (decodeOf b) .state) ≡ b) × (changed b (output t s out (decodeOf b)) out ≡ out)

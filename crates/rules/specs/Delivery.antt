@@ -1,7 +1,7 @@
 -- What the signing call wrote, as it arrives: what the receiver reads in it, and that its MAC is the one it carries.
 use Prim.Native.Nat.{ℕ, _+_, _-_, _*_, _/_}
 use mathlib.Core.Path.{_≡_, ap, ap₂, sym, _∙_, subst⁻¹}
-use mathlib.Core.Bool.{Bool, false, cond}
+use mathlib.Core.Bool.{false}
 use mathlib.Core.List.{List}
 use native.Mathlib.Omega.{arith}
 use lib.ListN.{length, take, drop, replicate}
@@ -11,8 +11,6 @@ use borrow.Author.Tests.{le-ltb}
 use Rattle.wire.specs.Header.{dataOffset, headerEnd}
 use Rattle.keys.specs.declared.entry.Entry.{Entry}
 use Rattle.keys.specs.declared.entry.Secret.{Secret}
-use Rattle.keys.specs.Algorithm.{macBytes}
-use Rattle.keys.specs.SearchLaws.{valid-proper, send-holder}
 use Rattle.rules.specs.declared.Outcome.{Outcome}
 use Rattle.rules.specs.declared.State.{State}
 use Rattle.rules.specs.Mac.{Flow, applied, trafficKey, segmentMac}
@@ -23,6 +21,7 @@ use Rattle.rules.specs.Calls.{outgoing, addedBytes, signedSegment, writt
 use Rattle.rules.specs.Ends.{SignedAt, rechecked}
 use Rattle.rules.specs.RoundTrip.{Arrived, arrival, covers, length-signed}
 use Rattle.rules.specs.SigningLaws.{Signs, signs-good, signed-good}
+use Rattle.rules.specs.GrowthLaws.{twelve-bytes, added-16}
 
 -- what was signed, by the outgoing entry: it has as many bytes as the answer says
 module _ (t s out : List ℕ) (q : State) (signs : Signs t s out q) (x : ℕ) where
@@ -30,17 +29,14 @@ module _ (t s out : List ℕ) (q : State) (signs : Signs t s out q) (x : ℕ) wh
   entry = outgoing t q .entry
 
   twelve-of : entry .secret .«mac_bytes» ≡ 12
-  twelve-of = valid-proper t (signs .valid) (send-holder t (q .line .pair) (q .«send_id») (signs .entry) .0 .place) .mac
-
-  added-of : addedBytes (outgoing t q) ≡ 16
-  added-of = ap (λ (w : Bool). 4 + cond w (entry .secret .«mac_bytes») (macBytes 1)) (signs .entry) ∙ ap (λ (n : ℕ). 4 + n) twelve-of
+  twelve-of = twelve-bytes t (q .line .pair) (q .«send_id») (signs .valid) (signs .entry)
 
   pub signed-long : length (signedSegment entry q x s) ≡ length s + addedBytes (outgoing t q)
   unfolding signedSegment
   signed-long =
       let m = segmentMac (entry .secret) (leaving (q .line)) (extensionOf x) 20 (signedWith (q .«send_id») (q .«ask_id») (replicate (entry .secret .«mac_bytes») 0) s) in
       let l : length m ≡ 12 = length-mac (entry .secret) (leaving (q .line)) (extensionOf x) 20 _ (omega (arith, twelve-of)) ∙ twelve-of in
-      length-signed s (signs .fresh) 0 0 (q .«send_id») (q .«ask_id») m (omega arith) ∙ ap (λ (n : ℕ). length s + n) (ap (λ (n : ℕ). 4 + n) l ∙ sym added-of)
+      length-signed s (signs .fresh) 0 0 (q .«send_id») (q .«ask_id») m (omega arith) ∙ ap (λ (n : ℕ). length s + n) (ap (λ (n : ℕ). 4 + n) l ∙ sym (added-16 t q (signs .valid)))
 
 module _ (q : State) (e : Entry) (x : ℕ) (b : List ℕ) (g : SignedAt q e x b) where
   abbrev s : List ℕ
@@ -65,7 +61,7 @@ module _ (q : State) (e : Entry) (x : ℕ) (b : List ℕ) (g : SignedAt q e x b)
   even = omega (arith, length-its-mac)
 
   added-is : addedBytes (outgoing (g .table) q) ≡ 4 + length mac
-  added-is = added-of (g .table) s (g .out) q signs x ∙ ap (λ (n : ℕ). 4 + n) (sym length-its-mac)
+  added-is = added-16 (g .table) q (signs .valid) ∙ ap (λ (n : ℕ). 4 + n) (sym length-its-mac)
 
   abbrev carried : List ℕ
   carried = signedWith (q .«send_id») (q .«ask_id») mac s

@@ -15,6 +15,7 @@ pub mod JudgeLaws
 pub mod CountLaws
 pub mod RoundTrip
 pub mod SigningLaws
+pub mod GrowthLaws
 pub mod Delivery
 pub mod Acceptance
 pub mod AcceptedLaws
@@ -22,5 +23,6 @@ pub mod Demand2
 pub mod OrderLaws
 pub mod HistoryLaws
 pub mod Refusals
+pub mod GivenNumbers
 pub mod Examples
 pub mod Inhabited

@@ -1,12 +1,15 @@
--- `position` is the number that document 01's sentence describes: complete, sound, unique.
+-- `position` is the number that document 01's sentence describes: complete, sound, unique. And where it is none, the answer is 28 or 36.
 use Prim.Native.Nat.{ℕ, _+_, _-_, _^_, _≤_, _<_}
 use mathlib.Core.Path.{_≡_, refl, ap}
-use mathlib.Core.Bool.{Bool, true, false}
+use mathlib.Core.Bool.{Bool, true, false, cond}
 use native.Mathlib.Omega.{arith}
 use lib.Dec.{ltb, leb}
 use borrow.Author.Tests.{ltb-true, ltb-false, leb-true, lt-ltb, le-leb}
-use Rattle.rules.specs.declared.Place.the-variants.{At}
+use Rattle.rules.specs.declared.Place.{Place}
+use Rattle.rules.specs.declared.Place.the-variants.{At, Nowhere}
 use Rattle.rules.specs.Position.{wrappingDifference, position, Near}
+use Rattle.rules.specs.Connection.{located, value}
+use Rattle.rules.specs.Answers.{answer, placeAnswer}
 
 -- if there is such a number, `position` is it
 pub complete : (reference s x : ℕ) → Near reference s x → position reference s ≡ At x
@@ -52,3 +55,10 @@ sound reference s x small top p =
 -- and there is no other
 pub unique : (reference s x y : ℕ) → Near reference s x → Near reference s y → x ≡ y
 unique reference s x y n m = omega arith
+
+-- "Otherwise the answer is 28 or 36.": the answer has that number exactly where the test of 28 or 36 in Calls.antt, `not (located x)`, applies, and
+-- else the position that the rest of the call goes by
+pub place-answer : (n : ℕ) (x : Place) → placeAnswer n x ≡ cond (located x) (answer 0 (value x)) (answer n 0)
+unfolding placeAnswer
+place-answer n (At x) = refl
+place-answer n Nowhere = refl
