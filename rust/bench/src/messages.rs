@@ -74,7 +74,7 @@ pub fn run() -> Outcome {
         Limit {
             rows: "SHA-1 and AES-CMAC by plain Rust",
             ratio: 1.25,
-            wanted: false,
+            wanted: true,
         },
     );
     let mut bytes = Bytes(11);
