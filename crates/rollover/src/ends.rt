@@ -11,25 +11,31 @@ use rules::Judged;
 use rules::State;
 
 pub struct Ends {
-    pub gauge: State,
-    pub head: State,
+    pub client: State,
+    pub server: State,
 }
 
-fn state_of(gauge: bool, ends: Ends) -> State {
-    if gauge { ends.gauge } else { ends.head }
+fn state_of(client: bool, ends: Ends) -> State {
+    if client { ends.client } else { ends.server }
 }
 
-fn with_state(gauge: bool, state: State, ends: Ends) -> Ends {
-    if gauge {
-        let head = ends.head;
-        return Ends { gauge: state, head };
+fn with_state(client: bool, state: State, ends: Ends) -> Ends {
+    if client {
+        let server = ends.server;
+        return Ends {
+            client: state,
+            server,
+        };
     }
-    let gauge = ends.gauge;
-    Ends { gauge, head: state }
+    let client = ends.client;
+    Ends {
+        client,
+        server: state,
+    }
 }
 
-fn signed(gauge: bool, wire: &mut [u8], no: u8, state: State) -> State {
-    let t = tables::table(gauge);
+fn signed(client: bool, wire: &mut [u8], no: u8, state: State) -> State {
+    let t = tables::table(client);
     let segment = segments::unsigned(state, no);
     let mut out = [0u8; 60];
     let s = tcpao::sign::sign(&t, &segment, &mut out, state);
@@ -39,10 +45,10 @@ fn signed(gauge: bool, wire: &mut [u8], no: u8, state: State) -> State {
 
 // Numbers rise as they are signed, so the reference of the direction signed is the position of the segment signed last.
 fn send(wire: &mut [u8], places: &mut [u64], no: u8, ends: Ends) -> Ends {
-    let gauge = script::from_gauge(no);
-    let state = signed(gauge, wire, no, state_of(gauge, ends));
+    let client = script::from_client(no);
+    let state = signed(client, wire, no, state_of(client, ends));
     put_word(places, no as usize, state.sent);
-    with_state(gauge, state, ends)
+    with_state(client, state, ends)
 }
 
 // What is no data as signed is made on the way. Where it is the same once more it lies where the segment before it lies.
@@ -59,19 +65,19 @@ fn sent(wire: &mut [u8], places: &mut [u64], no: u8, ends: Ends) -> Ends {
     ends
 }
 
-// The head station's operator asks that the gauge sign under key 2.
+// The server's operator asks that the client sign under key 2.
 fn asked(ends: Ends) -> Ends {
     rows::asking();
     let t = tables::table(false);
-    let s = tcpao::operator::ask(&t, tables::GAUGE_2, ends.head);
+    let s = tcpao::operator::ask(&t, tables::CLIENT_2, ends.server);
     with_state(false, s.state, ends)
 }
 
-// Judges a segment that arrives at the gauge, or at the head station.
-pub fn judged(gauge: bool, segment: &[u8], state: State) -> Judged {
-    let t = tables::table(gauge);
-    let source = tables::address(!gauge);
-    let destination = tables::address(gauge);
+// Judges a segment that arrives at the client, or at the server.
+pub fn judged(client: bool, segment: &[u8], state: State) -> Judged {
+    let t = tables::table(client);
+    let source = tables::address(!client);
+    let destination = tables::address(client);
     tcpao::judge::judge(&t, &source, &destination, segment, state)
 }
 
@@ -84,9 +90,9 @@ fn arrived(
     no: u8,
     ends: Ends,
 ) -> Ends {
-    let gauge = !script::from_gauge(no);
+    let client = !script::from_client(no);
     let segment = segments::kept(wire, no);
-    let j = judged(gauge, segment, state_of(gauge, ends));
+    let j = judged(client, segment, state_of(client, ends));
     let v = j.verdict;
     let code = coded(v);
     let state = j.state;
@@ -94,7 +100,7 @@ fn arrived(
     if show {
         rows::arrival(no, segment, word(places, no as usize), code, state.send_id);
     }
-    with_state(gauge, state, ends)
+    with_state(client, state, ends)
 }
 
 fn after(

@@ -1,4 +1,4 @@
-// The opening: an active one at the gauge, a passive one at the head station. Assumes nothing.
+// The opening: an active one at the client, a passive one at the server. Assumes nothing.
 use crate::ends;
 use crate::ends::Ends;
 use crate::rows;
@@ -8,9 +8,9 @@ use crate::verdicts::coded;
 use rules::State;
 
 // Both ISNs lie just below the rollover.
-const GAUGE_ISN: u32 = 0xffffffc0;
+const CLIENT_ISN: u32 = 0xffffffc0;
 
-const HEAD_ISN: u32 = 0xffffffd8;
+const SERVER_ISN: u32 = 0xffffffd8;
 
 fn active() -> State {
     let t = tables::table(true);
@@ -20,17 +20,17 @@ fn active() -> State {
         &t,
         &local,
         &remote,
-        tables::GAUGE_PORT,
-        tables::HEAD_PORT,
-        GAUGE_ISN,
-        tables::GAUGE_1,
+        tables::CLIENT_PORT,
+        tables::SERVER_PORT,
+        CLIENT_ISN,
+        tables::CLIENT_1,
     );
     opened.state
 }
 
 // Signs a segment without data: header 20, TCP-AO 16.
-fn signed(gauge: bool, number: u32, flags: u8, state: State, out: &mut [u8; 36]) -> State {
-    let t = tables::table(gauge);
+fn signed(client: bool, number: u32, flags: u8, state: State, out: &mut [u8; 36]) -> State {
+    let t = tables::table(client);
     let segment = segments::header(state, number, flags);
     let s = tcpao::sign::sign(&t, &segment, out, state);
     s.state
@@ -50,7 +50,7 @@ fn passive(syn: &[u8; 36]) -> State {
     let t = tables::table(false);
     let source = tables::address(true);
     let destination = tables::address(false);
-    let j = tcpao::judge::open_passive(&t, &source, &destination, syn, HEAD_ISN, true);
+    let j = tcpao::judge::open_passive(&t, &source, &destination, syn, SERVER_ISN, true);
     let v = j.verdict;
     let state = j.state;
     rows::opening(true, b"SYN, opens           ", syn, coded(v), state.send_id);
@@ -75,15 +75,15 @@ pub fn open() -> Ends {
     let mut syn = [0u8; 36];
     let mut syn_ack = [0u8; 36];
     rows::opening_title();
-    let waiting = signed(true, GAUGE_ISN, segments::SYN, active(), &mut syn);
+    let waiting = signed(true, CLIENT_ISN, segments::SYN, active(), &mut syn);
     judge_syn(&syn);
-    let head = signed(
+    let server = signed(
         false,
-        HEAD_ISN,
+        SERVER_ISN,
         segments::SYN_ACK,
         passive(&syn),
         &mut syn_ack,
     );
-    let gauge = answered(&syn_ack, waiting);
-    Ends { gauge, head }
+    let client = answered(&syn_ack, waiting);
+    Ends { client, server }
 }

@@ -17,8 +17,8 @@ use keys::table::Loaded;
 use rules::State;
 
 // How many entries a valid table has.
-fn entries(gauge: bool) {
-    let t = tables::table(gauge);
+fn entries(client: bool) {
+    let t = tables::table(client);
     let answer = tcpao::operator::check_table(&t);
     match answer {
         Loaded::Valid(n) => decimal(n as u64),
@@ -28,16 +28,16 @@ fn entries(gauge: bool) {
 
 pub fn title() {
     text(
-        b"TCP-AO across the rollover: a gauge and the head station exchange signed segments while their 32-bit sequence numbers\n\
+        b"TCP-AO across the rollover: a client and a server exchange signed segments while their 32-bit sequence numbers\n\
         pass ffffffff. Whatever the order of arrival, each end finds where a segment truly lies, written extension:number.\n\n\
-        Key 1 is HMAC-SHA-1-96, with KeyID 61 from the gauge and 84 from the head station.\n\
-        Key 2 is AES-128-CMAC-96, with KeyID 62 from the gauge and 85 from the head station.\n\
+        Key 1 is HMAC-SHA-1-96, with KeyID 61 from the client and 84 from the server.\n\
+        Key 2 is AES-128-CMAC-96, with KeyID 62 from the client and 85 from the server.\n\
         Entries in the key tables: ",
     );
     entries(true);
-    text(b" at the gauge, ");
+    text(b" at the client, ");
     entries(false);
-    text(b" at the head station, each the mirror of one at the other end.\n\n");
+    text(b" at the server, each the mirror of one at the other end.\n\n");
 }
 
 fn drops(d: [u64; 10]) {
@@ -71,8 +71,8 @@ pub fn counts(ends: Ends) {
         b"\nAfter the first run: the counts, the reference of the arriving direction, the key that the end signs under.\n",
     );
     columns();
-    row(b"gauge             ", ends.gauge);
-    row(b"\nhead station      ", ends.head);
+    row(b"client            ", ends.client);
+    row(b"\nserver            ", ends.server);
     text(b"\n");
 }
 
@@ -135,12 +135,12 @@ fn compared(name: &[u8], first: State, second: State) {
 pub fn ends(first: Ends, second: Ends) {
     text(b"\nAfter the second run, compared with the first:\n");
     columns();
-    compared(b"gauge             ", first.gauge, second.gauge);
-    compared(b"head station      ", first.head, second.head);
+    compared(b"client            ", first.client, second.client);
+    compared(b"server            ", first.server, second.server);
     text(
         b"\nDemand 3 (docs/CLAIMS.md) is proved of every order: where no forgery verifies under a key, each true segment is accepted\n\
         with its extension, and the reference and how many were accepted and dropped in all are the same. Here the drops agree\n\
         one by one too, since each forgery fails at the same test in both orders, and the outgoing key agrees since the last\n\
-        true segment to reach the gauge asks for key 2 in both.\n",
+        true segment to reach the client asks for key 2 in both.\n",
     );
 }

@@ -47,15 +47,15 @@ fn judged(segment: &[u8], place: u64, code: u64, outgoing: u8) {
 pub fn arrival(no: u8, segment: &[u8], place: u64, code: u64, outgoing: u8) {
     text(b" ");
     two(no as u64);
-    direction(script::from_gauge(no));
+    direction(script::from_client(no));
     what(no);
     judged(segment, place, code, outgoing);
 }
 
 // A segment of the opening lies at its own number, with extension 0.
-pub fn opening(from_gauge: bool, name: &[u8], segment: &[u8], code: u64, outgoing: u8) {
+pub fn opening(from_client: bool, name: &[u8], segment: &[u8], code: u64, outgoing: u8) {
     text(b"   ");
-    direction(from_gauge);
+    direction(from_client);
     text(name);
     judged(segment, load(segment, 4) as u64, code, outgoing);
 }
@@ -84,8 +84,8 @@ pub fn first_title() {
 
 pub fn asking() {
     text(
-        b"     The head station's operator asks that the gauge sign under key 2. Segments 10 to 12 say so; 7 to 9 were signed\n\
-        \x20    before, and where one comes late the gauge goes back to key 1 until the next that asks for key 2. What it sends\n\
+        b"     The server's operator asks that the client sign under key 2. Segments 10 to 12 say so; 7 to 9 were signed\n\
+        \x20    before, and where one comes late the client goes back to key 1 until the next that asks for key 2. What it sends\n\
         \x20    then is signed under key 2. Forgery 16, with its number far ahead, comes first and moves no reference.\n",
     );
 }

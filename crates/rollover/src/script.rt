@@ -33,8 +33,8 @@ pub fn kind(no: u8) -> u8 {
 // The last number.
 pub const LAST: u8 = 16;
 
-// 7 to 12 come from the head station, the others from the gauge.
-pub fn from_gauge(no: u8) -> bool {
+// 7 to 12 come from the server, the others from the client.
+pub fn from_client(no: u8) -> bool {
     match no {
         7..=12 => false,
         _ => true,
@@ -44,7 +44,7 @@ pub fn from_gauge(no: u8) -> bool {
 // Where the data of a segment begin, counted from the sender's ISN; 24 bytes in each.
 pub const OFFSETS: [u8; 17] = [0, 1, 25, 0, 49, 73, 0, 1, 0, 25, 49, 73, 0, 97, 0, 121, 0];
 
-// Events: SEND + n sends n, n alone is its arrival, and ASK is the head station's operator asking for key 2.
+// Events: SEND + n sends n, n alone is its arrival, and ASK is the server's operator asking for key 2.
 pub const SEND: u8 = 100;
 
 pub const ASK: u8 = 200;
@@ -85,5 +85,5 @@ pub const FIRST_RUN: [u8; 33] = [
     13,
 ];
 
-// The same arrivals. Of those at the gauge, 7 to 12, the last true one again asks for key 2.
+// The same arrivals. Of those at the client, 7 to 12, the last true one again asks for key 2.
 pub const SECOND_RUN: [u8; 16] = [15, 12, 6, 16, 9, 4, 8, 14, 5, 7, 2, 10, 13, 3, 11, 1];

@@ -40,11 +40,11 @@ pub fn position(x: u64) {
     hex(x % 4294967296);
 }
 
-pub fn direction(from_gauge: bool) {
-    if from_gauge {
-        text(b"  gauge -> head  ");
+pub fn direction(from_client: bool) {
+    if from_client {
+        text(b"  to server      ");
     } else {
-        text(b"  head -> gauge  ");
+        text(b"  to client      ");
     }
 }
 
