@@ -15,7 +15,7 @@ use rules::Line;
 use rules::State;
 
 // An address in its field of sixteen bytes: IPv4 uses the first four.
-pub fn field_of(address: &[u8]) -> [u8; 16]
+pub(crate) fn field_of(address: &[u8]) -> [u8; 16]
     requires { ⌜ length (now address) ≤ 16 ⌝ }
     ensures { λ r. ⌜ r ≡ padded (now (address .entry)) ⌝ }
 {
