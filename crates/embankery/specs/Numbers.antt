@@ -68,7 +68,7 @@ unfolding tableAnswer
 loaded-fits (Valid n) w = record { number = omega arith; value = omega arith; together = refl }
 loaded-fits (Refused n i) w = let k = table-number n (w .0) in record { number = number-below n k; value = omega (arith, w .1); together = either (eqb n 0) (eqb i 0) _ k }
 
-pub table-fits : (t : List ℕ) → Fits (tableAnswer (K.checked t))
+pub table-fits : (t : K.Tables) → Fits (tableAnswer (K.checked t))
 table-fits t = loaded-fits (K.checked t) (checked-within t)
 
 -- What the tests of a call come to.
@@ -78,7 +78,7 @@ fits (Good x r) = true
 fits Passed = true
 fits (Bad n i) = ltb n (2 ^ 8) && (ltb i (2 ^ 32) && together n i)
 
-refusal-fits : (t : List ℕ) → fits (refusal (K.checked t)) ≡ true
+refusal-fits : (t : K.Tables) → fits (refusal (K.checked t)) ≡ true
 refusal-fits t = go (K.checked t) (checked-within t)
   where
     go : (o : Loaded) → Within K.maxEntries o → fits (refusal o) ≡ true
@@ -91,11 +91,11 @@ refused-fits : (b : Bool) (n : ℕ) → fits (refuse n) ≡ true → fits (cond 
 refused-fits true n e = e
 refused-fits false n e = refl
 
-check-fits : (t : List ℕ) (l : Line) (reference : ℕ) (a : Arrival) → fits (check t l reference a) ≡ true
+check-fits : (t : K.Tables) (l : Line) (reference : ℕ) (a : Arrival) → fits (check t l reference a) ≡ true
 unfolding check
 check-fits t l reference a = first-passes fits (judgeTests t l reference a) _ (rw (refusal-fits t)) refl
 
-checkSyn-fits : (t : List ℕ) (a : Arrival) (strict : Bool) → fits (checkSyn t a strict) ≡ true
+checkSyn-fits : (t : K.Tables) (a : Arrival) (strict : Bool) → fits (checkSyn t a strict) ≡ true
 unfolding checkSyn
 checkSyn-fits t a strict =
     first-passes fits (judgeSynTests t a strict) _ (rw (refusal-fits t, refused-fits (K.anyEntry t (arrivalPair a)) 25 refl, refused-fits strict 26 refl)) refl
@@ -103,7 +103,7 @@ checkSyn-fits t a strict =
 settled-fits : (l : List (Test Outcome)) → eachGives fits l ≡ true → fits (first l unrefused) ≡ true
 settled-fits l e = first-passes fits l unrefused e refl
 
-checkSign-fits : (t s : List ℕ) (room : ℕ) (q : State) → fits (checkSign t s room q) ≡ true
+checkSign-fits : (t : K.Tables) (s : List ℕ) (room : ℕ) (q : State) → fits (checkSign t s room q) ≡ true
 unfolding checkSign
 checkSign-fits t s room q = first-passes fits (signTests t s room q (outgoing t q)) _ (rw (refusal-fits t)) refl
 
@@ -127,15 +127,15 @@ verdicts (Good x r) e = record { number = omega arith; index = omega arith; toge
 verdicts Passed e = record { number = omega arith; index = omega arith; together = refl }
 verdicts (Bad n i) e = let b = bad n i e in record { number = b .0; index = b .1; together = b .2 }
 
-pub judged-fits : (t : List ℕ) (a : Arrival) (q : State) → Verdicts (judged t a q .verdict) (judged t a q .index)
+pub judged-fits : (t : K.Tables) (a : Arrival) (q : State) → Verdicts (judged t a q .verdict) (judged t a q .index)
 unfolding judged
 judged-fits t a q = verdicts (check t (q .line) (q .seen) a) (check-fits t (q .line) (q .seen) a)
 
-pub judgedSyn-fits : (t : List ℕ) (a : Arrival) (strict : Bool) → Verdicts (judgedSyn t a strict .verdict) (judgedSyn t a strict .index)
+pub judgedSyn-fits : (t : K.Tables) (a : Arrival) (strict : Bool) → Verdicts (judgedSyn t a strict .verdict) (judgedSyn t a strict .index)
 unfolding judgedSyn
 judgedSyn-fits t a strict = verdicts (checkSyn t a strict) (checkSyn-fits t a strict)
 
-pub opened-fits : (t : List ℕ) (a : Arrival) (isn : ℕ) (strict : Bool) → Verdicts (openedPassively t a isn strict .verdict) (openedPassively t a isn strict .index)
+pub opened-fits : (t : K.Tables) (a : Arrival) (isn : ℕ) (strict : Bool) → Verdicts (openedPassively t a isn strict .verdict) (openedPassively t a isn strict .index)
 unfolding openedPassively
 opened-fits t a isn strict = verdicts (checkSyn t a strict) (checkSyn-fits t a strict)
 
@@ -146,11 +146,11 @@ settles (Good x r) old new e = record { number = omega arith; value = omega arit
 settles Passed old new e = record { number = omega arith; value = omega arith; together = refl }
 settles (Bad n i) old new e = let b = bad n i e in record { number = b .0; value = b .1; together = b .2 }
 
-pub asked-fits : (t : List ℕ) (id : ℕ) (q : State) → Fits (ofSettled (asked t id q))
+pub asked-fits : (t : K.Tables) (id : ℕ) (q : State) → Fits (ofSettled (asked t id q))
 unfolding asked
 asked-fits t id q = settles (first (askTests t id (q .line)) unrefused) q _ (settled-fits (askTests t id (q .line)) (rw (refusal-fits t)))
 
-pub active-fits : (t local remote : List ℕ) (localPort remotePort isn sendId : ℕ) → Fits (ofSettled (openedActively t local remote localPort remotePort isn sendId))
+pub active-fits : (t : K.Tables) (local remote : List ℕ) (localPort remotePort isn sendId : ℕ) → Fits (ofSettled (openedActively t local remote localPort remotePort isn sendId))
 unfolding openedActively
 active-fits t local remote localPort remotePort isn sendId = go (pairOf local remote localPort remotePort)
   where
@@ -158,7 +158,7 @@ active-fits t local remote localPort remotePort isn sendId = go (pairOf local re
     go p = settles (first (openTests t local remote (K.sendEntry t p sendId)) unrefused) empty _ (settled-fits (openTests t local remote (K.sendEntry t p sendId)) (rw (refusal-fits t)))
 
 -- "of `sign` the signed length"
-pub signed-fits : (t s out : List ℕ) (q : State) → Fits (ofSigned (signed t s out q))
+pub signed-fits : (t : K.Tables) (s out : List ℕ) (q : State) → Fits (ofSigned (signed t s out q))
 unfolding signed signingAnswer
 signed-fits t s out q = go (checkSign t s (length out) q) refl (checkSign-fits t s (length out) q)
   where
@@ -275,5 +275,5 @@ loaded-tells (Valid n) h = record { zero = refl; one = refl }
 loaded-tells (Refused n i) h = refused-tells n (h n i refl .0)
 
 -- and of `check_table`: 0 exactly where the table is not refused, and never 1
-pub table-tells : (t : List ℕ) → Tells (word (tableAnswer (K.checked t)) % 2 ^ 8) (not (isRefused (K.checked t))) false
+pub table-tells : (t : K.Tables) → Tells (word (tableAnswer (K.checked t)) % 2 ^ 8) (not (isRefused (K.checked t))) false
 table-tells t = subst⁻¹ (λ (n : ℕ). Tells n (not (isRefused (K.checked t))) false) (low-bits (tableAnswer (K.checked t)) (table-fits t .number)) (loaded-tells (K.checked t) (table-bounds t))

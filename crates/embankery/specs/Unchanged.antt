@@ -8,6 +8,7 @@ use native.Mathlib.Omega.{arith}
 use lib.ListN.{length}
 use borrow.Author.Tests.{eqb-true}
 use Rattle.keys.specs.MatchLaws.{Octets}
+use Rattle.keys.specs.Table.{Tables}
 use Rattle.rules.specs.declared.Verdict.the-variants.{Pass, Drop}
 use Rattle.rules.specs.declared.Signing.the-variants as S
 use Rattle.rules.specs.declared.Done.the-variants as D
@@ -63,16 +64,16 @@ module _ (b : List ℕ) (o : Octets b) where
   kept q e = alike q false q e ∙ closed b q false refl
 
   -- judging: a drop adds one to its count if the connection is open and the number is counted, and nothing else
-  pub judge-refused : (t : List ℕ) (a : Arrival) (n : ℕ) → judged t a (decodeOf b) .verdict ≡ Drop n
+  pub judge-refused : (t : Tables) (a : Arrival) (n : ℕ) → judged t a (decodeOf b) .verdict ≡ Drop n
       → stateAfter b (judged t a (decodeOf b) .state) ≡ stateWhere b (isOpen (decodeOf b .line) && isCounted n) (oneMore n (decodeOf b))
   judge-refused t a n e =
       alike (judged t a (decodeOf b) .state) (isOpen (decodeOf b .line) && isCounted n) (oneMore n (decodeOf b)) (refusal (on (judge t a) (decodeOf b)) n (ap byVerdict e) .state)
 
   -- and it never passes: that is for a bare SYN without a state
-  pub judge-passes-none : (t : List ℕ) (a : Arrival) → judged t a (decodeOf b) .verdict ≡ Pass → ⊥
+  pub judge-passes-none : (t : Tables) (a : Arrival) → judged t a (decodeOf b) .verdict ≡ Pass → ⊥
   judge-passes-none t a e = let z : _≡_ {A = ℕ} 0 1 = cc (rw e at (judge-never-passes t a (decodeOf b))) in omega arith
 
-  pub sign-refused : (t s out : List ℕ) (n : ℕ) → signed t s out (decodeOf b) .answer ≡ S.Refused n
+  pub sign-refused : (t : Tables) (s out : List ℕ) (n : ℕ) → signed t s out (decodeOf b) .answer ≡ S.Refused n
       → (stateAfter b (signed t s out (decodeOf b) .state) ≡ b) × (changed b (output t s out (decodeOf b)) out ≡ out)
   unfolding changed
   sign-refused t s out n e =
@@ -83,5 +84,5 @@ module _ (b : List ℕ) (o : Octets b) where
       go true p u = rw p u
       go false p u = rw p
 
-  pub ask-refused : (t : List ℕ) (id n : ℕ) → asked t id (decodeOf b) .answer ≡ D.Refused n → stateAfter b (asked t id (decodeOf b) .state) ≡ b
+  pub ask-refused : (t : Tables) (id n : ℕ) → asked t id (decodeOf b) .answer ≡ D.Refused n → stateAfter b (asked t id (decodeOf b) .state) ≡ b
   ask-refused t id n e = kept (asked t id (decodeOf b) .state) (refusal (on (ask t id) (decodeOf b)) n e .state)

@@ -10,7 +10,7 @@ use lib.ListN.{length, getD, take, drop, drop-of-length-le, length-drop, length-
 use lib.Seq.{take-all, take-nil, take-append-add, append-snoc}
 use lib.Dec.{leb}
 use borrow.Author.Tests.{eq-eqb, ne-eqb, le-leb, lt-leb}
-use Rattle.keys.specs.Entry.{known, size, width, idsOf, selectorOf, entryOf, Item, item, itemAt, sound, items, entries}
+use Rattle.keys.specs.Entry.{knownKind, size, width, idsOf, selectorOf, entryOf, Item, item, itemAt, sound, items, entries}
 use Rattle.keys.specs.EntryLaws.{kind-is, items-at, items-end, sound-inside, entries-next, entries-stop}
 use Rattle.keys.specs.Match.{overlap, share, clash}
 use Rattle.keys.specs.Table.{Line, line, first, entryLines, clashing, itemLines, lines, refusing, judged, loaded, nobody, found}
@@ -28,22 +28,22 @@ use Rattle.keys.specs.declared.table.Found.{Found}
 
 module _ (t : List ℕ) (at : ℕ) where
   pub sound-past : length t ≤ at → false ≡ sound (itemAt t at)
-  unfolding item known
+  unfolding item knownKind
   sound-past h = rw (drop-of-length-le t h)
 
-  pub sound-unknown : (r : Bool) → r ≡ known (getD t at 0) → r ≡ false → false ≡ sound (itemAt t at)
+  pub sound-unknown : (r : Bool) → r ≡ knownKind (getD t at 0) → r ≡ false → false ≡ sound (itemAt t at)
   unfolding item
-  sound-unknown r e h = let k : known (getD (drop at t) 0 0) ≡ false = ap known (kind-is t at) ∙ sym e ∙ h in rw k
+  sound-unknown r e h = let k : knownKind (getD (drop at t) 0 0) ≡ false = ap knownKind (kind-is t at) ∙ sym e ∙ h in rw k
 
-  pub known-is : (r b : Bool) → r ≡ known (getD t at 0) → r ≡ b → itemAt t at .kind-known ≡ b
+  pub known-is : (r b : Bool) → r ≡ knownKind (getD t at 0) → r ≡ b → itemAt t at .kind-known ≡ b
   unfolding item
-  known-is r b e h = ap known (kind-is t at) ∙ sym e ∙ h
+  known-is r b e h = ap knownKind (kind-is t at) ∙ sym e ∙ h
 
   pub whole-is : (n : ℕ) → n ≡ size (getD t at 0) → at ≤ length t → leb n (length t - at) ≡ itemAt t at .whole
   unfolding item
   whole-is n e h = λ i. leb ((e ∙ ap size (sym (kind-is t at))) i) (sym (length-drop at t) i)
 
-  pub sound-is : (r : Bool) (n : ℕ) → r ≡ known (getD t at 0) → r ≡ true → n ≡ size (getD t at 0) → at ≤ length t → leb n (length t - at) ≡ sound (itemAt t at)
+  pub sound-is : (r : Bool) (n : ℕ) → r ≡ knownKind (getD t at 0) → r ≡ true → n ≡ size (getD t at 0) → at ≤ length t → leb n (length t - at) ≡ sound (itemAt t at)
   sound-is r n e h q k = whole-is n q k ∙ ap (λ (b : Bool). b && itemAt t at .whole) (sym (known-is r true e h))
 
   pub tail-whole : at + size (getD t at 0) ≤ length t → size (getD (tail t at) 0 0) ≤ length (tail t at)
@@ -280,16 +280,16 @@ module _ (before : List Entry) (x : Item) where
       ∙ past-begin h w
 
 module _ (t : List ℕ) (at : ℕ) (before : List Entry) where
-  pub number-unknown : (r : Bool) → r ≡ known (getD t at 0) → r ≡ false → 11 ≡ first (itemLines before (itemAt t at))
+  pub number-unknown : (r : Bool) → r ≡ knownKind (getD t at 0) → r ≡ false → 11 ≡ first (itemLines before (itemAt t at))
   number-unknown r e h = line-unknown before (itemAt t at) (known-is t at r false e h)
 
-  pub number-cut : (r : Bool) (n : ℕ) → r ≡ known (getD t at 0) → r ≡ true → n ≡ size (getD t at 0) → at < length t → length t - at < n → 10 ≡ first (itemLines before (itemAt t at))
+  pub number-cut : (r : Bool) (n : ℕ) → r ≡ knownKind (getD t at 0) → r ≡ true → n ≡ size (getD t at 0) → at < length t → length t - at < n → 10 ≡ first (itemLines before (itemAt t at))
   number-cut r n e h q k l = line-cut before (itemAt t at) (known-is t at r true e h) (sym (whole-is t at n q (omega arith)) ∙ lt-leb n (length t - at) l)
 
 -- an entry e that is there whole, of a known kind
 
 module _ (t : List ℕ) (at : ℕ) (before : List Entry) (k : Bool) (s : ℕ) (e : Entry)
-    (ke : k ≡ known (getD t at 0)) (kt : k ≡ true) (se : s ≡ size (getD t at 0)) (i : at < length t) (w : s ≤ length t - at) (ee : e ≡ entryOf (tail t at)) (n : ℕ) (ne : n ≡ first (entryLines e)) where
+    (ke : k ≡ knownKind (getD t at 0)) (kt : k ≡ true) (se : s ≡ size (getD t at 0)) (i : at < length t) (w : s ≤ length t - at) (ee : e ≡ entryOf (tail t at)) (n : ℕ) (ne : n ≡ first (entryLines e)) where
   there-whole : itemAt t at .whole ≡ true
   there-whole = sym (whole-is t at s se (omega arith)) ∙ le-leb s (length t - at) w
 

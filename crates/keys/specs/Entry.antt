@@ -14,8 +14,16 @@ use Rattle.keys.specs.declared.entry.Secret.{Secret}
 use Rattle.keys.specs.declared.entry.Entry.{Entry}
 
 -- "kind 4 (IPv4) has 103 bytes, kind 6 (IPv6) 127"
-unfoldable pub known : ℕ → Bool
-known k = eqb k 4 || eqb k 6
+unfoldable pub knownKind : ℕ → Bool
+knownKind k = eqb k 4 || eqb k 6
+
+-- the family of an entry by its kind: today the kind is the family's number
+abbrev pub familyOf : ℕ → ℕ
+familyOf k = k
+
+-- the families: IPv4 and IPv6
+unfoldable pub isFamily : ℕ → Bool
+isFamily f = eqb f 4 || eqb f 6
 
 unfoldable pub body : ℕ → ℕ
 body k = cond (eqb k 4) 103 127
@@ -39,7 +47,7 @@ sideOf w ports at e =
 
 -- "local port low and high, remote port low and high (two bytes each, big-endian, ends included); local address, its prefix length; remote address, its prefix length"
 unfoldable pub selectorOf : ℕ → List ℕ → Selector
-selectorOf w e = record { family = getD e 0 0; local = sideOf w 5 13 e; remote = sideOf w 9 (14 + w) e }
+selectorOf w e = record { family = familyOf (getD e 0 0); local = sideOf w 5 13 e; remote = sideOf w 9 (14 + w) e }
 
 -- "SendID, RecvID"
 unfoldable pub idsOf : List ℕ → Ids
@@ -58,7 +66,7 @@ secretOf w e =
 
 -- the entry whose kind is the first byte of e, whatever stands behind its own bytes
 unfoldable pub entryOf : List ℕ → Entry
-entryOf e = record { selector = selectorOf (width (getD e 0 0)) e; ids = idsOf e; secret = secretOf (width (getD e 0 0)) e }
+entryOf e = record { selector = selectorOf (width (familyOf (getD e 0 0))) e; ids = idsOf e; secret = secretOf (width (familyOf (getD e 0 0))) e }
 
 -- "flags (1: all options covered by the MAC; 0: only TCP-AO)": the lowest bit says it
 abbrev pub allOptions : Secret → Bool
@@ -77,7 +85,7 @@ pub record Item : Type 0 where
 unfoldable pub item : List ℕ → Item
 item s =
     record {
-      kind-known = known (getD s 0 0);
+      kind-known = knownKind (getD s 0 0);
       whole = leb (size (getD s 0 0)) (length s);
       entry = entryOf s;
     }

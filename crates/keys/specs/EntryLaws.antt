@@ -11,7 +11,7 @@ use lib.Seq.{drop-nil, drop-drop, getD-drop}
 use lib.Dec.{leb, eqb}
 use borrow.Author.Tests.{eqb-true, leb-true, leb-false}
 use Rattle.keys.specs.Algorithm.{macBytes}
-use Rattle.keys.specs.Entry.{known, body, size, width, sideOf, selectorOf, secretOf, entryOf, Item, item, itemAt, sound, items, entriesOf, entries}
+use Rattle.keys.specs.Entry.{knownKind, familyOf, body, size, width, sideOf, selectorOf, secretOf, entryOf, Item, item, itemAt, sound, items, entriesOf, entries}
 use Rattle.keys.specs.MatchLaws.{or-true, and-true, Octets, Family, SideFields, Fields}
 use Rattle.keys.specs.declared.entry.Entry.{Entry}
 
@@ -64,7 +64,7 @@ module _ (t : List ℕ) (at : ℕ) where
   pub sound-inside : sound (itemAt t at) ≡ true → at + size (getD t at 0) ≤ length t
   unfolding item
   sound-inside h =
-      let w = leb-true (size (getD (drop at t) 0 0)) (length (drop at t)) (and-true (known (getD (drop at t) 0 0)) _ h .1) in
+      let w = leb-true (size (getD (drop at t) 0 0)) (length (drop at t)) (and-true (knownKind (getD (drop at t) 0 0)) _ h .1) in
       let k : size (getD (drop at t) 0 0) ≡ size (getD t at 0) = ap size kind-is in
       let l = length-drop at t in
       omega arith
@@ -104,8 +104,8 @@ append-octets (x ∷ a) b ha hb (suc i) = append-octets a b (λ j. ha (suc j)) h
 
 -- every entry's fields
 
-known-family : (k : ℕ) → known k ≡ true → Family k
-unfolding known
+known-family : (k : ℕ) → knownKind k ≡ true → Family (familyOf k)
+unfolding knownKind
 known-family k e = ⊎-elim (λ q. inl (eqb-true k 4 q)) (λ q. inr (eqb-true k 6 q)) (or-true (eqb k 4) _ e)
 
 side-fields : (w ports at : ℕ) (e : List ℕ) → w ≤ 16 → Octets e → SideFields (sideOf w ports at e)
@@ -131,7 +131,7 @@ pub record Shape (e : Entry) : Type 0 where
 entry-shape : (s : List ℕ) → sound (item s) ≡ true → Shape (entryOf s)
 unfolding item entryOf selectorOf secretOf
 entry-shape s h =
-    let k = and-true (known (getD s 0 0)) _ h in
+    let k = and-true (knownKind (getD s 0 0)) _ h in
     let l = leb-true (size (getD s 0 0)) (length s) (k .1) in
     let b = body-is (getD s 0 0) in
     let w = 16 + 2 * width (getD s 0 0) in
@@ -143,7 +143,7 @@ unfolding item entryOf selectorOf
 entry-fields s o h =
     let w = width (getD s 0 0) in
     record {
-      family = known-family (getD s 0 0) (and-true (known (getD s 0 0)) _ h .0);
+      family = known-family (getD s 0 0) (and-true (knownKind (getD s 0 0)) _ h .0);
       local = side-fields w 5 13 s (width-le (getD s 0 0)) o;
       remote = side-fields w 9 (14 + w) s (width-le (getD s 0 0)) o;
     }

@@ -97,11 +97,15 @@ loaded limit t = judged limit 0 [] (items 0 t)
 abbrev pub maxEntries : ℕ
 maxEntries = 64
 
-abbrev pub checked : List ℕ → Loaded
+-- what the calls take of keys, and ask by the names below alone: today a table's bytes
+abbrev pub Tables : Type 0
+Tables = List ℕ
+
+abbrev pub checked : Tables → Loaded
 checked t = loaded maxEntries t
 
 -- "A table is valid if it gives none of 10 to 17."
-abbrev pub ValidTable : List ℕ → Type 0
+abbrev pub ValidTable : Tables → Type 0
 ValidTable t = (n : ℕ) × (checked t ≡ Valid n)
 
 -- nothing found: every field is zero
@@ -139,12 +143,12 @@ hasId (Recv id) i = eqb (i .recv) id
 unfoldable pub answers : By → Pair → Entry → Bool
 answers by p e = hasId by (e .ids) && matches (e .selector) p
 
-abbrev pub sendEntry : List ℕ → Pair → ℕ → Found
+abbrev pub sendEntry : Tables → Pair → ℕ → Found
 sendEntry t p id = found (answers (Send id) p) 0 (entries t)
 
-abbrev pub recvEntry : List ℕ → Pair → ℕ → Found
+abbrev pub recvEntry : Tables → Pair → ℕ → Found
 recvEntry t p id = found (answers (Recv id) p) 0 (entries t)
 
 -- "if any entry matches the pair"
-abbrev pub anyEntry : List ℕ → Pair → Bool
+abbrev pub anyEntry : Tables → Pair → Bool
 anyEntry t p = anyOf (answers Any p) (entries t)

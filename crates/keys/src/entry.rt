@@ -3,7 +3,7 @@
 ghost use mathlib.Core.Path.{_≡_};
 ghost use Prim.Native.Nat.{_+_, _*_, _≤_};
 ghost use lib.ListN.{length, take, drop, getD};
-ghost use Rattle.keys.specs.Entry.{known, size, width, padded, sideOf, selectorOf, idsOf, secretOf, entryOf};
+ghost use Rattle.keys.specs.Entry.{knownKind, familyOf, size, width, padded, sideOf, selectorOf, idsOf, secretOf, entryOf};
 
 // One side of whom an entry matches: ports from low to high, and the addresses whose first `bits` bits are those of `address`.
 pub struct Side {
@@ -51,7 +51,7 @@ pub struct Pair {
 }
 
 pub(crate) fn known_kind(kind: u8) -> bool
-    ensures { λ r. ⌜ r ≡ known kind ⌝ }
+    ensures { λ r. ⌜ r ≡ knownKind kind ⌝ }
 {
     if kind == 4 {
         return true;
@@ -107,7 +107,7 @@ fn side_of(e: &[u8], w: usize, ports: usize, at: usize) -> Side
 
 pub(crate) fn selector_of(e: &[u8]) -> Selector
     requires { ⌜ size (getD (now e) 0 0) ≤ length (now e) ⌝ }
-    ensures { λ r. ⌜ r ≡ selectorOf (width (getD (now (e .entry)) 0 0)) (now (e .entry)) ⌝ }
+    ensures { λ r. ⌜ r ≡ selectorOf (width (familyOf (getD (now (e .entry)) 0 0))) (now (e .entry)) ⌝ }
 {
     let w = width_of(e[0]);
     Selector {
@@ -129,7 +129,7 @@ pub(crate) fn ids_of(e: &[u8]) -> Ids
 
 fn secret_of(e: &[u8]) -> Secret
     requires { ⌜ size (getD (now e) 0 0) ≤ length (now e) ⌝ }
-    ensures { λ r. ⌜ r ≡ secretOf (width (getD (now (e .entry)) 0 0)) (now (e .entry)) ⌝ }
+    ensures { λ r. ⌜ r ≡ secretOf (width (familyOf (getD (now (e .entry)) 0 0))) (now (e .entry)) ⌝ }
 {
     let w = width_of(e[0]);
     let k = key_at(e, 16 + 2 * w);

@@ -2,7 +2,7 @@
 use Prim.Native.Nat.{ℕ, _-_, _≤_}
 use mathlib.Core.Path.{_≡_, refl, _∙_}
 use mathlib.Core.Bool.{Bool, true, false, cond, _&&_}
-use mathlib.Core.List.{List}
+use mathlib.Core.List.{List, _++_}
 use mathlib.Core.Logic.{_⊎_, inl, inr, ⊎-elim}
 use native.Mathlib.Omega.{arith}
 use lib.ListN.{length, replicate}
@@ -11,7 +11,7 @@ use lib.Dec.{eqb}
 use borrow.Author.Tests.{eqb-true, not-false}
 use Rattle.wire.specs.Header.{sourcePort, destinationPort, sequence, wellSized}
 use Rattle.keys.specs.Entry.{width}
-use Rattle.keys.specs.Table.{checked, nobody, recvEntry}
+use Rattle.keys.specs.Table.{Tables, checked, nobody, recvEntry}
 use Rattle.keys.specs.MatchLaws.{or-true, and-true}
 use Rattle.keys.specs.SearchLaws.{valid-proper, recv-holder, recv-nobody}
 use Rattle.keys.specs.declared.entry.Pair.{Pair}
@@ -22,33 +22,44 @@ use Rattle.rules.specs.declared.Line.{Line}
 use Rattle.rules.specs.declared.Place.{Place}
 use Rattle.rules.specs.declared.Outcome.{Outcome}
 use Rattle.rules.specs.Numbers.{first}
-use Rattle.rules.specs.NumberLaws.{NoneApplies, eachGives}
+use Rattle.rules.specs.NumberLaws.{NoneApplies, none-split, eachGives}
+use Rattle.rules.specs.GroupLaws.{sized-of}
 use Rattle.rules.specs.Mac.{Flow}
 use Rattle.rules.specs.Connection.{sized, arrivalPair, arrivingSyn}
-use Rattle.rules.specs.Calls.{isRefused, keyTests}
-use Rattle.numbers.specs.Groups.{inputTests, stateTests, formTests, goodAt, arrivingOn}
+use Rattle.rules.specs.Calls.{isRefused, addressTests, tableTests, inputTests, stateTests, familyTests, lengthTests}
+use Rattle.numbers.specs.Groups.{provedTests, goodAt, arrivingOn}
 use Rattle.numbers.specs.GroupLaws.{isFinal, refusal-final}
 
 -- no group gives Good
-module _ (t a b : List ℕ) where
-  pub input-final : eachGives isFinal (inputTests t a b) ≡ true
-  input-final = rw (refusal-final (checked t))
+module _ (t : Tables) (a b s : List ℕ) where
+  pub early-syn-final : eachGives isFinal (inputTests t a b ++ lengthTests 20 s) ≡ true
+  early-syn-final = rw (refusal-final (checked t))
 
-  pub state-final : (l : Line) → eachGives isFinal (stateTests t a b l) ≡ true
-  state-final l = input-final
+  pub early-final : (l : Line) → eachGives isFinal (stateTests t a b l ++ lengthTests 20 s) ≡ true
+  early-final l = early-syn-final
 
   -- what they leave
   pub input-sized : NoneApplies (inputTests t a b) → sized a b ≡ true
   input-sized n = not-false (sized a b) (n .0)
 
   pub input-valid : NoneApplies (inputTests t a b) → isRefused (checked t) ≡ false
-  input-valid n = n .1 .0
+  input-valid n = none-split (addressTests a b) (tableTests t) n .1 .0
 
-pub form-sized : (s : List ℕ) → NoneApplies (formTests s) → wellSized s ≡ true
-form-sized s n = rw (n .0, n .1 .0, n .1 .1 .0, n .1 .1 .1 .0)
+  module _ (n : NoneApplies (inputTests t a b ++ lengthTests 20 s)) where
+    abbrev parts : NoneApplies (inputTests t a b) × NoneApplies (lengthTests 20 s)
+    parts = none-split (inputTests t a b) (lengthTests 20 s) n
+
+    pub early-input : sized a b ≡ true
+    early-input = input-sized (parts .0)
+
+    pub early-left : (isRefused (checked t) ≡ false) × (wellSized s ≡ true)
+    early-left = (input-valid (parts .0), sized-of 20 s (parts .1))
+
+  pub state-left : (l : Line) → NoneApplies (stateTests t a b l ++ lengthTests 20 s) → NoneApplies (inputTests t a b ++ lengthTests 20 s)
+  state-left l n = none-split (familyTests l) (inputTests t a b ++ lengthTests 20 s) n .1
 
 -- the entry for a KeyID: in a table that is not refused its MAC has 12 bytes, and where none is found, 0
-module _ (t : List ℕ) (p : Pair) (id : ℕ) where
+module _ (t : Tables) (p : Pair) (id : ℕ) where
   pub entry-mac : isRefused (checked t) ≡ false → recvEntry t p id .entry .secret .«mac_bytes» ≤ 16
   unfolding nobody
   entry-mac e = go (checked t) (recvEntry t p id .there) refl refl e
@@ -60,8 +71,8 @@ module _ (t : List ℕ) (p : Pair) (id : ℕ) where
 
 -- 25 to 29 by values that are equal to the definitions'
 pub keyed-is : (s : List ℕ) {missing m unknown u : Outcome} {found e : Found} {g f : Flow} {place x : Place} → missing ≡ m → unknown ≡ u → found ≡ e → g ≡ f → place ≡ x → {r : Outcome}
-    → r ≡ first (keyTests missing unknown found g place s) (goodAt place s) → r ≡ first (keyTests m u e f x s) (goodAt x s)
-keyed-is s pm pu pe pf px q = q ∙ (λ i. first (keyTests (pm i) (pu i) (pe i) (pf i) (px i) s) (goodAt (px i) s))
+    → r ≡ first (provedTests missing unknown found g place s) (goodAt place s) → r ≡ first (provedTests m u e f x s) (goodAt x s)
+keyed-is s pm pu pe pf px q = q ∙ (λ i. first (provedTests (pm i) (pu i) (pe i) (pf i) (px i) s) (goodAt (px i) s))
 
 -- addresses of one size
 module _ (a b : List ℕ) (e : sized a b ≡ true) where

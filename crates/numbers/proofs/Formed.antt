@@ -12,8 +12,7 @@ use Rattle.wire.specs.Options.{optionsOf, isMalformed, aoIn, md5In}
 use Rattle.wire.specs.declared.options.Options.{Options}
 use Rattle.rules.specs.declared.Outcome.{Outcome}
 use Rattle.rules.specs.Numbers.{Test, test, tests, first}
-use Rattle.rules.specs.Calls.{refuse, unrefused, lengthTests, optionTests}
-use Rattle.numbers.specs.Groups.{formTests}
+use Rattle.rules.specs.Calls.{refuse, unrefused, lengthTests, formTests}
 
 -- one outcome behind several tests: one of them is enough
 pub one-of : (o : Outcome) (l : List Bool) (b : List (Test Outcome)) (p : Outcome) → any l ≡ true → o ≡ first (tests o l ++ b) p
@@ -38,6 +37,6 @@ abbrev optionLines : Options → List (Test Outcome)
 optionLines x =
     test (refuse 21) (isMalformed x) ∷ test (refuse 22) (ltb 1 (aoIn x .count)) ∷ test (refuse 22) (ltb 0 (aoIn x .count) && ltb 0 (md5In x .count)) ∷ []
 
-module _ (s : List ℕ) (sized : wellSized s ≡ true) {x : Options} (read : x ≡ optionsOf (area s)) where
+module _ (s : List ℕ) {x : Options} (read : x ≡ optionsOf (area s)) where
   pub form-is : {z : Outcome} (y : Options) → x ≡ y → z ≡ first (optionLines y) unrefused → z ≡ first (formTests s) unrefused
-  form-is y e q = q ∙ ap (λ (k : Options). first (optionLines k) unrefused) (sym e ∙ read) ∙ sym (well-sized 20 s (optionTests s) unrefused sized)
+  form-is y e q = q ∙ ap (λ (k : Options). first (optionLines k) unrefused) (sym e ∙ read)

@@ -1,100 +1,92 @@
--- `check` and `checkSyn` as the code takes them: group after group, then the tests by key. Assumes nothing.
+-- `check` and `checkSyn` as the code takes them, from seam to seam. Assumes nothing.
 use Prim.Native.Nat.{ℕ}
-use mathlib.Core.Path.{_≡_, ap, _∙_}
+use mathlib.Core.Path.{_≡_, sym, ap, _∙_}
 use mathlib.Core.Bool.{Bool}
-use mathlib.Core.List.{List, _++_}
+use mathlib.Core.List.{List, [], _∷_}
 use Rattle.wire.specs.Header.{sequence}
 use Rattle.keys.specs.declared.entry.Pair.{Pair}
-use Rattle.keys.specs.Table.{recvEntry}
+use Rattle.keys.specs.Table.{Tables, recvEntry}
 use Rattle.rules.specs.declared.Line.{Line}
 use Rattle.rules.specs.declared.Place.the-variants.{At}
 use Rattle.rules.specs.declared.Outcome.{Outcome}
 use Rattle.rules.specs.Numbers.{Test, first}
-use Rattle.rules.specs.NumberLaws.{NoneApplies}
+use Rattle.rules.specs.NumberLaws.{NoneApplies, first-none, first-joined}
 use Rattle.rules.specs.Mac.{Flow}
 use Rattle.rules.specs.Segment.{keyId}
 use Rattle.rules.specs.Connection.{Arrival, arrivalPair, arrivingSyn, placeOn}
-use Rattle.rules.specs.Calls.{unrefused, keyTests, synTests, synMissing, synUnknown, check, checkSyn}
-use Rattle.numbers.specs.Groups.{inputTests, stateTests, formTests, arrivalTests, keyedTests, synKeyedTests, goodAt, arrivingOn}
-use Rattle.numbers.specs.GroupLaws.{Else, decided, past}
-use Rattle.numbers.proofs.Checks.{input-sized, flow-back}
+use Rattle.rules.specs.Calls.{unrefused, Groups, inOrder, judgeGroups, synGroups, synMissing, synUnknown, check, checkSyn}
+use Rattle.numbers.specs.Groups.{early, formed, keyed, provedTests, keyedTests, synKeyedTests, goodAt, arrivingOn}
+use Rattle.numbers.specs.GroupLaws.{Else, stop}
+use Rattle.numbers.proofs.Checks.{early-input, flow-back}
 
--- three groups before the last
-module _ (a b c d : List (Test Outcome)) (o : Outcome) {x : Outcome} where
-  first-group : x ≡ first a unrefused → Else x → x ≡ first (a ++ (b ++ (c ++ d))) o
-  first-group g e = decided a (b ++ (c ++ d)) o g e
+-- all groups, cut at the code's seams
+module _ (g : Groups) (o : Outcome) where
+  seams : first (inOrder g) o ≡ first (early g) (first (formed g) (first (keyed g) o))
+  seams =
+      first-joined (g .input ∷ g .size ∷ []) (g .form ∷ g .arrival ∷ g .key ∷ g .mac ∷ []) o
+      ∙ ap (first (early g)) (first-joined (g .form ∷ g .arrival ∷ []) (g .key ∷ g .mac ∷ []) o)
 
-  second-group : NoneApplies a → x ≡ first b unrefused → Else x → x ≡ first (a ++ (b ++ (c ++ d))) o
-  second-group n g e = past a (b ++ (c ++ d)) o n (decided b (c ++ d) o g e)
+  at-early : {x : Outcome} → x ≡ first (early g) unrefused → Else x → x ≡ first (inOrder g) o
+  at-early e h = stop (early g) _ e h ∙ sym seams
 
-  third-group : NoneApplies a → NoneApplies b → x ≡ first c unrefused → Else x → x ≡ first (a ++ (b ++ (c ++ d))) o
-  third-group n m g e = past a (b ++ (c ++ d)) o n (past b (c ++ d) o m (decided c d o g e))
+  module _ (n : NoneApplies (early g)) where
+    past-early : {x : Outcome} → x ≡ first (formed g) (first (keyed g) o) → x ≡ first (inOrder g) o
+    past-early q = q ∙ sym (first-none (early g) _ n) ∙ sym seams
 
-  last-group : NoneApplies a → NoneApplies b → NoneApplies c → x ≡ first d o → x ≡ first (a ++ (b ++ (c ++ d))) o
-  last-group n m k q = past a (b ++ (c ++ d)) o n (past b (c ++ d) o m (past c d o k q))
+    at-formed : {x : Outcome} → x ≡ first (formed g) unrefused → Else x → x ≡ first (inOrder g) o
+    at-formed e h = past-early (stop (formed g) _ e h)
+
+    at-keyed : NoneApplies (formed g) → {x : Outcome} → x ≡ first (keyed g) o → x ≡ first (inOrder g) o
+    at-keyed m q = past-early (q ∙ sym (first-none (formed g) _ m))
 
 -- with a state
-module _ (t : List ℕ) (l : Line) (reference : ℕ) (a : Arrival) where
-  abbrev before : List (Test Outcome)
-  before = stateTests t (a .source) (a .destination) l
-
-  abbrev keyed : List (Test Outcome)
-  keyed = keyedTests t l reference (a .segment)
+module _ (t : Tables) (l : Line) (reference : ℕ) (a : Arrival) where
+  abbrev groups : Groups
+  groups = judgeGroups t l reference a
 
   abbrev answer : Outcome
   answer = goodAt (placeOn l reference (sequence (a .segment))) (a .segment)
 
   module _ {x : Outcome} where
-    pub check-state : x ≡ first before unrefused → Else x → x ≡ check t l reference a
+    pub check-early : x ≡ first (early groups) unrefused → Else x → x ≡ check t l reference a
     unfolding check
-    check-state g e = first-group before (formTests (a .segment)) (arrivalTests l a) keyed answer g e
+    check-early g e = at-early groups answer g e
 
-    module _ (n : NoneApplies before) where
-      pub check-form : x ≡ first (formTests (a .segment)) unrefused → Else x → x ≡ check t l reference a
+    module _ (n : NoneApplies (early groups)) where
+      pub check-formed : x ≡ first (formed groups) unrefused → Else x → x ≡ check t l reference a
       unfolding check
-      check-form g e = second-group before (formTests (a .segment)) (arrivalTests l a) keyed answer n g e
+      check-formed g e = at-formed groups answer n g e
 
-      pub check-arrival : NoneApplies (formTests (a .segment)) → x ≡ first (arrivalTests l a) unrefused → Else x → x ≡ check t l reference a
+      pub check-keyed : NoneApplies (formed groups) → x ≡ first (keyedTests t l reference (a .segment)) answer → x ≡ check t l reference a
       unfolding check
-      check-arrival m g e = third-group before (formTests (a .segment)) (arrivalTests l a) keyed answer n m g e
-
-      pub check-keyed : NoneApplies (formTests (a .segment)) → NoneApplies (arrivalTests l a) → x ≡ first keyed answer → x ≡ check t l reference a
-      unfolding check
-      check-keyed m k q = last-group before (formTests (a .segment)) (arrivalTests l a) keyed answer n m k q
+      check-keyed m q = at-keyed groups answer n m q
 
 -- without one
-module _ (t : List ℕ) (a : Arrival) (strict : Bool) where
-  abbrev synBefore : List (Test Outcome)
-  synBefore = inputTests t (a .source) (a .destination)
+module _ (t : Tables) (a : Arrival) (strict : Bool) where
+  abbrev synGroup : Groups
+  synGroup = synGroups t a strict
 
   -- by the definition the flow of a bare SYN is made of the arrival itself
   abbrev synKeyed : Pair → Flow → List (Test Outcome)
-  synKeyed p f = keyTests (synMissing t p) (synUnknown strict) (recvEntry t p (keyId (a .segment))) f (At (sequence (a .segment))) (a .segment)
-
-  abbrev synAll : List (Test Outcome)
-  synAll = synKeyed (arrivalPair a) (arrivingSyn a)
+  synKeyed p f = provedTests (synMissing t p) (synUnknown strict) (recvEntry t p (keyId (a .segment))) f (At (sequence (a .segment))) (a .segment)
 
   abbrev synAnswer : Outcome
   synAnswer = goodAt (At (sequence (a .segment))) (a .segment)
 
   module _ {x : Outcome} where
-    pub syn-input : x ≡ first synBefore unrefused → Else x → x ≡ checkSyn t a strict
+    pub syn-early : x ≡ first (early synGroup) unrefused → Else x → x ≡ checkSyn t a strict
     unfolding checkSyn
-    syn-input g e = first-group synBefore (formTests (a .segment)) (synTests (a .segment)) synAll synAnswer g e
+    syn-early g e = at-early synGroup synAnswer g e
 
-    module _ (n : NoneApplies synBefore) where
-      pub syn-form : x ≡ first (formTests (a .segment)) unrefused → Else x → x ≡ checkSyn t a strict
+    module _ (n : NoneApplies (early synGroup)) where
+      pub syn-formed : x ≡ first (formed synGroup) unrefused → Else x → x ≡ checkSyn t a strict
       unfolding checkSyn
-      syn-form g e = second-group synBefore (formTests (a .segment)) (synTests (a .segment)) synAll synAnswer n g e
-
-      pub syn-stage : NoneApplies (formTests (a .segment)) → x ≡ first (synTests (a .segment)) unrefused → Else x → x ≡ checkSyn t a strict
-      unfolding checkSyn
-      syn-stage m g e = third-group synBefore (formTests (a .segment)) (synTests (a .segment)) synAll synAnswer n m g e
+      syn-formed g e = at-formed synGroup synAnswer n g e
 
       -- the code has the pair p, and the flow from it
-      pub syn-keyed : NoneApplies (formTests (a .segment)) → NoneApplies (synTests (a .segment)) → {p : Pair} → p ≡ arrivalPair a
+      pub syn-keyed : NoneApplies (formed synGroup) → {p : Pair} → p ≡ arrivalPair a
           → x ≡ first (synKeyedTests t p strict (a .segment)) synAnswer → x ≡ checkSyn t a strict
       unfolding checkSyn
-      syn-keyed m k e q =
-          let flow = ap (λ (p : Pair). arrivingOn p (sequence (a .segment)) 0) e ∙ flow-back (a .source) (a .destination) (input-sized t (a .source) (a .destination) n) (a .segment) in
-          last-group synBefore (formTests (a .segment)) (synTests (a .segment)) synAll synAnswer n m k (q ∙ (λ i. first (synKeyed (e i) (flow i)) synAnswer))
+      syn-keyed m e q =
+          let flow = ap (λ (p : Pair). arrivingOn p (sequence (a .segment)) 0) e ∙ flow-back (a .source) (a .destination) (early-input t (a .source) (a .destination) (a .segment) n) (a .segment) in
+          at-keyed synGroup synAnswer n m (q ∙ (λ i. first (synKeyed (e i) (flow i)) synAnswer))

@@ -26,8 +26,8 @@ use Rattle.rules.specs.Numbers.{first}
 use Rattle.rules.specs.Mac.{Flow, segmentMac}
 use Rattle.rules.specs.Segment.{ao}
 use Rattle.rules.specs.Connection.{located, value, extensionOf}
-use Rattle.rules.specs.Calls.{refuse, macDiffers, keyTests}
-use Rattle.numbers.specs.Groups.{goodAt}
+use Rattle.rules.specs.Calls.{refuse, macDiffers}
+use Rattle.numbers.specs.Groups.{provedTests, goodAt}
 use Rattle.traffic.specs.TagLaws.{tagOf, tag-mac}
 use Rattle.numbers.specs.GroupLaws.{yes, no}
 
@@ -65,7 +65,7 @@ mac-is secret f extension at s {end} e n q =
 module _ (missing unknown : Outcome) (found : Search) (f : Flow) (x : Place) (s : List ℕ) {o : Occurrence} (is : o ≡ ao s) where
   -- what is given, by document 01
   abbrev Given : Outcome → Type 0
-  Given z = z ≡ first (keyTests missing unknown found f x s) (goodAt x s)
+  Given z = z ≡ first (provedTests missing unknown found f x s) (goodAt x s)
 
   pub given-missing : o .count ≡ 0 → Given missing
   given-missing e = yes _ _ (eq-eqb _ _ (ap (λ (k : Occurrence). k .count) (sym is) ∙ e)) refl

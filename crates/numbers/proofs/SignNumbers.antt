@@ -13,7 +13,7 @@ use Rattle.wire.specs.declared.options.Seen.{Seen}
 use Rattle.wire.specs.declared.options.Options.{Options}
 use Rattle.wire.specs.declared.options.Options.the-variants.{Malformed, Found}
 use Rattle.keys.specs.declared.table.Found.{Found as Search}
-use Rattle.keys.specs.Table.{checked}
+use Rattle.keys.specs.Table.{Tables, checked}
 use Rattle.rules.specs.declared.Outcome.{Outcome}
 use Rattle.rules.specs.declared.Outcome.the-variants.{Good, Bad}
 use Rattle.rules.specs.declared.Place.{Place}
@@ -58,7 +58,7 @@ placed l s p x b e q =
     (λ i. cond (q i && not (eqb x (l .isn))) (refuse 36) unrefused) ∙ ap (λ (p : Place). first (sentPlaceTests l p s) unrefused) (sym e)
 
 -- all of them in their order
-module _ (t s : List ℕ) (room : ℕ) (q : State) (f : Search) where
+module _ (t : Tables) (s : List ℕ) (room : ℕ) (q : State) (f : Search) where
   abbrev place : Place
   place = placeOn (q .line) (q .sent) (sequence s)
 

@@ -5,6 +5,7 @@ use mathlib.Core.Bool.{Bool, not}
 use mathlib.Core.List.{List, [], _∷_, _++_}
 use lib.ListN.{length}
 use lib.Dec.{ltb}
+use Rattle.keys.specs.Table.{Tables}
 use Rattle.rules.specs.declared.Outcome.{Outcome}
 use Rattle.rules.specs.declared.Place.{Place}
 use Rattle.rules.specs.declared.Line.{Line}
@@ -12,7 +13,7 @@ use Rattle.rules.specs.Numbers.{Test, test}
 use Rattle.rules.specs.Calls.{refuse, familyTests, tableTests, lengthTests, freshTests, growthTests, portTests, signStageTests, sentPlaceTests}
 
 -- 18, 10 to 17, 30 and 31
-abbrev pub inputTests : List ℕ → List ℕ → Line → List (Test Outcome)
+abbrev pub inputTests : Tables → List ℕ → Line → List (Test Outcome)
 inputTests t s l = familyTests l ++ (tableTests t ++ (lengthTests 30 s ++ freshTests s))
 
 -- 32, 33 and 34

@@ -11,11 +11,10 @@ ghost use Rattle.rules.specs.Connection.{sized, arrivalPair, isOpen, placeOn};
 ghost use Rattle.rules.specs.Calls.{isRefused, synMissing, synUnknown, check as checkOf, checkSyn};
 ghost use Rattle.traffic.specs.Way.{flowOf};
 ghost use Rattle.numbers.specs.Groups.{arrivingOn, keyedTests, synKeyedTests, goodAt};
-use crate::faults::arrival_faults;
-use crate::faults::form_faults;
-use crate::faults::input_faults;
-use crate::faults::state_faults;
-use crate::faults::syn_faults;
+use crate::faults::early_faults;
+use crate::faults::early_syn_faults;
+use crate::faults::formed_faults;
+use crate::faults::formed_syn_faults;
 use crate::verify::carried;
 use crate::verify::key_id;
 use crate::verify::verified;
@@ -99,17 +98,13 @@ pub fn check(
 ) -> Outcome
     ensures { λ r. ⌜ r ≡ checkOf (now (table .entry)) line reference (record { source = now (source .entry); destination = now (destination .entry); segment = now (segment .entry) }) ⌝ }
 {
-    let state = state_faults(table, source, destination, line);
-    let Outcome::Good(_, _) = state else {
-        return state;
+    let early = early_faults(table, source, destination, segment, line);
+    let Outcome::Good(_, _) = early else {
+        return early;
     };
-    let form = form_faults(segment);
-    let Outcome::Good(_, _) = form else {
-        return form;
-    };
-    let arrival = arrival_faults(line, source, destination, segment);
-    let Outcome::Good(_, _) = arrival else {
-        return arrival;
+    let formed = formed_faults(line, source, destination, segment);
+    let Outcome::Good(_, _) = formed else {
+        return formed;
     };
     keyed(table, segment, line, reference)
 }
@@ -177,17 +172,13 @@ pub fn check_syn(
 ) -> Outcome
     ensures { λ r. ⌜ r ≡ checkSyn (now (table .entry)) (record { source = now (source .entry); destination = now (destination .entry); segment = now (segment .entry) }) strict ⌝ }
 {
-    let input = input_faults(table, source, destination);
-    let Outcome::Good(_, _) = input else {
-        return input;
+    let early = early_syn_faults(table, source, destination, segment);
+    let Outcome::Good(_, _) = early else {
+        return early;
     };
-    let form = form_faults(segment);
-    let Outcome::Good(_, _) = form else {
-        return form;
-    };
-    let stage = syn_faults(segment);
-    let Outcome::Good(_, _) = stage else {
-        return stage;
+    let formed = formed_syn_faults(segment);
+    let Outcome::Good(_, _) = formed else {
+        return formed;
     };
     let pair = arrival_pair(source, destination, segment);
     keyed_syn(table, segment, pair, strict)

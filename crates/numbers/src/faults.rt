@@ -2,11 +2,12 @@
 // where none of its tests applies, it gives Good(0, 0), of which nothing is made. Assumes nothing.
 ghost use mathlib.Core.Path.{_≡_};
 ghost use mathlib.Core.Bool.{_&&_};
+ghost use mathlib.Core.List.{_++_};
 ghost use Rattle.wire.specs.Header.{syn, ack};
 ghost use Rattle.rules.specs.Numbers.{first};
 ghost use Rattle.rules.specs.Segment.{isBareSyn};
-ghost use Rattle.rules.specs.Calls.{unrefused, familyTests, addressTests, tableTests, pairTests, stageTests, synTests};
-ghost use Rattle.numbers.specs.Groups.{inputTests, stateTests, countTests, formTests, arrivalTests};
+ghost use Rattle.rules.specs.Calls.{unrefused, familyTests, addressTests, tableTests, inputTests, stateTests, lengthTests, formTests, pairTests, stageTests, arrivalTests, synTests};
+ghost use Rattle.numbers.specs.Groups.{countTests};
 use keys::entry::Pair;
 use keys::table::Loaded;
 use rules::Line;
@@ -59,7 +60,7 @@ pub fn address_faults(a: &[u8], b: &[u8]) -> Outcome
 }
 
 // Without a state: 19, then the table's number.
-pub fn input_faults(table: &[u8], a: &[u8], b: &[u8]) -> Outcome
+fn input_faults(table: &[u8], a: &[u8], b: &[u8]) -> Outcome
     ensures { λ r. ⌜ r ≡ first (inputTests (now (table .entry)) (now (a .entry)) (now (b .entry))) unrefused ⌝ }
 {
     let sizes = address_faults(a, b);
@@ -71,7 +72,7 @@ pub fn input_faults(table: &[u8], a: &[u8], b: &[u8]) -> Outcome
 }
 
 // With a state: 18 before 19.
-pub fn state_faults(table: &[u8], source: &[u8], destination: &[u8], line: Line) -> Outcome
+fn state_faults(table: &[u8], source: &[u8], destination: &[u8], line: Line) -> Outcome
     ensures { λ r. ⌜ r ≡ first (stateTests (now (table .entry)) (now (source .entry)) (now (destination .entry)) line) unrefused ⌝ }
 {
     let family = family_faults(line);
@@ -97,13 +98,20 @@ fn option_faults(ao: usize, md5: usize) -> Outcome
     Outcome::Bad(22, 0)
 }
 
-// 20: "bad length or offset"; 21: "malformed options"; 22.
-pub fn form_faults(segment: &[u8]) -> Outcome
-    ensures { λ r. ⌜ r ≡ first (formTests (now (segment .entry))) unrefused ⌝ }
+// 20: "bad length or offset".
+fn length_faults(segment: &[u8]) -> Outcome
+    ensures { λ r. ⌜ r ≡ first (lengthTests 20 (now (segment .entry))) unrefused ⌝ }
 {
     if !wire::header::well_sized(segment) {
         return Outcome::Bad(20, 0);
     }
+    Outcome::Good(0, 0)
+}
+
+// 21: "malformed options"; 22.
+fn form_faults(segment: &[u8]) -> Outcome
+    ensures { λ r. ⌜ r ≡ first (formTests (now (segment .entry))) unrefused ⌝ }
+{
     match wire::options::of_segment(segment) {
         Options::Malformed => Outcome::Bad(21, 0),
         Options::Found(seen) => option_faults(seen.ao.count, seen.md5.count),
@@ -167,7 +175,7 @@ fn stage_faults(line: Line, segment: &[u8]) -> Outcome
 }
 
 // 24 without a state: anything but a bare SYN.
-pub fn syn_faults(segment: &[u8]) -> Outcome
+fn syn_faults(segment: &[u8]) -> Outcome
     ensures { λ r. ⌜ r ≡ first (synTests (now (segment .entry))) unrefused ⌝ }
 {
     if is_bare_syn(segment) {
@@ -177,7 +185,7 @@ pub fn syn_faults(segment: &[u8]) -> Outcome
 }
 
 // 23, then 24.
-pub fn arrival_faults(line: Line, source: &[u8], destination: &[u8], segment: &[u8]) -> Outcome
+fn arrival_faults(line: Line, source: &[u8], destination: &[u8], segment: &[u8]) -> Outcome
     ensures { λ r. ⌜ r ≡ first (arrivalTests line (record { source = now (source .entry); destination = now (destination .entry); segment = now (segment .entry) })) unrefused ⌝ }
 {
     let pair = pair_faults(line.pair, source, destination, segment);
@@ -185,4 +193,53 @@ pub fn arrival_faults(line: Line, source: &[u8], destination: &[u8], segment: &[
         return pair;
     };
     stage_faults(line, segment)
+}
+
+// With a state, up to 20: the input, and the segment's size.
+pub fn early_faults(
+    table: &[u8],
+    source: &[u8],
+    destination: &[u8],
+    segment: &[u8],
+    line: Line,
+) -> Outcome
+    ensures { λ r. ⌜ r ≡ first (stateTests (now (table .entry)) (now (source .entry)) (now (destination .entry)) line ++ lengthTests 20 (now (segment .entry))) unrefused ⌝ }
+{
+    let state = state_faults(table, source, destination, line);
+    let Outcome::Good(_, _) = state else {
+        return state;
+    };
+    length_faults(segment)
+}
+
+// 21 to 24: form, pair and stage.
+pub fn formed_faults(line: Line, source: &[u8], destination: &[u8], segment: &[u8]) -> Outcome
+    ensures { λ r. ⌜ r ≡ first (formTests (now (segment .entry)) ++ arrivalTests line (record { source = now (source .entry); destination = now (destination .entry); segment = now (segment .entry) })) unrefused ⌝ }
+{
+    let form = form_faults(segment);
+    let Outcome::Good(_, _) = form else {
+        return form;
+    };
+    arrival_faults(line, source, destination, segment)
+}
+
+// The same without a state.
+pub fn early_syn_faults(table: &[u8], source: &[u8], destination: &[u8], segment: &[u8]) -> Outcome
+    ensures { λ r. ⌜ r ≡ first (inputTests (now (table .entry)) (now (source .entry)) (now (destination .entry)) ++ lengthTests 20 (now (segment .entry))) unrefused ⌝ }
+{
+    let input = input_faults(table, source, destination);
+    let Outcome::Good(_, _) = input else {
+        return input;
+    };
+    length_faults(segment)
+}
+
+pub fn formed_syn_faults(segment: &[u8]) -> Outcome
+    ensures { λ r. ⌜ r ≡ first (formTests (now (segment .entry)) ++ synTests (now (segment .entry))) unrefused ⌝ }
+{
+    let form = form_faults(segment);
+    let Outcome::Good(_, _) = form else {
+        return form;
+    };
+    syn_faults(segment)
 }

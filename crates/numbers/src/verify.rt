@@ -10,9 +10,8 @@ ghost use Rattle.wire.specs.Header.{headerEnd, wellSized};
 ghost use Rattle.rules.specs.Numbers.{first};
 ghost use Rattle.rules.specs.Mac.{segmentMac};
 ghost use Rattle.rules.specs.Segment.{ao, keyId};
-ghost use Rattle.rules.specs.Calls.{keyTests};
 ghost use Rattle.traffic.specs.Way.{flowOf};
-ghost use Rattle.numbers.specs.Groups.{goodAt};
+ghost use Rattle.numbers.specs.Groups.{provedTests, goodAt};
 use keys::entry::Secret;
 use keys::table::Found;
 use rules::Outcome;
@@ -78,7 +77,7 @@ pub fn verified(
     segment: &[u8],
 ) -> Outcome
     requires { ⌜ (option ≡ ao (now segment)) × (wellSized (now segment) ≡ true) × (found .entry .secret .«mac_bytes» ≤ 16) ⌝ }
-    ensures { λ r. ⌜ r ≡ first (keyTests missing unknown found (flowOf way) place (now (segment .entry))) (goodAt place (now (segment .entry))) ⌝ }
+    ensures { λ r. ⌜ r ≡ first (provedTests missing unknown found (flowOf way) place (now (segment .entry))) (goodAt place (now (segment .entry))) ⌝ }
 {
     let entry = found.entry;
     let secret = entry.secret;

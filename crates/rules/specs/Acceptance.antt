@@ -14,7 +14,7 @@ use Rattle.keys.specs.declared.entry.Pair.{Pair}
 use Rattle.keys.specs.declared.entry.Entry.{Entry}
 use Rattle.keys.specs.declared.table.Found.{Found}
 use Rattle.keys.specs.Mirror.{Mirror}
-use Rattle.keys.specs.Table.{ValidTable}
+use Rattle.keys.specs.Table.{Tables, ValidTable}
 use Rattle.keys.specs.SearchLaws.{hit}
 use Rattle.rules.specs.declared.Place.the-variants.{At}
 use Rattle.rules.specs.declared.Outcome.{Outcome}
@@ -25,7 +25,7 @@ use Rattle.rules.specs.Mac.{Flow, segmentMac}
 use Rattle.rules.specs.MacLaws.{Agree}
 use Rattle.rules.specs.Segment.{ao}
 use Rattle.rules.specs.Connection.{leaving, value, extensionOf}
-use Rattle.rules.specs.Calls.{keyTests, isRefused, macDiffers, optionTests, lengthTests, tableTests}
+use Rattle.rules.specs.Calls.{keyTests, macTests, isRefused, macDiffers, formTests, lengthTests, tableTests}
 use Rattle.rules.specs.Ends.{Bytes, SignedAt}
 use Rattle.rules.specs.RoundTrip.{Reads}
 use Rattle.rules.specs.Delivery.{signs, twelve, mac, length-its-mac, segment, reads, same-mac, sizes}
@@ -57,7 +57,7 @@ module _ (q : State) (e : Entry) (x : ℕ) (b : List ℕ) (g : SignedAt q e x b)
   pub none-20 : NoneApplies (lengthTests 20 came)
   none-20 = let z = sizes q e x b g c d in (z .0, (z .1, (z .2, (z .3, tt))))
 
-  pub none-21 : NoneApplies (optionTests came)
+  pub none-21 : NoneApplies (formTests came)
   none-21 =
       (read .formed, (ap (λ (o : Occurrence). ltb 1 (o .count)) (read .one), (rw (read .one) (ap (λ (n : ℕ). ltb 0 n) (read .no-md5)), tt)))
 
@@ -76,10 +76,10 @@ module _ (q : State) (e : Entry) (x : ℕ) (b : List ℕ) (g : SignedAt q e x b)
         (read .mac
         ∙ sym ((λ j. segmentMac (held j .entry .secret) f (ext j) (20 + read .one j .at) came) ∙ same-mac q e x b g c d (ours .secret) f agree flow)))
 
-    pub keyed : NoneApplies (keyTests missing unknown found f (At y) came)
+    pub keyed : NoneApplies (keyTests missing unknown found (At y) came) × NoneApplies (macTests (found .entry) f (At y) came)
     keyed =
-        (ap (λ (o : Occurrence). eqb (o .count) 0) (read .one), (ap (λ (o : Found). not (o .there)) held, (right-length, (refl, (right-mac, tt)))))
+        ((ap (λ (o : Occurrence). eqb (o .count) 0) (read .one), (ap (λ (o : Found). not (o .there)) held, (right-length, (refl, tt)))), (right-mac, tt))
 
 -- a table that is valid, addresses of one size
-pub none-10 : (t : List ℕ) → ValidTable t → NoneApplies (tableTests t)
+pub none-10 : (t : Tables) → ValidTable t → NoneApplies (tableTests t)
 none-10 t v = (ap isRefused (v .1), tt)

@@ -4,19 +4,19 @@ use mathlib.Core.Path.{_≡_, refl, ap, ap₂, sym, _∙_, subst⁻¹}
 use mathlib.Core.Bool.{Bool, true, false, cond, not, _&&_}
 use mathlib.Core.List.{List}
 use native.Mathlib.Omega.{arith}
-use lib.ListN.{length, take, drop}
+use lib.ListN.{length, take}
 use lib.Seq.{length-take-le, take-at}
 use lib.Dec.{eqb}
 use borrow.Author.Tests.{eq-eqb, eqb-true, not-false}
 use Rattle.wire.specs.BytesLaws.{same-refl}
 use Rattle.wire.specs.Header.{sourcePort, destinationPort, sequence, syn, ack}
 use Rattle.keys.specs.declared.entry.Entry.{Entry}
-use Rattle.keys.specs.Entry.{known, width, padded, entries}
+use Rattle.keys.specs.Entry.{isFamily, width, padded, entries}
 use Rattle.keys.specs.EntryLaws.{width-le}
 use Rattle.keys.specs.MatchLaws.{and-true}
 use Rattle.keys.specs.PlaceLaws.{At as EntryAt}
 use Rattle.keys.specs.Mirror.{Mirror}
-use Rattle.keys.specs.Table.{ValidTable, recvEntry}
+use Rattle.keys.specs.Table.{Tables, ValidTable, recvEntry}
 use Rattle.keys.specs.SearchLaws.{hit, recv-found, send-holder}
 use Rattle.rules.specs.declared.Place.{Place}
 use Rattle.rules.specs.declared.Place.the-variants.{At}
@@ -25,10 +25,11 @@ use Rattle.rules.specs.declared.Line.{Line}
 use Rattle.rules.specs.declared.State.{State}
 use Rattle.rules.specs.Position.{position, Near}
 use Rattle.rules.specs.PositionLaws.{complete, sound}
-use Rattle.rules.specs.NumberLaws.{NoneApplies, first-none, none-append}
+use Rattle.rules.specs.NumberLaws.{NoneApplies, none-append}
+use Rattle.rules.specs.GroupLaws.{first-clear}
 use Rattle.rules.specs.Segment.{keyId, isBareSyn}
 use Rattle.rules.specs.Connection.{sized, Arrival, localAddress, remoteAddress, arrivalPair, isOpen, arriving, arrivingSyn, leaving, placeOn, value, extensionOf}
-use Rattle.rules.specs.Calls.{refuse, familyTests, addressTests, tableTests, lengthTests, optionTests, pairTests, stageTests, keyTests, judgeTests, check, synTests, synMissing, synUnknown, judgeSynTests, checkSyn}
+use Rattle.rules.specs.Calls.{refuse, familyTests, addressTests, tableTests, inputTests, pairTests, stageTests, keyTests, macTests, judgeGroups, check, synMissing, synUnknown, synGroups, checkSyn}
 use Rattle.rules.specs.Ends.{Typed, Allowed, Facing, OtherEnd, SignedAt, TrueSegment}
 use Rattle.rules.specs.Demand3.{Within}
 use Rattle.rules.specs.RoundTrip.{Arrived}
@@ -48,8 +49,8 @@ sized-by f a b p q = go (eqb f 4) refl
     go false e = rw (p, q, e)
 
 -- the family of addresses is told by their size
-family-by : (f n : ℕ) → known f ≡ true → n ≡ width f → cond (eqb n 4) 4 6 ≡ f
-unfolding width known
+family-by : (f n : ℕ) → isFamily f ≡ true → n ≡ width f → cond (eqb n 4) 4 6 ≡ f
+unfolding width isFamily
 family-by f n a h = go (eqb f 4) (eqb f 6) refl refl
   where
     go : (u w : Bool) → eqb f 4 ≡ u → eqb f 6 ≡ w → cond (eqb n 4) 4 6 ≡ f
@@ -59,7 +60,7 @@ family-by f n a h = go (eqb f 4) (eqb f 6) refl refl
 
 -- With a state: the receiver's table t holds `ours`, which mirrors the sender's entry e; its line l faces the sender's.
 module _ (q : State) (e : Entry) (x : ℕ) (b : List ℕ) (g : SignedAt q e x b) (c d : ℕ)
-    (t : List ℕ) (valid : ValidTable t) (l : Line) (allowed : Allowed l) (local : length (l .pair .local) ≡ 16) (remote : length (l .pair .remote) ≡ 16)
+    (t : Tables) (valid : ValidTable t) (l : Line) (allowed : Allowed l) (local : length (l .pair .local) ≡ 16) (remote : length (l .pair .remote) ≡ 16)
     (facing : Facing (l .pair) (q .line .pair)) (i : ℕ) (ours : Entry) (among : EntryAt (entries t) i ours) (mirror : Mirror (l .pair) ours e) where
   abbrev came : List ℕ
   came = segment q e x b g c d
@@ -84,13 +85,22 @@ module _ (q : State) (e : Entry) (x : ℕ) (b : List ℕ) (g : SignedAt q e x b)
       → placeOn l reference (sequence came) ≡ At y → extensionOf y ≡ extensionOf x → check t l reference comes ≡ Good y (q .«ask_id»)
   unfolding check
   accepted reference y stage flow place ext =
-      first-none (judgeTests t l reference comes) _
-      (none-append (familyTests l) (drop 1 (judgeTests t l reference comes)) (ap not allowed, tt)
-      (none-append (addressTests (remoteAddress (l .pair)) (localAddress (l .pair))) (drop 2 (judgeTests t l reference comes)) (ap not (sized-by (l .pair .family) (remoteAddress (l .pair)) (localAddress (l .pair)) (address-length (l .pair .family) (l .pair .remote) remote) (address-length (l .pair .family) (l .pair .local) local)), tt)
-      (none-append (tableTests t) (drop 3 (judgeTests t l reference comes)) (none-10 t valid)
-      (none-append (lengthTests 20 came) (drop 7 (judgeTests t l reference comes)) (none-20 q e x b g c d)
-      (none-append (optionTests came) (drop 10 (judgeTests t l reference comes)) (none-21 q e x b g c d)
-      (none-append (pairTests (l .pair) comes) (drop 14 (judgeTests t l reference comes)) (
+      first-clear (judgeGroups t l reference comes) _
+      (record {
+        input =
+            none-append (familyTests l) (inputTests t (remoteAddress (l .pair)) (localAddress (l .pair))) (ap not allowed, tt)
+            (none-append (addressTests (remoteAddress (l .pair)) (localAddress (l .pair))) (tableTests t)
+            (ap not (sized-by (l .pair .family) (remoteAddress (l .pair)) (localAddress (l .pair)) (address-length (l .pair .family) (l .pair .remote) remote) (address-length (l .pair .family) (l .pair .local) local)), tt) (none-10 t valid));
+        size = none-20 q e x b g c d;
+        form = none-21 q e x b g c d;
+        arrival = none-append (pairTests (l .pair) comes) (stageTests l came) pair (stage, tt);
+        key = keys .0;
+        mac = keys .1;
+      })
+      ∙ ap₂ (λ (z : Place) (r : ℕ). Good (value z) r) place (read .reads .next)
+    where
+      pair : NoneApplies (pairTests (l .pair) comes)
+      pair = (
         ap not (same-refl (remoteAddress (l .pair))),
         (
           ap not (same-refl (localAddress (l .pair))),
@@ -100,10 +110,12 @@ module _ (q : State) (e : Entry) (x : ℕ) (b : List ℕ) (g : SignedAt q e x b)
           ),
         ),
       )
-      (none-append (stageTests l came) (drop 15 (judgeTests t l reference comes)) (stage, tt)
-      (subst⁻¹ (λ (z : Place). NoneApplies (keyTests (refuse 25) (refuse 26) (recvEntry t (l .pair) (keyId came)) (arriving l came) z came)) place
-      (keyed q e x b g c d (refuse 25) (refuse 26) i ours (arriving l came) y (recvEntry t (l .pair) (keyId came)) (agree-of (l .pair) ours e mirror) found flow ext)))))))))
-      ∙ ap₂ (λ (z : Place) (r : ℕ). Good (value z) r) place (read .reads .next)
+
+      keys : NoneApplies (keyTests (refuse 25) (refuse 26) (recvEntry t (l .pair) (keyId came)) (placeOn l reference (sequence came)) came)
+          × NoneApplies (macTests (recvEntry t (l .pair) (keyId came) .entry) (arriving l came) (placeOn l reference (sequence came)) came)
+      keys =
+          subst⁻¹ (λ (z : Place). NoneApplies (keyTests (refuse 25) (refuse 26) (recvEntry t (l .pair) (keyId came)) z came) × NoneApplies (macTests (recvEntry t (l .pair) (keyId came) .entry) (arriving l came) z came)) place
+          (keyed q e x b g c d (refuse 25) (refuse 26) i ours (arriving l came) y (recvEntry t (l .pair) (keyId came)) (agree-of (l .pair) ours e mirror) found flow ext)
 
   -- a segment that is no bare SYN arrives as none
   not-bare : (w : Bool) → isBareSyn (g .unsigned) ≡ w → isBareSyn came ≡ w
@@ -197,7 +209,7 @@ module _ (q : State) (typed : Typed q) (opening : isOpen (q .line) ≡ false) (e
           ap (λ (n : ℕ). take (width n) (padded (take (width (q .line .pair .family)) a))) family
           ∙ take-at (take (width (q .line .pair .family)) a) _ (width (q .line .pair .family)) (address-length (q .line .pair .family) a h)
 
-  module _ (t : List ℕ) (valid : ValidTable t) (strict : Bool) (i : ℕ) (ours : Entry) (among : EntryAt (entries t) i ours) (mirror : Mirror (arrivalPair synArrival) ours e) where
+  module _ (t : Tables) (valid : ValidTable t) (strict : Bool) (i : ℕ) (ours : Entry) (among : EntryAt (entries t) i ours) (mirror : Mirror (arrivalPair synArrival) ours e) where
     abbrev syn-came : List ℕ
     syn-came = segment q e x b g c d
 
@@ -220,15 +232,17 @@ module _ (q : State) (typed : Typed q) (opening : isOpen (q .line) ≡ false) (e
     pub syn-accepted : checkSyn t synArrival strict ≡ Good (q .line .isn) (q .«ask_id»)
     unfolding checkSyn
     syn-accepted =
-        first-none (judgeSynTests t synArrival strict) _
-        (none-append (addressTests (synArrival .source) (synArrival .destination)) (drop 1 (judgeSynTests t synArrival strict))
-        (ap not (sized-by (q .line .pair .family) (synArrival .source) (synArrival .destination) (address-length (q .line .pair .family) (q .line .pair .local) (typed .local)) (address-length (q .line .pair .family) (q .line .pair .remote) (typed .remote))), tt)
-        (none-append (tableTests t) (drop 2 (judgeSynTests t synArrival strict)) (none-10 t valid)
-        (none-append (lengthTests 20 syn-came) (drop 6 (judgeSynTests t synArrival strict)) (none-20 q e x b g c d)
-        (none-append (optionTests syn-came) (drop 9 (judgeSynTests t synArrival strict)) (none-21 q e x b g c d)
-        (none-append (synTests syn-came) (drop 10 (judgeSynTests t synArrival strict)) (ap not ((λ j. syn-read .its-syn j && not (syn-read .its-ack j)) ∙ bare), tt)
-        (keyed q e x b g c d (synMissing t (arrivalPair synArrival)) (synUnknown strict) i ours (arrivingSyn synArrival) (sequence syn-came)
-        (recvEntry t (arrivalPair synArrival) (keyId syn-came)) (agree-of (arrivalPair synArrival) ours e mirror) syn-found flow (ap extensionOf (syn-number ∙ sym (syn-at q e x b g its-syn)))))))))
+        first-clear (synGroups t synArrival strict) _
+        (record {
+          input =
+              none-append (addressTests (synArrival .source) (synArrival .destination)) (tableTests t)
+              (ap not (sized-by (q .line .pair .family) (synArrival .source) (synArrival .destination) (address-length (q .line .pair .family) (q .line .pair .local) (typed .local)) (address-length (q .line .pair .family) (q .line .pair .remote) (typed .remote))), tt) (none-10 t valid);
+          size = none-20 q e x b g c d;
+          form = none-21 q e x b g c d;
+          arrival = (ap not ((λ j. syn-read .its-syn j && not (syn-read .its-ack j)) ∙ bare), tt);
+          key = keys .0;
+          mac = keys .1;
+        })
         ∙ ap₂ Good syn-number (syn-read .reads .next)
       where
         its-syn : syn (g .unsigned) ≡ true
@@ -244,8 +258,14 @@ module _ (q : State) (typed : Typed q) (opening : isOpen (q .line) ≡ false) (e
           destinationIsn = ap (λ (w : Bool). cond w (q .line .«peer_isn») 0) (sym opening) j;
         }
 
+        keys : NoneApplies (keyTests (synMissing t (arrivalPair synArrival)) (synUnknown strict) (recvEntry t (arrivalPair synArrival) (keyId syn-came)) (At (sequence syn-came)) syn-came)
+            × NoneApplies (macTests (recvEntry t (arrivalPair synArrival) (keyId syn-came) .entry) (arrivingSyn synArrival) (At (sequence syn-came)) syn-came)
+        keys =
+            keyed q e x b g c d (synMissing t (arrivalPair synArrival)) (synUnknown strict) i ours (arrivingSyn synArrival) (sequence syn-came)
+            (recvEntry t (arrivalPair synArrival) (keyId syn-came)) (agree-of (arrivalPair synArrival) ours e mirror) syn-found flow (ap extensionOf (syn-number ∙ sym (syn-at q e x b g its-syn)))
+
 -- A true segment of demand 3 is such a one.
-pub true-good : (t : List ℕ) → ValidTable t → (l : Line) → Allowed l → length (l .pair .local) ≡ 16 → length (l .pair .remote) ≡ 16
+pub true-good : (t : Tables) → ValidTable t → (l : Line) → Allowed l → length (l .pair .local) ≡ 16 → length (l .pair .remote) ≡ 16
     → (reference : ℕ) (a : Arrival) (x r : ℕ) → TrueSegment t l a x r → Within reference x → check t l reference a ≡ Good x r
 true-good t valid l allowed local remote reference a x r s near =
     let v = s .delivered in

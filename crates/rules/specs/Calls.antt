@@ -13,8 +13,8 @@ use Rattle.keys.specs.declared.table.Found.{Found}
 use Rattle.keys.specs.declared.table.Loaded.{Loaded}
 use Rattle.keys.specs.declared.table.Loaded.the-variants.{Valid, Refused}
 use Rattle.keys.specs.Algorithm.{macBytes}
-use Rattle.keys.specs.Entry.{known}
-use Rattle.keys.specs.Table.{checked, sendEntry, recvEntry, anyEntry}
+use Rattle.keys.specs.Entry.{isFamily}
+use Rattle.keys.specs.Table.{Tables, checked, sendEntry, recvEntry, anyEntry}
 use Rattle.rules.specs.declared.Place.{Place}
 use Rattle.rules.specs.declared.Place.the-variants.{At}
 use Rattle.rules.specs.declared.Outcome.{Outcome}
@@ -30,7 +30,7 @@ use Rattle.rules.specs.declared.Signed.{Signed}
 use Rattle.rules.specs.declared.Done.{Done}
 use Rattle.rules.specs.declared.Done.the-variants as D
 use Rattle.rules.specs.declared.Settled.{Settled}
-use Rattle.rules.specs.Numbers.{Test, test, tests, first}
+use Rattle.rules.specs.Numbers.{Test, test, tests, joined, first}
 use Rattle.rules.specs.Mac.{Flow, segmentMac}
 use Rattle.rules.specs.Segment.{malformed, ao, md5, aoAt, keyId, rnextKeyId, macIn, isBareSyn, signedWith}
 use Rattle.rules.specs.Connection.{sized, pairOf, Arrival, arrivalPair, localAddress, remoteAddress, isOpen, arriving, leaving, arrivingSyn, placeOn, located, value, extensionOf, nextKey, opened, opening, empty, withAccepted, withDrop, withSent, withAsked}
@@ -42,7 +42,7 @@ refuse n = Bad n 0
 
 -- 18: "state's family is neither IPv4 nor IPv6"; the families are the entries' kinds, 4 and 6
 abbrev pub familyTests : Line → List (Test Outcome)
-familyTests l = test (refuse 18) (not (known (l .pair .family))) ∷ []
+familyTests l = test (refuse 18) (not (isFamily (l .pair .family))) ∷ []
 
 -- 19: "addresses not both 4 or both 16 bytes"
 abbrev pub addressTests : List ℕ → List ℕ → List (Test Outcome)
@@ -57,16 +57,23 @@ abbrev pub refusal : Loaded → Outcome
 refusal (Valid n) = refuse 0
 refusal (Refused n i) = Bad n i
 
-abbrev pub tableTests : List ℕ → List (Test Outcome)
+abbrev pub tableTests : Tables → List (Test Outcome)
 tableTests t = test (refusal (checked t)) (isRefused (checked t)) ∷ []
+
+-- 19, then the table; with a state 18 before them
+abbrev pub inputTests : Tables → List ℕ → List ℕ → List (Test Outcome)
+inputTests t a b = addressTests a b ++ tableTests t
+
+abbrev pub stateTests : Tables → List ℕ → List ℕ → Line → List (Test Outcome)
+stateTests t a b l = familyTests l ++ inputTests t a b
 
 -- 20, or 30 when signing: "bad length or offset"
 abbrev pub lengthTests : ℕ → List ℕ → List (Test Outcome)
 lengthTests n s = tests (refuse n) (sizeFaults s)
 
 -- 21: "malformed options"; 22: "two TCP-AO, or TCP-AO and MD5 together"
-abbrev pub optionTests : List ℕ → List (Test Outcome)
-optionTests s =
+abbrev pub formTests : List ℕ → List (Test Outcome)
+formTests s =
     test (refuse 21) (malformed s) ∷ test (refuse 22) (ltb 1 (ao s .count)) ∷ test (refuse 22) (ltb 0 (ao s .count) && ltb 0 (md5 s .count)) ∷ []
 
 -- 23: "pair is not the state's"
@@ -82,60 +89,89 @@ pairTests p a =
 abbrev pub stageTests : Line → List ℕ → List (Test Outcome)
 stageTests l s = test (refuse 24) (cond (isOpen l) (isBareSyn s) (not (syn s && ack s))) ∷ []
 
+-- 23, then 24
+abbrev pub arrivalTests : Line → Arrival → List (Test Outcome)
+arrivalTests l a = pairTests (l .pair) a ++ stageTests l (a .segment)
+
 abbrev pub synTests : List ℕ → List (Test Outcome)
 synTests s = test (refuse 24) (not (isBareSyn s)) ∷ []
+
+-- 25 and 26: "TCP-AO missing; no entry for its KeyID", or what a bare SYN gets there; 27: "MAC length wrong"; 28: "no position"
+abbrev pub keyTests : Outcome → Outcome → Found → Place → List ℕ → List (Test Outcome)
+keyTests missing unknown found x s =
+    test missing (eqb (ao s .count) 0)
+    ∷ test unknown (not (found .there))
+    ∷ test (refuse 27) (not (eqb (ao s .len) (4 + found .entry .secret .«mac_bytes»)))
+    ∷ test (refuse 28) (not (located x)) ∷ []
 
 -- 29: the MAC of the segment, under the entry found, is not the one it carries
 abbrev pub macDiffers : Entry → Flow → Place → List ℕ → Bool
 macDiffers e f x s = not (sameBytes (macIn s) (segmentMac (e .secret) f (extensionOf (value x)) (aoAt s) s))
 
--- 25 and 26: "TCP-AO missing; no entry for its KeyID", or what a bare SYN gets there; 27: "MAC length wrong"; 28: "no position"; 29: "MAC differs"
-abbrev pub keyTests : Outcome → Outcome → Found → Flow → Place → List ℕ → List (Test Outcome)
-keyTests missing unknown found f x s =
-    test missing (eqb (ao s .count) 0)
-    ∷ test unknown (not (found .there))
-    ∷ test (refuse 27) (not (eqb (ao s .len) (4 + found .entry .secret .«mac_bytes»)))
-    ∷ test (refuse 28) (not (located x))
-    ∷ test (refuse 29) (macDiffers (found .entry) f x s) ∷ []
+-- 29: "MAC differs". It alone needs the data.
+abbrev pub macTests : Entry → Flow → Place → List ℕ → List (Test Outcome)
+macTests e f x s = test (refuse 29) (macDiffers e f x s) ∷ []
+
+-- The tests of an arriving segment, each group by its name. In which order they stand is said here and nowhere else.
+pub record Groups : Type 0 where
+  pub input : List (Test Outcome)
+  pub size : List (Test Outcome)
+  pub form : List (Test Outcome)
+  pub arrival : List (Test Outcome)
+  pub key : List (Test Outcome)
+  pub mac : List (Test Outcome)
+
+-- what is tested of the segment, once the input is right; all of it
+abbrev pub segmentGroups : Groups → List (List (Test Outcome))
+segmentGroups g = g .size ∷ g .form ∷ g .arrival ∷ g .key ∷ g .mac ∷ []
+
+abbrev pub inOrder : Groups → List (Test Outcome)
+inOrder g = joined (g .input ∷ segmentGroups g)
 
 -- Judging.
 
 -- with a state, opening or open: from the table, what the connection is, its reference, and the arrival
-abbrev pub judgeTests : List ℕ → Line → ℕ → Arrival → List (Test Outcome)
-judgeTests t l reference a =
-    familyTests l
-    ++ (addressTests (a .source) (a .destination)
-    ++ (tableTests t
-    ++ (lengthTests 20 (a .segment)
-    ++ (optionTests (a .segment)
-    ++ (pairTests (l .pair) a
-    ++ (stageTests l (a .segment)
-    ++ keyTests (refuse 25) (refuse 26) (recvEntry t (l .pair) (keyId (a .segment))) (arriving l (a .segment))
-    (placeOn l reference (sequence (a .segment))) (a .segment)))))))
+abbrev pub judgeGroups : Tables → Line → ℕ → Arrival → Groups
+judgeGroups t l reference a =
+    record {
+      input = stateTests t (a .source) (a .destination) l;
+      size = lengthTests 20 (a .segment);
+      form = formTests (a .segment);
+      arrival = arrivalTests l a;
+      key = keyTests (refuse 25) (refuse 26) (recvEntry t (l .pair) (keyId (a .segment))) (placeOn l reference (sequence (a .segment))) (a .segment);
+      mac = macTests (recvEntry t (l .pair) (keyId (a .segment)) .entry) (arriving l (a .segment)) (placeOn l reference (sequence (a .segment))) (a .segment);
+    }
 
-unfoldable pub check : List ℕ → Line → ℕ → Arrival → Outcome
+abbrev pub judgeTests : Tables → Line → ℕ → Arrival → List (Test Outcome)
+judgeTests t l reference a = inOrder (judgeGroups t l reference a)
+
+unfoldable pub check : Tables → Line → ℕ → Arrival → Outcome
 check t l reference a =
     first (judgeTests t l reference a) (Good (value (placeOn l reference (sequence (a .segment)))) (rnextKeyId (a .segment)))
 
 -- a bare SYN, without a state. "Bare SYN without TCP-AO: 25 if any entry matches the pair, otherwise pass. Bare SYN with TCP-AO: the entry is
 -- found by pair and KeyID = RecvID. If there is none, a setting decides: pass (the RFC's first default) or drop 26."
-abbrev pub synMissing : List ℕ → Pair → Outcome
+abbrev pub synMissing : Tables → Pair → Outcome
 synMissing t p = cond (anyEntry t p) (refuse 25) Passed
 
 abbrev pub synUnknown : Bool → Outcome
 synUnknown strict = cond strict (refuse 26) Passed
 
-abbrev pub judgeSynTests : List ℕ → Arrival → Bool → List (Test Outcome)
-judgeSynTests t a strict =
-    addressTests (a .source) (a .destination)
-    ++ (tableTests t
-    ++ (lengthTests 20 (a .segment)
-    ++ (optionTests (a .segment)
-    ++ (synTests (a .segment)
-    ++ keyTests (synMissing t (arrivalPair a)) (synUnknown strict) (recvEntry t (arrivalPair a) (keyId (a .segment))) (arrivingSyn a)
-    (At (sequence (a .segment))) (a .segment)))))
+abbrev pub synGroups : Tables → Arrival → Bool → Groups
+synGroups t a strict =
+    record {
+      input = inputTests t (a .source) (a .destination);
+      size = lengthTests 20 (a .segment);
+      form = formTests (a .segment);
+      arrival = synTests (a .segment);
+      key = keyTests (synMissing t (arrivalPair a)) (synUnknown strict) (recvEntry t (arrivalPair a) (keyId (a .segment))) (At (sequence (a .segment))) (a .segment);
+      mac = macTests (recvEntry t (arrivalPair a) (keyId (a .segment)) .entry) (arrivingSyn a) (At (sequence (a .segment))) (a .segment);
+    }
 
-unfoldable pub checkSyn : List ℕ → Arrival → Bool → Outcome
+abbrev pub judgeSynTests : Tables → Arrival → Bool → List (Test Outcome)
+judgeSynTests t a strict = inOrder (synGroups t a strict)
+
+unfoldable pub checkSyn : Tables → Arrival → Bool → Outcome
 checkSyn t a strict = first (judgeSynTests t a strict) (Good (sequence (a .segment)) (rnextKeyId (a .segment)))
 
 -- "A verdict is accept with its extension, pass, or drop with a number. The new state stands beside it."
@@ -150,7 +186,7 @@ indexOf Passed = 0
 indexOf (Bad n i) = i
 
 -- after judging with a state: an accepted segment opens, or is counted and moves the reference; a drop is counted once open
-abbrev pub afterJudging : List ℕ → State → Outcome → State
+abbrev pub afterJudging : Tables → State → Outcome → State
 afterJudging t q (Good x r) =
     cond (isOpen (q .line))
     (withAccepted x (nextKey t (q .line .pair) r (q .«send_id»)) q)
@@ -158,24 +194,24 @@ afterJudging t q (Good x r) =
 afterJudging t q Passed = q
 afterJudging t q (Bad n i) = cond (isOpen (q .line)) (withDrop n q) q
 
-abbrev pub judgedBy : List ℕ → State → Outcome → Judged
+abbrev pub judgedBy : Tables → State → Outcome → Judged
 judgedBy t q o = record { verdict = verdictOf o; index = indexOf o; state = afterJudging t q o }
 
-unfoldable pub judged : List ℕ → Arrival → State → Judged
+unfoldable pub judged : Tables → Arrival → State → Judged
 judged t a q = judgedBy t q (check t (q .line) (q .seen) a)
 
 -- "a bare SYN is judged without a state"
-unfoldable pub judgedSyn : List ℕ → Arrival → Bool → Checked
+unfoldable pub judgedSyn : Tables → Arrival → Bool → Checked
 judgedSyn t a strict = record { verdict = verdictOf (checkSyn t a strict); index = indexOf (checkSyn t a strict) }
 
 -- "A second call takes the same SYN and our ISN, judges it again and, only on accept, opens with the entry found, then applies the key rule
 -- below (house). An opening refused, or a SYN only passed, returns the empty state, family 0."
-abbrev pub openedBy : List ℕ → Pair → ℕ → Entry → Outcome → State
+abbrev pub openedBy : Tables → Pair → ℕ → Entry → Outcome → State
 openedBy t p isn e (Good x r) = opened p isn x (nextKey t p r (e .ids .send)) (e .ids .recv)
 openedBy t p isn e Passed = empty
 openedBy t p isn e (Bad n i) = empty
 
-unfoldable pub openedPassively : List ℕ → Arrival → ℕ → Bool → Judged
+unfoldable pub openedPassively : Tables → Arrival → ℕ → Bool → Judged
 openedPassively t a isn strict =
     record {
       verdict = verdictOf (checkSyn t a strict);
@@ -195,21 +231,21 @@ settledBy Passed old new = record { answer = D.Done; index = 0; state = old }
 settledBy (Bad n i) old new = record { answer = D.Refused n; index = i; state = old }
 
 -- "Active opening names a SendID; its entry must match the pair. It gives the outgoing key and, by RecvID, the key asked of the peer."
-abbrev pub openTests : List ℕ → List ℕ → List ℕ → Found → List (Test Outcome)
+abbrev pub openTests : Tables → List ℕ → List ℕ → Found → List (Test Outcome)
 openTests t local remote found = addressTests local remote ++ (tableTests t ++ (test (refuse 35) (not (found .there)) ∷ []))
 
-abbrev pub openedWith : List ℕ → List ℕ → List ℕ → Pair → ℕ → ℕ → Settled
+abbrev pub openedWith : Tables → List ℕ → List ℕ → Pair → ℕ → ℕ → Settled
 openedWith t local remote p isn sendId =
     settledBy (first (openTests t local remote (sendEntry t p sendId)) unrefused) empty (opening p isn sendId (sendEntry t p sendId .entry .ids .recv))
 
-unfoldable pub openedActively : List ℕ → List ℕ → List ℕ → ℕ → ℕ → ℕ → ℕ → Settled
+unfoldable pub openedActively : Tables → List ℕ → List ℕ → ℕ → ℕ → ℕ → ℕ → Settled
 openedActively t local remote localPort remotePort isn sendId = openedWith t local remote (pairOf local remote localPort remotePort) isn sendId
 
 -- 35: no entry matching the pair has "the RecvID to ask (operator call)"
-abbrev pub askTests : List ℕ → ℕ → Line → List (Test Outcome)
+abbrev pub askTests : Tables → ℕ → Line → List (Test Outcome)
 askTests t id l = familyTests l ++ (tableTests t ++ (test (refuse 35) (not (recvEntry t (l .pair) id .there)) ∷ []))
 
-unfoldable pub asked : List ℕ → ℕ → State → Settled
+unfoldable pub asked : Tables → ℕ → State → Settled
 asked t id q = settledBy (first (askTests t id (q .line)) unrefused) q (withAsked id q)
 
 -- Signing. No test of it gives pass.
@@ -239,7 +275,7 @@ signStageTests l s = test (refuse 34) (cond (isOpen l) (isBareSyn s) (not (isBar
 abbrev pub sentPlaceTests : Line → Place → List ℕ → List (Test Outcome)
 sentPlaceTests l x s = tests (refuse 36) (not (located x) ∷ (syn s && not (eqb (value x) (l .isn))) ∷ [])
 
-abbrev pub signTests : List ℕ → List ℕ → ℕ → State → Found → List (Test Outcome)
+abbrev pub signTests : Tables → List ℕ → ℕ → State → Found → List (Test Outcome)
 signTests t s room q found =
     familyTests (q .line)
     ++ (tableTests t
@@ -253,11 +289,11 @@ signTests t s room q found =
     ++ (test (refuse 37) (ltb room (length s + addedBytes found)) ∷ [])))))))))
 
 -- the outgoing key's entry
-abbrev pub outgoing : List ℕ → State → Found
+abbrev pub outgoing : Tables → State → Found
 outgoing t q = sendEntry t (q .line .pair) (q .«send_id»)
 
 -- the position that a segment is signed by, with the asked RecvID; or the number. `room` is the output's length
-unfoldable pub checkSign : List ℕ → List ℕ → ℕ → State → Outcome
+unfoldable pub checkSign : Tables → List ℕ → ℕ → State → Outcome
 checkSign t s room q =
     first (signTests t s room q (outgoing t q)) (Good (value (placeOn (q .line) (q .sent) (sequence s))) (q .«ask_id»))
 
@@ -283,9 +319,9 @@ outputBy q s out e Passed = out
 outputBy q s out e (Bad n i) = out
 
 -- the answer and the new state
-unfoldable pub signed : List ℕ → List ℕ → List ℕ → State → Signed
+unfoldable pub signed : Tables → List ℕ → List ℕ → State → Signed
 signed t s out q = signedBy q s (outgoing t q) (checkSign t s (length out) q)
 
 -- every byte of the output
-unfoldable pub output : List ℕ → List ℕ → List ℕ → State → List ℕ
+unfoldable pub output : Tables → List ℕ → List ℕ → State → List ℕ
 output t s out q = outputBy q s out (outgoing t q .entry) (checkSign t s (length out) q)

@@ -7,7 +7,7 @@ use lib.Dec.{eqb, ltb}
 use Rattle.wire.specs.Header.{sourcePort, destinationPort, sequence}
 use Rattle.keys.specs.declared.entry.Pair.{Pair}
 use Rattle.keys.specs.Entry.{width, padded}
-use Rattle.keys.specs.Table.{sendEntry}
+use Rattle.keys.specs.Table.{Tables, sendEntry}
 use Rattle.rules.specs.declared.Place.{Place}
 use Rattle.rules.specs.declared.Place.the-variants.{At, Nowhere}
 use Rattle.rules.specs.declared.Line.{Line}
@@ -153,12 +153,12 @@ countDrop n drops = countAt (slot n) drops
 -- Keys.
 
 -- "an entry matching the pair has that SendID"
-unfoldable pub available : List ℕ → Pair → ℕ → Bool
+unfoldable pub available : Tables → Pair → ℕ → Bool
 available t p id = sendEntry t p id .there
 
 -- "After any acceptance: if RNextKeyID differs from the outgoing SendID, and an entry matching the pair has that SendID, it becomes the
 -- outgoing key (7.5.2.e)."
-unfoldable pub nextKey : List ℕ → Pair → ℕ → ℕ → ℕ
+unfoldable pub nextKey : Tables → Pair → ℕ → ℕ → ℕ
 nextKey t p rnext current = cond (eqb rnext current) current (cond (available t p rnext) rnext current)
 
 -- Writers of the state.

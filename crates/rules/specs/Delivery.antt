@@ -11,6 +11,7 @@ use borrow.Author.Tests.{le-ltb}
 use Rattle.wire.specs.Header.{dataOffset, headerEnd}
 use Rattle.keys.specs.declared.entry.Entry.{Entry}
 use Rattle.keys.specs.declared.entry.Secret.{Secret}
+use Rattle.keys.specs.Table.{Tables}
 use Rattle.rules.specs.declared.Outcome.{Outcome}
 use Rattle.rules.specs.declared.State.{State}
 use Rattle.rules.specs.Mac.{Flow, applied, trafficKey, segmentMac}
@@ -24,7 +25,7 @@ use Rattle.rules.specs.SigningLaws.{Signs, signs-good, signed-good}
 use Rattle.rules.specs.GrowthLaws.{twelve-bytes, added-16}
 
 -- what was signed, by the outgoing entry: it has as many bytes as the answer says
-module _ (t s out : List ℕ) (q : State) (signs : Signs t s out q) (x : ℕ) where
+module _ (t : Tables) (s out : List ℕ) (q : State) (signs : Signs t s out q) (x : ℕ) where
   abbrev entry : Entry
   entry = outgoing t q .entry
 

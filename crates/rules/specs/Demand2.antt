@@ -10,9 +10,9 @@ use native.Mathlib.Omega.{arith}
 use Rattle.wire.specs.Header.{syn}
 use Rattle.keys.specs.declared.entry.Entry.{Entry}
 use Rattle.keys.specs.declared.table.Found.{Found}
-use Rattle.keys.specs.Entry.{known}
+use Rattle.keys.specs.Entry.{isFamily}
 use Rattle.keys.specs.Mirror.{Mirror}
-use Rattle.keys.specs.Table.{recvEntry}
+use Rattle.keys.specs.Table.{Tables, recvEntry}
 use Rattle.rules.specs.declared.Outcome.{Outcome}
 use Rattle.rules.specs.declared.Outcome.the-variants.{Good}
 use Rattle.rules.specs.declared.Verdict.the-variants.{Accept}
@@ -36,18 +36,18 @@ low-extension : (n : ℕ) → n < 2 ^ 32 → n / 2 ^ 32 ≡ 0
 low-extension n h = omega arith
 
 -- what the call returns where its tests come to Good, by the receiver's stage
-judged-open : (t : List ℕ) (p : State) (a : Arrival) (x r : ℕ) → isOpen (p .line) ≡ true → check t (p .line) (p .seen) a ≡ Good x r
+judged-open : (t : Tables) (p : State) (a : Arrival) (x r : ℕ) → isOpen (p .line) ≡ true → check t (p .line) (p .seen) a ≡ Good x r
     → judged t a p ≡ record { verdict = Accept (extensionOf x); index = 0; state = withAccepted x (nextKey t (p .line .pair) r (p .«send_id»)) p }
 unfolding judged
 judged-open t p a x r opens e = ap (judgedBy t p) e ∙ rw opens
 
-judged-opening : (t : List ℕ) (p : State) (a : Arrival) (x r : ℕ) → isOpen (p .line) ≡ false → check t (p .line) (p .seen) a ≡ Good x r
+judged-opening : (t : Tables) (p : State) (a : Arrival) (x r : ℕ) → isOpen (p .line) ≡ false → check t (p .line) (p .seen) a ≡ Good x r
     → judged t a p ≡ record { verdict = Accept (extensionOf x); index = 0; state = opened (p .line .pair) (p .line .isn) x (nextKey t (p .line .pair) r (p .«send_id»)) (p .«ask_id») }
 unfolding judged
 judged-opening t p a x r opening e = ap (judgedBy t p) e ∙ rw opening
 
 -- Once open: accepted with the sender's extension. The reference becomes the larger, the key rule applies, and one acceptance more is counted.
-pub open-segment : (q : State) (e : Entry) (x : ℕ) (b : List ℕ) (a : Arrival) (t : List ℕ) (p : State) → Typed q → Typed p → Allowed (p .line) → OtherEnd (p .line) (q .line)
+pub open-segment : (q : State) (e : Entry) (x : ℕ) (b : List ℕ) (a : Arrival) (t : Tables) (p : State) → Typed q → Typed p → Allowed (p .line) → OtherEnd (p .line) (q .line)
     → SignedAt q e x b → Delivered (remoteAddress (p .line .pair)) (localAddress (p .line .pair)) b a → Holds t (p .line .pair) e → Within (p .seen) x
     → judged t a p ≡ record { verdict = Accept (extensionOf x); index = 0; state = withAccepted x (nextKey t (p .line .pair) (q .«ask_id») (p .«send_id»)) p }
 open-segment q e x b a t p tq tp allowed other g v h near =
@@ -57,7 +57,7 @@ open-segment q e x b a t p tq tp allowed other g v h near =
 
 -- The SYN+ACK of an open end: it opens the end that is opening, whatever else that state holds, with extension 0; "Opening sets each reference to
 -- that side's ISN", the counts are 0, and the key rule applies.
-pub syn-ack : (q : State) (e : Entry) (x : ℕ) (b : List ℕ) (a : Arrival) (t : List ℕ) (p : State) → Typed q → Typed p → Allowed (p .line)
+pub syn-ack : (q : State) (e : Entry) (x : ℕ) (b : List ℕ) (a : Arrival) (t : Tables) (p : State) → Typed q → Typed p → Allowed (p .line)
     → isOpen (q .line) ≡ true → isOpen (p .line) ≡ false → Facing (p .line .pair) (q .line .pair) → p .line .isn ≡ q .line .«peer_isn»
     → (g : SignedAt q e x b) → syn (g .unsigned) ≡ true → Delivered (remoteAddress (p .line .pair)) (localAddress (p .line .pair)) b a → Holds t (p .line .pair) e
     → judged t a p ≡ record
@@ -74,7 +74,7 @@ syn-ack q e x b a t p tq tp allowed there here facing isn g its-syn v h =
 
 -- The bare SYN of an opening end: accepted with extension 0 by the call without a state, and by the passive opening, which opens with the entry
 -- found.
-module _ (q : State) (e : Entry) (x : ℕ) (b : List ℕ) (a : Arrival) (t : List ℕ) (typed : Typed q) (opening : isOpen (q .line) ≡ false) (g : SignedAt q e x b)
+module _ (q : State) (e : Entry) (x : ℕ) (b : List ℕ) (a : Arrival) (t : Tables) (typed : Typed q) (opening : isOpen (q .line) ≡ false) (g : SignedAt q e x b)
     (v : Delivered (localAddress (q .line .pair)) (remoteAddress (q .line .pair)) b a) (h : Holds t (arrivalPair a) e) (strict : Bool) where
   syn-good : (checkSyn t a strict ≡ Good (q .line .isn) (q .«ask_id»)) × (recvEntry t (arrivalPair a) (keyId (a .segment)) .entry ≡ h .ours)
   syn-good =
@@ -110,7 +110,7 @@ module _ (q : State) (e : Entry) (x : ℕ) (b : List ℕ) (a : Arrival) (t : Lis
 
 -- The three steps of an opening: one end signs a bare SYN while opening, the other opens passively on it and signs a SYN+ACK, and the first end judges
 -- that. Between these the calls of each end may change anything but its line. Then both are open on one connection, each the other's other end.
-module _ (active : State) (e : Entry) (x : ℕ) (b : List ℕ) (a : Arrival) (t : List ℕ) (typed : Typed active) (opening : isOpen (active .line) ≡ false)
+module _ (active : State) (e : Entry) (x : ℕ) (b : List ℕ) (a : Arrival) (t : Tables) (typed : Typed active) (opening : isOpen (active .line) ≡ false)
     (g : SignedAt active e x b) (v : Delivered (localAddress (active .line .pair)) (remoteAddress (active .line .pair)) b a) (h : Holds t (arrivalPair a) e) (strict : Bool) (isn : ℕ) where
   abbrev passiveLine : Line
   passiveLine = openedPassively t a isn strict .state .line
@@ -127,7 +127,7 @@ module _ (active : State) (e : Entry) (x : ℕ) (b : List ℕ) (a : Arrival) (t 
       → OtherEnd (judged u r now .state .line) (passive .line)
   opened-together passive f y c r u now tp tn at-passive at-now k its-syn w j =
       subst⁻¹ (λ (z : Judged). OtherEnd (z .state .line) (passive .line))
-      (syn-ack passive f y c r u now tp tn (ap (λ (l : Line). known (l .pair .family)) at-now ∙ signs active e x b g .allowed) there
+      (syn-ack passive f y c r u now tp tn (ap (λ (l : Line). isFamily (l .pair .family)) at-now ∙ signs active e x b g .allowed) there
       (ap isOpen at-now ∙ opening) pairs isns k its-syn w j)
       (record { here = refl; there = there; pair = pairs; isn = isns; peer = refl })
     where

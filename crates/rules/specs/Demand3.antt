@@ -7,7 +7,7 @@ use Rattle.rules.specs.declared.Verdict.{Verdict}
 use Rattle.rules.specs.declared.Verdict.the-variants.{Accept}
 use Rattle.rules.specs.declared.Line.{Line}
 use Rattle.rules.specs.declared.State.{State}
-use Rattle.keys.specs.Table.{ValidTable}
+use Rattle.keys.specs.Table.{Tables, ValidTable}
 use Rattle.rules.specs.Connection.{Arrival, isOpen, sized, extensionOf, stop, available}
 use Rattle.rules.specs.Calls.{judged}
 use Rattle.rules.specs.Ends.{Each, Typed, Allowed, TrueSegment, Verifies}
@@ -18,7 +18,7 @@ pub record Answers : Type 0 where
   pub verdicts : List Verdict
   pub state : State
 
-abbrev pub judgeAll : List ℕ → State → List Arrival → Answers
+abbrev pub judgeAll : Tables → State → List Arrival → Answers
 judgeAll t q [] = record { verdicts = []; state = q }
 judgeAll t q (a ∷ l) =
     record {
@@ -28,7 +28,7 @@ judgeAll t q (a ∷ l) =
 
 -- What arrives: "true segments .., and others that verify under none of these keys with any extension".
 
-pub data Arriving (t : List ℕ) (l : Line) : Type 0 where
+pub data Arriving (t : Tables) (l : Line) : Type 0 where
   real : (a : Arrival) (x r : ℕ) → TrueSegment t l a x r → Arriving t l
   other : (a : Arrival) → (Verifies t l a → ⊥) → Arriving t l
 
@@ -113,12 +113,12 @@ pub record Alike (q r : State) : Type 0 where
   pub dropped : sum (q .drops) ≡ sum (r .drops)
 
 -- the state after the list
-abbrev pub after : (t : List ℕ) (q : State) → List (Arriving t (q .line)) → State
+abbrev pub after : (t : Tables) (q : State) → List (Arriving t (q .line)) → State
 after t q l = judgeAll t q (map arrival l) .state
 
 -- What the demand is given: "an open connection and a fixed valid key table", a state that 18 allows, and "The true positions lie less than 2^31 from
 -- each other and from the starting reference."
-pub record Given (t : List ℕ) (q : State) (l : List (Arriving t (q .line))) : Type 0 where
+pub record Given (t : Tables) (q : State) (l : List (Arriving t (q .line))) : Type 0 where
   pub valid : ValidTable t
   pub typed : Typed q
   pub allowed : Allowed (q .line)
@@ -126,7 +126,7 @@ pub record Given (t : List ℕ) (q : State) (l : List (Arriving t (q .line))) : 
   pub close : Close (q .seen ∷ positions l)
 
 -- The demand, of one list of arrivals on the connection of q under the table t.
-pub record Demand3 (t : List ℕ) (q : State) (l : List (Arriving t (q .line))) : Type 0 where
+pub record Demand3 (t : Tables) (q : State) (l : List (Arriving t (q .line))) : Type 0 where
   pub verdicts : AllFit l (judgeAll t q (map arrival l) .verdicts)
   -- "After the list the reference is the largest of the starting one and the true positions."
   pub reference : after t q l .seen ≡ largest (q .seen) (positions l)

@@ -8,8 +8,8 @@ use lib.ListN.{length, take, drop}
 use Rattle.wire.specs.Header.{sourcePort, destinationPort, sequence, wellSized}
 use Rattle.keys.specs.declared.entry.Pair.{Pair}
 use Rattle.keys.specs.declared.entry.Entry.{Entry}
-use Rattle.keys.specs.Entry.{known, entries}
-use Rattle.keys.specs.Table.{ValidTable, recvEntry}
+use Rattle.keys.specs.Entry.{isFamily, entries}
+use Rattle.keys.specs.Table.{Tables, ValidTable, recvEntry}
 use Rattle.keys.specs.PlaceLaws.{At as EntryAt}
 use Rattle.keys.specs.Mirror.{Mirror}
 use Rattle.rules.specs.declared.Place.the-variants.{At}
@@ -42,7 +42,7 @@ pub record Typed (q : State) : Type 0 where
 
 -- a state that 18 allows
 abbrev pub Allowed : Line → Type 0
-Allowed l = known (l .pair .family) ≡ true
+Allowed l = isFamily (l .pair .family) ≡ true
 
 -- one socket pair as its two ends hold it
 pub record Facing (p q : Pair) : Type 0 where
@@ -86,7 +86,7 @@ pub record SignedAt (q : State) (e : Entry) (x : ℕ) (bytes : List ℕ) : Type 
   pub position : placeOn (q .line) (q .sent) (sequence unsigned) ≡ At x
 
 -- "it holds the mirrored key in a valid table": of the entry e, on the connection whose pair this end holds as p
-pub record Holds (t : List ℕ) (p : Pair) (e : Entry) : Type 0 where
+pub record Holds (t : Tables) (p : Pair) (e : Entry) : Type 0 where
   pub valid : ValidTable t
   pub ours : Entry
   pub place : ℕ
@@ -95,7 +95,7 @@ pub record Holds (t : List ℕ) (p : Pair) (e : Entry) : Type 0 where
 
 -- "A true segment was signed at the other end, in a state open on this connection .., under a mirror of one of the table's entries; it arrives
 -- with our state's pair and as signed, except perhaps for its checksum." Its position is x, and it asks for the key r.
-pub record TrueSegment (t : List ℕ) (l : Line) (a : Arrival) (x r : ℕ) : Type 0 where
+pub record TrueSegment (t : Tables) (l : Line) (a : Arrival) (x r : ℕ) : Type 0 where
   pub peer : State
   pub typed : Typed peer
   pub other : OtherEnd l (peer .line)
@@ -111,7 +111,7 @@ pub record TrueSegment (t : List ℕ) (l : Line) (a : Arrival) (x r : ℕ) : Typ
 
 -- "An arrival verifies if it is no bare SYN, comes with our state's pair, and its MAC bytes are, for some extension, what these rules give under
 -- our ISNs and the entry for its KeyID." It has MAC bytes only if none of 20, 21, 22 applies and TCP-AO is there.
-pub record Verifies (t : List ℕ) (l : Line) (a : Arrival) : Type 0 where
+pub record Verifies (t : Tables) (l : Line) (a : Arrival) : Type 0 where
   pub sized : wellSized (a .segment) ≡ true
   pub formed : malformed (a .segment) ≡ false
   pub one : ao (a .segment) .count ≡ 1

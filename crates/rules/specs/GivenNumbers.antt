@@ -119,7 +119,7 @@ judged-within limit (x ∷ l) i before h = go (K.first (K.lines limit i before x
     go (suc m) q ih = rw q (first-number (K.lines limit i before x) m refl q, h)
 
 -- what a table gives: at most 64 entries, or 10 to 17 with an index up to 64
-pub checked-within : (t : List ℕ) → Within K.maxEntries (K.checked t)
+pub checked-within : (t : K.Tables) → Within K.maxEntries (K.checked t)
 unfolding K.loaded
 checked-within t = judged-within K.maxEntries (items 0 t) 0 [] (omega arith)
 
@@ -148,7 +148,7 @@ first-only pass l (t ∷ ts) o e p = go (only pass l (t .gives)) (t .applies) re
     go false false q r ih = rw r (ih (rw (q, r) at e) p)
 
 -- the table's test: 10 to 17 where it applies
-table-only : (pass : Bool) (l : List ℕ) (t : List ℕ) → every (λ (n : ℕ). among n l) tableNumbers ≡ true
+table-only : (pass : Bool) (l : List ℕ) (t : K.Tables) → every (λ (n : ℕ). among n l) tableNumbers ≡ true
     → (only pass l (refusal (K.checked t)) || not (isRefused (K.checked t))) ≡ true
 table-only pass l t e = go (K.checked t) (checked-within t)
   where
@@ -165,24 +165,24 @@ pass-only : (l : List ℕ) (b : Bool) (n : ℕ) → among n l ≡ true → only 
 pass-only l true n e = e
 pass-only l false n e = refl
 
-pub check-only : (t : List ℕ) (l : Line) (reference : ℕ) (a : Arrival) → only false judgeNumbers (check t l reference a) ≡ true
+pub check-only : (t : K.Tables) (l : Line) (reference : ℕ) (a : Arrival) → only false judgeNumbers (check t l reference a) ≡ true
 unfolding check
 check-only t l reference a = first-only false judgeNumbers (judgeTests t l reference a) _ (rw (table-only false judgeNumbers t refl)) refl
 
-pub checkSyn-only : (t : List ℕ) (a : Arrival) (strict : Bool) → only true synNumbers (checkSyn t a strict) ≡ true
+pub checkSyn-only : (t : K.Tables) (a : Arrival) (strict : Bool) → only true synNumbers (checkSyn t a strict) ≡ true
 unfolding checkSyn
 checkSyn-only t a strict =
     first-only true synNumbers (judgeSynTests t a strict) _
     (rw (table-only true synNumbers t refl, pass-only synNumbers (K.anyEntry t (arrivalPair a)) 25 refl, pass-only synNumbers strict 26 refl)) refl
 
-pub checkSign-only : (t s : List ℕ) (room : ℕ) (q : State) → only false signNumbers (checkSign t s room q) ≡ true
+pub checkSign-only : (t : K.Tables) (s : List ℕ) (room : ℕ) (q : State) → only false signNumbers (checkSign t s room q) ≡ true
 unfolding checkSign
 checkSign-only t s room q = first-only false signNumbers (signTests t s room q (outgoing t q)) _ (rw (table-only false signNumbers t refl)) refl
 
-pub ask-only : (t : List ℕ) (id : ℕ) (l : Line) → only false askNumbers (first (askTests t id l) unrefused) ≡ true
+pub ask-only : (t : K.Tables) (id : ℕ) (l : Line) → only false askNumbers (first (askTests t id l) unrefused) ≡ true
 ask-only t id l = first-only false askNumbers (askTests t id l) unrefused (rw (table-only false askNumbers t refl)) refl
 
-pub open-only : (t local remote : List ℕ) (found : Found) → only false openNumbers (first (openTests t local remote found) unrefused) ≡ true
+pub open-only : (t : K.Tables) (local remote : List ℕ) (found : Found) → only false openNumbers (first (openTests t local remote found) unrefused) ≡ true
 open-only t local remote found = first-only false openNumbers (openTests t local remote found) unrefused (rw (table-only false openNumbers t refl)) refl
 
 -- The answers by their outcomes.
@@ -202,7 +202,7 @@ settled-among old new l (Good x r) n p e = let z : _≡_ {A = ℕ} 0 1 = cc in a
 settled-among old new l Passed n p e = let z : _≡_ {A = ℕ} 0 1 = cc (p) in absurd (omega arith)
 settled-among old new l (Bad m i) n p e = let z : m ≡ n = cc in sym (ap (λ (k : ℕ). among k l) z) ∙ p
 
-active-among : (t local remote : List ℕ) (p : Pair) (isn sendId n : ℕ) → openedWith t local remote p isn sendId .answer ≡ D.Refused n → among n openNumbers ≡ true
+active-among : (t : K.Tables) (local remote : List ℕ) (p : Pair) (isn sendId n : ℕ) → openedWith t local remote p isn sendId .answer ≡ D.Refused n → among n openNumbers ≡ true
 active-among t local remote p isn sendId n e =
     settled-among empty _ openNumbers (first (openTests t local remote (K.sendEntry t p sendId)) unrefused) n (open-only t local remote (K.sendEntry t p sendId)) e
 
@@ -234,7 +234,7 @@ bounds n e = let p = and-true (leb 10 n) (leb n 37) e in (leb-true 10 n (p .0), 
 pub refused-bounds : (c : Request) (n : ℕ) → reply c ≡ D.Refused n → (10 ≤ n) × (n ≤ 37)
 refused-bounds c n e = bounds n (among-every tabled n (numbersOf c) (each-tabled c) (refused-among c n e))
 
-pub table-bounds : (t : List ℕ) (n i : ℕ) → K.checked t ≡ Refused n i → (10 ≤ n) × (n ≤ 17)
+pub table-bounds : (t : K.Tables) (n i : ℕ) → K.checked t ≡ Refused n i → (10 ≤ n) × (n ≤ 17)
 table-bounds t n i e =
     let w : among n tableNumbers ≡ true = (rw e at (checked-within t)) .0 in
     let p = and-true (leb 10 n) (leb n 17) (among-every (λ (m : ℕ). leb 10 m && leb m 17) n tableNumbers refl w) in
@@ -245,16 +245,16 @@ table-bounds t n i e =
 not-passed : (l : List ℕ) (o : Outcome) → only false l o ≡ true → o ≡ Passed → ⊥
 not-passed l o p e = let z : _≡_ {A = ℕ} 0 1 = cc (rw e at p) in omega arith
 
-pub check-not-passed : (t : List ℕ) (l : Line) (reference : ℕ) (a : Arrival) → check t l reference a ≡ Passed → ⊥
+pub check-not-passed : (t : K.Tables) (l : Line) (reference : ℕ) (a : Arrival) → check t l reference a ≡ Passed → ⊥
 check-not-passed t l reference a = not-passed judgeNumbers (check t l reference a) (check-only t l reference a)
 
-pub sign-not-passed : (t s : List ℕ) (room : ℕ) (q : State) → checkSign t s room q ≡ Passed → ⊥
+pub sign-not-passed : (t : K.Tables) (s : List ℕ) (room : ℕ) (q : State) → checkSign t s room q ≡ Passed → ⊥
 sign-not-passed t s room q = not-passed signNumbers (checkSign t s room q) (checkSign-only t s room q)
 
-pub ask-not-passed : (t : List ℕ) (id : ℕ) (l : Line) → first (askTests t id l) unrefused ≡ Passed → ⊥
+pub ask-not-passed : (t : K.Tables) (id : ℕ) (l : Line) → first (askTests t id l) unrefused ≡ Passed → ⊥
 ask-not-passed t id l = not-passed askNumbers (first (askTests t id l) unrefused) (ask-only t id l)
 
-pub open-not-passed : (t local remote : List ℕ) (found : Found) → first (openTests t local remote found) unrefused ≡ Passed → ⊥
+pub open-not-passed : (t : K.Tables) (local remote : List ℕ) (found : Found) → first (openTests t local remote found) unrefused ≡ Passed → ⊥
 open-not-passed t local remote found = not-passed openNumbers (first (openTests t local remote found) unrefused) (open-only t local remote found)
 
 abbrev pub isPass : Verdict → Bool
@@ -268,6 +268,6 @@ no-pass l Passed p = sym p
 no-pass l (Bad n i) p = refl
 
 -- judging on a connection never gives pass
-pub judge-never-passes : (t : List ℕ) (a : Arrival) (q : State) → isPass (judged t a q .verdict) ≡ false
+pub judge-never-passes : (t : K.Tables) (a : Arrival) (q : State) → isPass (judged t a q .verdict) ≡ false
 unfolding judged
 judge-never-passes t a q = no-pass judgeNumbers (check t (q .line) (q .seen) a) (check-only t (q .line) (q .seen) a)

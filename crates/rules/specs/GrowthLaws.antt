@@ -10,7 +10,7 @@ use borrow.Author.Tests.{ltb-true, lt-ltb, ltb-false, le-ltb}
 use Rattle.wire.specs.Header.{dataOffset, headerEnd}
 use Rattle.keys.specs.declared.entry.Pair.{Pair}
 use Rattle.keys.specs.Algorithm.{macBytes}
-use Rattle.keys.specs.Table.{ValidTable, sendEntry}
+use Rattle.keys.specs.Table.{Tables, ValidTable, sendEntry}
 use Rattle.keys.specs.SearchLaws.{valid-proper, send-holder}
 use Rattle.rules.specs.declared.State.{State}
 use Rattle.rules.specs.declared.Outcome.{Outcome}
@@ -20,11 +20,11 @@ use Rattle.rules.specs.Calls.{refuse, outgoing, addedBytes, growthTests,
 use Rattle.rules.specs.SigningLaws.{signs-good, signed-good}
 
 -- "MAC bytes (12 and 12)": an entry that a valid table has for a pair and a SendID
-pub twelve-bytes : (t : List ℕ) (p : Pair) (id : ℕ) → ValidTable t → sendEntry t p id .there ≡ true → sendEntry t p id .entry .secret .«mac_bytes» ≡ 12
+pub twelve-bytes : (t : Tables) (p : Pair) (id : ℕ) → ValidTable t → sendEntry t p id .there ≡ true → sendEntry t p id .entry .secret .«mac_bytes» ≡ 12
 twelve-bytes t p id v e = valid-proper t v (send-holder t p id e .0 .place) .mac
 
 -- "With a 12-byte MAC the length is 16.": whether or not the outgoing key has an entry
-pub added-16 : (t : List ℕ) (q : State) → ValidTable t → addedBytes (outgoing t q) ≡ 16
+pub added-16 : (t : Tables) (q : State) → ValidTable t → addedBytes (outgoing t q) ≡ 16
 unfolding macBytes
 added-16 t q v = go (outgoing t q .there) refl
   where
@@ -44,12 +44,12 @@ above-11 s = go (ltb 11 (dataOffset s)) refl
 abbrev pub tests32 : List ℕ → List (Test Outcome)
 tests32 s = tests (refuse 32) (ltb 11 (dataOffset s) ∷ ltb 65535 (length s + 16) ∷ [])
 
-pub growth-is : (t s : List ℕ) (q : State) → ValidTable t → growthTests (addedBytes (outgoing t q)) s ≡ tests32 s
+pub growth-is : (t : Tables) (s : List ℕ) (q : State) → ValidTable t → growthTests (addedBytes (outgoing t q)) s ≡ tests32 s
 growth-is t s q v =
     ap (λ (n : ℕ). growthTests n s) (added-16 t q v) ∙ ap (λ (b : Bool). tests (refuse 32) (b ∷ ltb 65535 (length s + 16) ∷ [])) (above-11 s)
 
 -- what is signed is 16 bytes longer
-pub signed-16 : (t s out : List ℕ) (q : State) (n : ℕ) → signed t s out q .answer ≡ S.Signed n → n ≡ length s + 16
+pub signed-16 : (t : Tables) (s out : List ℕ) (q : State) (n : ℕ) → signed t s out q .answer ≡ S.Signed n → n ≡ length s + 16
 signed-16 t s out q n e =
     let g = signed-good t s out q n e in
     sym (g .3) ∙ ap (λ (k : ℕ). length s + k) (added-16 t q (signs-good t s out q (g .0) (g .1) (g .2) .0 .valid))

@@ -6,6 +6,7 @@ use mathlib.Core.Bool.{true, cond}
 use mathlib.Core.List.{List, [], _∷_, _++_}
 use lib.ListN.{getD, replicate}
 use lib.Dec.{eqb}
+use Rattle.keys.specs.Table.{Tables}
 use Rattle.rules.specs.declared.Verdict.{Verdict}
 use Rattle.rules.specs.declared.Verdict.the-variants.{Accept, Pass, Drop}
 use Rattle.rules.specs.declared.State.{State}
@@ -15,9 +16,9 @@ use Rattle.rules.specs.Demand3.{sum, NoStop}
 
 -- A call on a connection, with any table and any bytes: judging an arrival, signing a segment into an output, asking for a key.
 pub data Call : Type 0 where
-  judge : (table : List ℕ) (arrival : Arrival) → Call
-  sign : (table segment out : List ℕ) → Call
-  ask : (table : List ℕ) (id : ℕ) → Call
+  judge : (table : Tables) (arrival : Arrival) → Call
+  sign : (table : Tables) (segment out : List ℕ) → Call
+  ask : (table : Tables) (id : ℕ) → Call
 
 -- the state that a call returns
 abbrev pub next : Call → State → State

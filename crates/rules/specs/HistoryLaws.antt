@@ -9,7 +9,7 @@ use lib.ListN.{length, getD, getD-replicate}
 use Rattle.keys.specs.declared.entry.Pair.{Pair}
 use Rattle.keys.specs.declared.entry.Entry.{Entry}
 use Rattle.keys.specs.declared.table.Found.{Found}
-use Rattle.keys.specs.Table.{sendEntry}
+use Rattle.keys.specs.Table.{Tables, sendEntry}
 use Rattle.rules.specs.declared.Outcome.{Outcome}
 use Rattle.rules.specs.declared.Outcome.the-variants.{Good, Passed, Bad}
 use Rattle.rules.specs.declared.Verdict.{Verdict}
@@ -63,14 +63,14 @@ opposite : {b : Bool} → b ≡ true → b ≡ false → ⊥
 opposite e z = true≢false (sym e ∙ z)
 
 -- judging, by what the tests come to
-judge-ready : (t : List ℕ) (q : State) (o : Outcome) (b : Bool) → isOpen (q .line) ≡ b → Ready q → Ready (afterJudging t q o)
+judge-ready : (t : Tables) (q : State) (o : Outcome) (b : Bool) → isOpen (q .line) ≡ b → Ready q → Ready (afterJudging t q o)
 judge-ready t q (Good x r) true e h = rw e (record { counts = h .counts; fresh = λ z. absurd (opposite e z) })
 judge-ready t q (Good x r) false e h = rw e (record { counts = refl; fresh = λ z. record { accepted = refl; drops = refl } })
 judge-ready t q Passed b e h = h
 judge-ready t q (Bad n i) true e h = rw e (record { counts = length-count n (q .drops) ∙ h .counts; fresh = λ z. absurd (opposite e z) })
 judge-ready t q (Bad n i) false e h = rw e h
 
-judge-counts : (t : List ℕ) (q : State) (o : Outcome) (vs : List Verdict) (end : State) (b : Bool) → isOpen (q .line) ≡ b → Ready q
+judge-counts : (t : Tables) (q : State) (o : Outcome) (vs : List Verdict) (end : State) (b : Bool) → isOpen (q .line) ≡ b → Ready q
     → Counts (afterJudging t q o) vs end → Counts q (cond (isOpen (q .line)) (verdictOf o ∷ []) [] ++ vs) end
 judge-counts t q (Good x r) vs end true e h c = rw e (count-accept q vs end x _ (extensionOf x) (rw e at c))
 judge-counts t q (Good x r) vs end false e h c = rw e (count-same q _ vs end (sym (h .fresh e .accepted)) (sym (h .fresh e .drops)) (rw e at c))
@@ -118,7 +118,7 @@ one-count q f l =
 
 -- The states that openings give, refused ones among them.
 
-opened-fresh : (t : List ℕ) (p : Pair) (isn : ℕ) (e : Entry) (o : Outcome) → CountsZero (openedBy t p isn e o)
+opened-fresh : (t : Tables) (p : Pair) (isn : ℕ) (e : Entry) (o : Outcome) → CountsZero (openedBy t p isn e o)
 opened-fresh t p isn e (Good x r) = record { accepted = refl; drops = refl }
 opened-fresh t p isn e Passed = record { accepted = refl; drops = refl }
 opened-fresh t p isn e (Bad n i) = record { accepted = refl; drops = refl }
@@ -128,14 +128,14 @@ settled-fresh p isn sendId askId (Good x r) = record { accepted = refl; drops = 
 settled-fresh p isn sendId askId Passed = record { accepted = refl; drops = refl }
 settled-fresh p isn sendId askId (Bad n i) = record { accepted = refl; drops = refl }
 
-opening-fresh : (t local remote : List ℕ) (p : Pair) (isn sendId : ℕ) → CountsZero (openedWith t local remote p isn sendId .state)
+opening-fresh : (t : Tables) (local remote : List ℕ) (p : Pair) (isn sendId : ℕ) → CountsZero (openedWith t local remote p isn sendId .state)
 opening-fresh t local remote p isn sendId = settled-fresh p isn sendId _ (first (openTests t local remote (sendEntry t p sendId)) unrefused)
 
-pub from-passive : (t : List ℕ) (a : Arrival) (isn : ℕ) (strict : Bool) (l : List Call) → OneCount (openedPassively t a isn strict .state) l
+pub from-passive : (t : Tables) (a : Arrival) (isn : ℕ) (strict : Bool) (l : List Call) → OneCount (openedPassively t a isn strict .state) l
 unfolding openedPassively
 from-passive t a isn strict l = one-count _ (opened-fresh t _ isn _ (checkSyn t a strict)) l
 
-pub from-active : (t local remote : List ℕ) (localPort remotePort isn sendId : ℕ) (l : List Call)
+pub from-active : (t : Tables) (local remote : List ℕ) (localPort remotePort isn sendId : ℕ) (l : List Call)
     → OneCount (openedActively t local remote localPort remotePort isn sendId .state) l
 unfolding openedActively
 from-active t local remote localPort remotePort isn sendId l =

@@ -9,7 +9,7 @@ use Rattle.wire.specs.Prefix.{agree, clearTo}
 use Rattle.wire.specs.Options.{optionsOf, readFrom}
 use Rattle.keys.specs.declared.entry.Entry.{Entry}
 use Rattle.keys.specs.Algorithm.{macBytes}
-use Rattle.keys.specs.Entry.{known, body, width, sideOf, selectorOf, idsOf, secretOf, entryOf, item, items, entriesOf, entries}
+use Rattle.keys.specs.Entry.{knownKind, isFamily, body, width, sideOf, selectorOf, idsOf, secretOf, entryOf, item, items, entriesOf, entries}
 use Rattle.keys.specs.PlaceLaws as Places
 use Rattle.keys.specs.Match.{holds, matches, share, clash}
 use Rattle.keys.specs.Table.{first, clashing, judged, loaded, found, answers}
@@ -77,15 +77,15 @@ out = replicate 60 0
 
 -- it signs, at the position behind the rollover
 signs : checkSign (table 84 61) segment 60 peer ≡ Good 4294967312 61
-unfolding checkSign position optionsOf readFrom agree clearTo macBytes known body width sideOf selectorOf idsOf secretOf entryOf item items entriesOf holds matches share clash first clashing judged loaded found answers
+unfolding checkSign position optionsOf readFrom agree clearTo macBytes knownKind isFamily body width sideOf selectorOf idsOf secretOf entryOf item items entriesOf holds matches share clash first clashing judged loaded found answers
 signs = refl
 
 under : outgoing (table 84 61) peer .entry ≡ theirs
-unfolding agree known body width sideOf selectorOf idsOf secretOf entryOf item items entriesOf holds matches found answers
+unfolding agree knownKind body width sideOf selectorOf idsOf secretOf entryOf item items entriesOf holds matches found answers
 under = refl
 
 added : addedBytes (outgoing (table 84 61) peer) ≡ 16
-unfolding agree macBytes known body width sideOf selectorOf idsOf secretOf entryOf item items entriesOf holds matches found answers
+unfolding agree macBytes knownKind body width sideOf selectorOf idsOf secretOf entryOf item items entriesOf holds matches found answers
 added = refl
 
 fresh : Fresh segment
@@ -104,7 +104,7 @@ long =
     length-signed segment fresh 0 0 84 61 m (omega arith) ∙ ap (λ (n : ℕ). 27 + (4 + n)) l
 
 one-entry : entries (table 61 84) ≡ entryOf (table 61 84) ∷ []
-unfolding known body item items entriesOf
+unfolding knownKind body item items entriesOf
 one-entry = refl
 
 wrote : bytes ≡ take (length bytes) (output (table 84 61) segment out peer)

@@ -1,11 +1,10 @@
 -- One arrival on an open connection: what is accepted verifies, and what does not verify is dropped with a number that is counted unless it
 -- is 19. Document 01, last section. The second half assumes a valid table and an allowed family, as demand 3 does.
 use Prim.Native.Nat.{ℕ, _<_}
-use mathlib.Core.Path.{_≡_, refl, ap}
+use mathlib.Core.Path.{_≡_, refl, ap, _∙_}
 use mathlib.Core.Bool.{Bool, true, false, cond, not, _&&_}
 use mathlib.Core.List.{List}
 use native.Mathlib.Omega.{arith}
-use lib.ListN.{drop}
 use lib.Dec.{eqb, ltb}
 use borrow.Author.Tests.{ltb-true, ltb-false, eqb-true, eqb-false, not-false}
 use Rattle.wire.specs.Bytes.{sameBytes}
@@ -13,14 +12,16 @@ use Rattle.wire.specs.BytesLaws.{eq-of-same}
 use Rattle.wire.specs.Header.{sourcePort, destinationPort, sequence, syn, ack}
 use Rattle.keys.specs.declared.table.Loaded.{Loaded}
 use Rattle.keys.specs.declared.table.Loaded.the-variants.{Valid, Refused}
-use Rattle.keys.specs.Table.{checked, recvEntry, ValidTable}
+use Rattle.keys.specs.Table.{Tables, checked, recvEntry, ValidTable}
 use Rattle.rules.specs.declared.Outcome.{Outcome}
 use Rattle.rules.specs.declared.Outcome.the-variants.{Good, Passed, Bad}
 use Rattle.rules.specs.declared.Line.{Line}
-use Rattle.rules.specs.NumberLaws.{NoneApplies, first-passes, none-applied}
+use Rattle.rules.specs.Numbers.{joined}
+use Rattle.rules.specs.NumberLaws.{NoneApplies, none-append, first-passes, none-applied}
+use Rattle.rules.specs.GroupLaws.{Clear, none-clear, past-input, sized-of}
 use Rattle.rules.specs.Segment.{ao, md5, keyId, isBareSyn}
 use Rattle.rules.specs.Connection.{sized, Arrival, localAddress, remoteAddress, isOpen, arriving, placeOn, value, extensionOf, slot, isCounted}
-use Rattle.rules.specs.Calls.{refusal, macDiffers, judgeTests, check}
+use Rattle.rules.specs.Calls.{isRefused, refusal, familyTests, addressTests, tableTests, inputTests, stateTests, macDiffers, segmentGroups, judgeGroups, judgeTests, check}
 use Rattle.rules.specs.Ends.{Allowed, Verifies}
 
 -- a refusal; and one that is counted
@@ -53,11 +54,11 @@ absent n m e one = go (ltb 0 m) refl
     go true q = let z : _≡_ {A = ℕ} 0 1 = cc (rw (q, one) at e) in absurd (omega arith)
     go false q = omega (arith, ltb-false 0 m q)
 
-module _ (t : List ℕ) (l : Line) (reference : ℕ) (a : Arrival) where
+module _ (t : Tables) (l : Line) (reference : ℕ) (a : Arrival) where
   -- accepted means that every test failed
-  pub none-of : (x r : ℕ) → check t l reference a ≡ Good x r → NoneApplies (judgeTests t l reference a)
+  pub none-of : (x r : ℕ) → check t l reference a ≡ Good x r → Clear (judgeGroups t l reference a)
   unfolding check
-  none-of x r e = none-applied isBad (judgeTests t l reference a) _ (rw (refusal-bad (checked t))) (ap isBad e)
+  none-of x r e = none-clear (judgeGroups t l reference a) (none-applied isBad (judgeTests t l reference a) _ (rw (refusal-bad (checked t))) (ap isBad e))
 
   -- what is accepted on an open connection verifies
   pub accepted-verifies : (x r : ℕ) → isOpen l ≡ true → check t l reference a ≡ Good x r → Verifies t l a
@@ -67,7 +68,7 @@ module _ (t : List ℕ) (l : Line) (reference : ℕ) (a : Arrival) where
       let stage : cond (isOpen l) (isBareSyn (a .segment)) (not (syn (a .segment) && ack (a .segment))) ≡ false = search in
       let equal : macDiffers (recvEntry t (l .pair) (keyId (a .segment)) .entry) (arriving l (a .segment)) (placeOn l reference (sequence (a .segment))) (a .segment) ≡ false = search in
       record {
-        sized = rw (p .1 .1 .1 .0, p .1 .1 .1 .1 .0, p .1 .1 .1 .1 .1 .0, p .1 .1 .1 .1 .1 .1 .0);
+        sized = sized-of 20 (a .segment) (p .size);
         formed = search;
         one = one;
         no-md5 = absent (ao (a .segment) .count) (md5 (a .segment) .count) (search) one;
@@ -89,7 +90,12 @@ module _ (t : List ℕ) (l : Line) (reference : ℕ) (a : Arrival) where
 
     sized-counted : sized (a .source) (a .destination) ≡ true → isCountedBad (check t l reference a) ≡ true
     unfolding check slot
-    sized-counted e = rw (allowed, e, valid .1) (first-passes isCountedBad (drop 3 (judgeTests t l reference a)) (Good _ _) refl refl)
+    sized-counted e = ap isCountedBad (past-input (judgeGroups t l reference a) _ right) ∙ first-passes isCountedBad (joined (segmentGroups (judgeGroups t l reference a))) (Good _ _) refl refl
+      where
+        right : NoneApplies (stateTests t (a .source) (a .destination) l)
+        right =
+            none-append (familyTests l) (inputTests t (a .source) (a .destination)) (ap not allowed, tt)
+            (none-append (addressTests (a .source) (a .destination)) (tableTests t) (ap not e, tt) (ap isRefused (valid .1), tt))
 
     -- so what does not verify is dropped, and counted unless it is given 19
     uncounted : isCounted 19 ≡ false

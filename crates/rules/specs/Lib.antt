@@ -9,6 +9,7 @@ pub mod Ends
 pub mod Demand3
 pub mod History
 pub mod NumberLaws
+pub mod GroupLaws
 pub mod PositionLaws
 pub mod MacLaws
 pub mod JudgeLaws

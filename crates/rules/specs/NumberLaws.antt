@@ -1,11 +1,12 @@
 -- Laws of `first`: which tests failed where an outcome was given, and what holds of every outcome.
 -- Assumes nothing.
 use Prim.Native.Nat.{ℕ}
-use mathlib.Core.Path.{_≡_, refl}
+use mathlib.Core.Path.{_≡_, refl, ap, sym, _∙_}
 use mathlib.Core.Bool.{Bool, true, false, _&&_}
 use mathlib.Core.List.{List, [], _∷_, _++_}
 use native.Mathlib.Omega.{arith}
-use Rattle.rules.specs.Numbers.{Test, first}
+use Rattle.wire.specs.Tests.{any}
+use Rattle.rules.specs.Numbers.{Test, tests, joined, first}
 
 module _ {O : Type 0} where
   -- no test of the list applies
@@ -47,6 +48,38 @@ module _ {O : Type 0} where
       go true true q r ih = let z : _≡_ {A = ℕ} 0 1 = cc (rw r at p) in absurd (omega arith)
       go true false q r ih = (r, ih (rw q at e) (rw r at p))
 
+  -- one outcome behind several tests: none of them holds
+  pub none-any : (o : O) (l : List Bool) → NoneApplies (tests o l) → any l ≡ false
+  none-any o [] p = refl
+  none-any o (b ∷ l) p = rw (p .0) (none-any o l (p .1))
+
   pub none-append : (a b : List (Test O)) → NoneApplies a → NoneApplies b → NoneApplies (a ++ b)
   none-append [] b p q = q
   none-append (t ∷ a) b p q = (p .0, none-append a b (p .1) q)
+
+  pub none-split : (a b : List (Test O)) → NoneApplies (a ++ b) → NoneApplies a × NoneApplies b
+  none-split [] b p = (tt, p)
+  none-split (t ∷ a) b p = let r = none-split a b (p .1) in ((p .0, r .0), r .1)
+
+  -- The same of groups: no test of any group applies.
+  abbrev pub NoneIn : List (List (Test O)) → Type 0
+  NoneIn [] = Unit {0}
+  NoneIn (g ∷ gs) = NoneApplies g × NoneIn gs
+
+  pub none-joined : (gs : List (List (Test O))) → NoneIn gs → NoneApplies (joined gs)
+  none-joined [] p = tt
+  none-joined (g ∷ gs) p = none-append g (joined gs) (p .0) (none-joined gs (p .1))
+
+  pub joined-none : (gs : List (List (Test O))) → NoneApplies (joined gs) → NoneIn gs
+  joined-none [] p = tt
+  joined-none (g ∷ gs) p = let r = none-split g (joined gs) p in (r .0, joined-none gs (r .1))
+
+  -- groups cut at any seam: what stands in front of it decides first
+  pub first-joined : (gs hs : List (List (Test O))) (o : O) → first (joined (gs ++ hs)) o ≡ first (joined gs) (first (joined hs) o)
+  first-joined [] hs o = refl
+  first-joined (g ∷ gs) hs o =
+      first-append g (joined (gs ++ hs)) o ∙ ap (first g) (first-joined gs hs o) ∙ sym (first-append g (joined gs) (first (joined hs) o))
+
+  -- behind a group of which no test applies
+  pub first-past : (a b : List (Test O)) (o : O) → NoneApplies a → first (a ++ b) o ≡ first b o
+  first-past a b o n = first-append a b o ∙ first-none a (first b o) n

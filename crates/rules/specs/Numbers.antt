@@ -1,6 +1,6 @@
 -- Document 01, "Numbers given back": "The first that applies, in this order, is given."
 use mathlib.Core.Bool.{Bool, cond}
-use mathlib.Core.List.{List, [], _∷_}
+use mathlib.Core.List.{List, [], _∷_, _++_}
 
 -- one line of the table: a test, and what is given where it applies
 pub record Test (O : Type 0) : Type 0 where
@@ -14,6 +14,11 @@ test o b = record { applies = b; gives = o }
 abbrev pub tests : {O : Type 0} → O → List Bool → List (Test O)
 tests o [] = []
 tests o (b ∷ l) = test o b ∷ tests o l
+
+-- groups of tests, one behind another
+abbrev pub joined : {O : Type 0} → List (List (Test O)) → List (Test O)
+joined [] = []
+joined (g ∷ gs) = g ++ joined gs
 
 -- the first that applies decides; where none does, o
 abbrev pub first : {O : Type 0} → List (Test O) → O → O

@@ -9,7 +9,7 @@ use lib.ListN.{length}
 use lib.Dec.{eqb}
 use borrow.Author.Tests.{eqb-true}
 use Rattle.keys.specs.declared.entry.Pair.{Pair}
-use Rattle.keys.specs.Table.{ValidTable}
+use Rattle.keys.specs.Table.{Tables, ValidTable}
 use Rattle.rules.specs.declared.Outcome.the-variants.{Good, Bad}
 use Rattle.rules.specs.declared.Verdict.{Verdict}
 use Rattle.rules.specs.declared.Verdict.the-variants.{Accept, Drop}
@@ -36,7 +36,7 @@ close-max a b l c = (both-within a b l (c .0 .1) (c .1 .0), c .1 .1)
 
 -- The key rule: "what the last true segment asking for an available key asked for, or the starting one".
 
-last-step : (t : List ℕ) (p : Pair) (r k : ℕ) (l : List ℕ) → lastOr (nextKey t p r k) (those (available t p) l) ≡ lastOr k (those (available t p) (r ∷ l))
+last-step : (t : Tables) (p : Pair) (r k : ℕ) (l : List ℕ) → lastOr (nextKey t p r k) (those (available t p) l) ≡ lastOr k (those (available t p) (r ∷ l))
 unfolding nextKey
 last-step t p r k l = go (eqb r k) (available t p r) refl refl
   where
@@ -47,7 +47,7 @@ last-step t p r k l = go (eqb r k) (available t p r) refl refl
     go false false e f = simp (e, f, nextKey)
 
 -- What judging the list l from s comes to: the verdicts vs and the state e.
-record Run (t : List ℕ) (line : Line) (s : State) (l : List (Arriving t line)) (vs : List Verdict) (e : State) : Type 0 where
+record Run (t : Tables) (line : Line) (s : State) (l : List (Arriving t line)) (vs : List Verdict) (e : State) : Type 0 where
   fits : AllFit l vs
   reference : e .seen ≡ largest (s .seen) (positions l)
   key : e .«send_id» ≡ lastOr (s .«send_id») (those (available t (line .pair)) (requested l))
@@ -57,7 +57,7 @@ record Run (t : List ℕ) (line : Line) (s : State) (l : List (Arriving t line))
   its-others : countedDrops vs ≡ others l
 
 -- one arrival before the others
-module _ (t : List ℕ) (line : Line) (s : State) (l : List (Arriving t line)) (vs : List Verdict) (e : State) where
+module _ (t : Tables) (line : Line) (s : State) (l : List (Arriving t line)) (vs : List Verdict) (e : State) where
   real-step : (a : Arrival) (x r : ℕ) (p : TrueSegment t line a x r) → Run t line (withAccepted x (nextKey t (line .pair) r (s .«send_id»)) s) l vs e
       → Run t line s (real a x r p ∷ l) (Accept (extensionOf x) ∷ vs) e
   real-step a x r p h =
@@ -150,7 +150,7 @@ module _ {t : List ℕ} {line : Line} where
       subst₂ (λ (y z : Arriving t line). List·Permᴰ (positions (i ∷ j ∷ l)) (positions (y ∷ z ∷ l))) g e (positions-swap i j l)
   positions-perm (List·Permᴰ·trans p q) = List·Permᴰ·trans (positions-perm p) (positions-perm q)
 
-module _ (t : List ℕ) (valid : ValidTable t) (line : Line) (allowed : Allowed line) (is-open : isOpen line ≡ true)
+module _ (t : Tables) (valid : ValidTable t) (line : Line) (allowed : Allowed line) (is-open : isOpen line ≡ true)
     (true-good : (reference : ℕ) (a : Arrival) (x r : ℕ) → TrueSegment t line a x r → Within reference x → check t line reference a ≡ Good x r) where
   -- one call
   judged-good : (s : State) → s .line ≡ line → (a : Arrival) (x r : ℕ) → check t line (s .seen) a ≡ Good x r
@@ -195,7 +195,7 @@ unmap f (List·Permᴰ·trans p q) l e =
     (s .0, List·Permᴰ·trans (r .1) (s .1), s .2)
 
 -- The demand.
-module _ (t : List ℕ) (q : State) where
+module _ (t : Tables) (q : State) where
   judging : (l : List (Arriving t (q .line))) → Given t q l → Run t (q .line) q l (judgeAll t q (map arrival l) .verdicts) (after t q l)
   judging l g =
       order t (g .valid) (q .line) (g .allowed) (g .is-open) (true-good t (g .valid) (q .line) (g .allowed) (g .typed .local) (g .typed .remote)) l q refl (g .typed .counts) (g .close)

@@ -11,7 +11,7 @@ use lib.Seq.{drop-at}
 use Rattle.keys.specs.declared.entry.Pair.{Pair}
 use Rattle.keys.specs.declared.entry.Entry.{Entry}
 use Rattle.keys.specs.declared.table.Found.{Found}
-use Rattle.keys.specs.Table.{checked, sendEntry, recvEntry}
+use Rattle.keys.specs.Table.{Tables, checked, sendEntry, recvEntry}
 use Rattle.rules.specs.declared.Place.{Place}
 use Rattle.rules.specs.declared.Place.the-variants.{At, Nowhere}
 use Rattle.rules.specs.declared.Outcome.{Outcome}
@@ -36,9 +36,9 @@ use Rattle.rules.specs.History.{Call, judge, sign, ask, next}
 -- Every call, with all that it is given.
 pub data Request : Type 0 where
   on : Call → State → Request
-  judgeSyn : (table : List ℕ) (arrival : Arrival) (strict : Bool) → Request
-  openPassively : (table : List ℕ) (arrival : Arrival) (isn : ℕ) (strict : Bool) → Request
-  openActively : (table local remote : List ℕ) (localPort remotePort isn sendId : ℕ) → Request
+  judgeSyn : (table : Tables) (arrival : Arrival) (strict : Bool) → Request
+  openPassively : (table : Tables) (arrival : Arrival) (isn : ℕ) (strict : Bool) → Request
+  openActively : (table : Tables) (local remote : List ℕ) (localPort remotePort isn sendId : ℕ) → Request
 
 -- what it answers: done, or refused with a number. A verdict refuses by a drop, signing by no length.
 abbrev pub byVerdict : Verdict → Done
@@ -116,7 +116,7 @@ drop-left n q true (At i) p e = rw (p, e)
 drop-left n q true Nowhere p e = rw (p, e)
 drop-left n q false c p e = rw p
 
-judge-left : (t : List ℕ) (q : State) (o : Outcome) (n : ℕ) → byVerdict (verdictOf o) ≡ D.Refused n → afterJudging t q o ≡ cond (isOpen (q .line) && isCounted n) (oneMore n q) q
+judge-left : (t : Tables) (q : State) (o : Outcome) (n : ℕ) → byVerdict (verdictOf o) ≡ D.Refused n → afterJudging t q o ≡ cond (isOpen (q .line) && isCounted n) (oneMore n q) q
 judge-left t q (Good x r) n e = let z : _≡_ {A = ℕ} 0 1 = cc in absurd (omega arith)
 judge-left t q Passed n e = let z : _≡_ {A = ℕ} 0 1 = cc in absurd (omega arith)
 judge-left t q (Bad m i) n e = let z : m ≡ n = cc in ap (λ (k : ℕ). cond (isOpen (q .line)) (withDrop k q) q) z ∙ drop-left n q (isOpen (q .line)) (slot n) refl refl
@@ -132,12 +132,12 @@ settle-left (Good x r) old new n e = let z : _≡_ {A = ℕ} 0 1 = cc in absurd 
 settle-left Passed old new n e = let z : _≡_ {A = ℕ} 0 1 = cc in absurd (omega arith)
 settle-left (Bad m i) old new n e = refl
 
-active-left : (t local remote : List ℕ) (p : Pair) (isn sendId n : ℕ) → openedWith t local remote p isn sendId .answer ≡ D.Refused n
+active-left : (t : Tables) (local remote : List ℕ) (p : Pair) (isn sendId n : ℕ) → openedWith t local remote p isn sendId .answer ≡ D.Refused n
     → openedWith t local remote p isn sendId .state ≡ empty
 active-left t local remote p isn sendId n e =
     settle-left (first (openTests t local remote (sendEntry t p sendId)) unrefused) empty (opening p isn sendId (sendEntry t p sendId .entry .ids .recv)) n e
 
-open-left : (t : List ℕ) (p : Pair) (isn : ℕ) (f : Entry) (o : Outcome) (n : ℕ) → byVerdict (verdictOf o) ≡ D.Refused n → openedBy t p isn f o ≡ empty
+open-left : (t : Tables) (p : Pair) (isn : ℕ) (f : Entry) (o : Outcome) (n : ℕ) → byVerdict (verdictOf o) ≡ D.Refused n → openedBy t p isn f o ≡ empty
 open-left t p isn f (Good x r) n e = let z : _≡_ {A = ℕ} 0 1 = cc in absurd (omega arith)
 open-left t p isn f Passed n e = refl
 open-left t p isn f (Bad m i) n e = refl
@@ -160,7 +160,7 @@ refusal (openActively t local remote localPort remotePort isn sendId) n e =
     }
 
 -- "a SYN only passed, returns the empty state"
-pub passed-empty : (t : List ℕ) (a : Arrival) (isn : ℕ) (strict : Bool) → openedPassively t a isn strict .verdict ≡ Pass
+pub passed-empty : (t : Tables) (a : Arrival) (isn : ℕ) (strict : Bool) → openedPassively t a isn strict .verdict ≡ Pass
     → openedPassively t a isn strict .state ≡ empty
 unfolding openedPassively
 passed-empty t a isn strict e = go (checkSyn t a strict) refl
@@ -171,7 +171,7 @@ passed-empty t a isn strict e = go (checkSyn t a strict) refl
     go (Bad n i) q = rw q
 
 -- "Signing writes only the signed length's bytes of the output."
-module _ (t s out : List ℕ) (q : State) where
+module _ (t : Tables) (s out : List ℕ) (q : State) where
   fits : (x r : ℕ) → checkSign t s (length out) q ≡ Good x r → length s + addedBytes (outgoing t q) ≤ length out
   unfolding checkSign
   fits x r e = go (none-applied isBad (signTests t s (length out) q (outgoing t q)) _ (rw (refusal-bad (checked t))) (ap isBad e))

@@ -10,8 +10,8 @@ use borrow.Author.Tests.{ltb-false, eqb-true, not-false}
 use Rattle.wire.specs.Header.{sourcePort, destinationPort, sequence, dataOffset, headerEnd, syn}
 use Rattle.keys.specs.declared.table.Loaded.{Loaded}
 use Rattle.keys.specs.declared.table.Loaded.the-variants.{Valid, Refused}
-use Rattle.keys.specs.Entry.{known}
-use Rattle.keys.specs.Table.{checked, ValidTable}
+use Rattle.keys.specs.Entry.{isFamily}
+use Rattle.keys.specs.Table.{Tables, checked, ValidTable}
 use Rattle.rules.specs.declared.Place.{Place}
 use Rattle.rules.specs.declared.Outcome.{Outcome}
 use Rattle.rules.specs.declared.Outcome.the-variants.{Good, Passed, Bad}
@@ -25,19 +25,19 @@ use Rattle.rules.specs.Calls.{isRefused, outgoing, addedBytes, signTests
 use Rattle.rules.specs.RoundTrip.{Fresh}
 
 -- a table that is not refused is valid
-pub valid-of : (t : List ℕ) → isRefused (checked t) ≡ false → ValidTable t
+pub valid-of : (t : Tables) → isRefused (checked t) ≡ false → ValidTable t
 valid-of t e = go (checked t) refl
   where
     go : (o : Loaded) → checked t ≡ o → ValidTable t
     go (Valid n) q = (n, q)
     go (Refused n i) q = let z : _≡_ {A = ℕ} 0 1 = cc (rw q at e) in absurd (omega arith)
 
-module _ (t s out : List ℕ) (q : State) where
+module _ (t : Tables) (s out : List ℕ) (q : State) where
   abbrev place : Place
   place = placeOn (q .line) (q .sent) (sequence s)
 
   pub record Signs : Type 0 where
-    pub allowed : known (q .line .pair .family) ≡ true
+    pub allowed : isFamily (q .line .pair .family) ≡ true
     pub valid : ValidTable t
     pub fresh : Fresh s
     pub header : headerEnd s + addedBytes (outgoing t q) ≤ 60
@@ -52,7 +52,7 @@ module _ (t s out : List ℕ) (q : State) where
   none-signs : NoneApplies (signTests t s (length out) q (outgoing t q)) → Signs
   none-signs n =
       record {
-        allowed = not-false (known (q .line .pair .family)) (search);
+        allowed = not-false (isFamily (q .line .pair .family)) (search);
         valid = valid-of t (search);
         fresh =
             record {

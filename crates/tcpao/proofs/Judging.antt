@@ -10,23 +10,24 @@ use Rattle.wire.specs.Header.{sequence}
 use Rattle.keys.specs.declared.entry.Pair.{Pair}
 use Rattle.keys.specs.declared.entry.Entry.{Entry}
 use Rattle.keys.specs.declared.table.Found.{Found}
-use Rattle.keys.specs.Table.{checked, sendEntry, recvEntry, anyEntry}
+use Rattle.keys.specs.Table.{Tables, checked, sendEntry, recvEntry, anyEntry}
 use Rattle.rules.specs.declared.Outcome.{Outcome}
 use Rattle.rules.specs.declared.Outcome.the-variants.{Good, Passed, Bad}
 use Rattle.rules.specs.declared.Verdict.{Verdict}
 use Rattle.rules.specs.declared.Line.{Line}
 use Rattle.rules.specs.declared.State.{State}
-use Rattle.rules.specs.NumberLaws.{first-none, eachGives, none-applied}
+use Rattle.rules.specs.NumberLaws.{eachGives, none-applied}
+use Rattle.rules.specs.GroupLaws.{first-clear, none-clear, sized-of}
 use Rattle.rules.specs.JudgeLaws.{none-of}
 use Rattle.rules.specs.Segment.{keyId}
 use Rattle.rules.specs.Connection.{Arrival, sized, arrivalPair, available, nextKey, opened, empty}
-use Rattle.rules.specs.Calls.{refuse, synMissing, synUnknown, judgeTests, check, judgeSynTests, checkSyn, verdictOf, indexOf, afterJudging, judgedBy, judged, judgedSyn, openedBy, openedPassively}
+use Rattle.rules.specs.Calls.{refuse, synMissing, synUnknown, judgeGroups, check, synGroups, judgeSynTests, checkSyn, verdictOf, indexOf, afterJudging, judgedBy, judged, judgedSyn, openedBy, openedPassively}
 use Rattle.tcpao.specs.Arriving.{AtNumber, TakenBy}
 use Rattle.numbers.specs.GroupLaws.{yes, no, isFinal, Else, refusal-final}
 
 -- the key rule
 
-module _ (t : List ℕ) (p : Pair) (rnext current : ℕ) where
+module _ (t : Tables) (p : Pair) (rnext current : ℕ) where
   pub same-key : rnext ≡ current → current ≡ nextKey t p rnext current
   unfolding nextKey
   same-key e = yes _ _ (eq-eqb rnext current e) refl
@@ -41,14 +42,14 @@ good-at : {x r y s : ℕ} → Good x r ≡ Good y s → x ≡ y
 good-at e = cc
 
 -- while opening, it stands at its own number
-pub at-number : (t : List ℕ) (l : Line) (reference : ℕ) (a : Arrival) {o : Outcome} → o ≡ check t l reference a → {n : ℕ} → n ≡ sequence (a .segment) → AtNumber l n o
+pub at-number : (t : Tables) (l : Line) (reference : ℕ) (a : Arrival) {o : Outcome} → o ≡ check t l reference a → {n : ℕ} → n ≡ sequence (a .segment) → AtNumber l n o
 unfolding check
 at-number t l reference a e q x r g opening =
     let none = none-of t l reference a x r (sym e ∙ g) in
-    good-at (sym g ∙ e ∙ first-none (judgeTests t l reference a) _ none) ∙ (rw opening (sym q))
+    good-at (sym g ∙ e ∙ first-clear (judgeGroups t l reference a) _ none) ∙ (rw opening (sym q))
 
 -- a bare SYN
-module _ (t : List ℕ) (a : Arrival) (strict : Bool) where
+module _ (t : Tables) (a : Arrival) (strict : Bool) where
   missing-final : isFinal (synMissing t (arrivalPair a)) ≡ true
   missing-final = go (anyEntry t (arrivalPair a))
     where
@@ -66,34 +67,34 @@ module _ (t : List ℕ) (a : Arrival) (strict : Bool) where
   pub taken-by : {o : Outcome} → o ≡ checkSyn t a strict → TakenBy a o
   unfolding checkSyn
   taken-by e x r g =
-      let p = none-applied isFinal (judgeSynTests t a strict) _ syn-final (ap isFinal (sym e ∙ g)) in
+      let p = none-clear (synGroups t a strict) (none-applied isFinal (judgeSynTests t a strict) _ syn-final (ap isFinal (sym e ∙ g))) in
       record {
-        addresses = not-false (sized (a .source) (a .destination)) (p .0);
-        form = rw (p .1 .1 .0, p .1 .1 .1 .0, p .1 .1 .1 .1 .0, p .1 .1 .1 .1 .1 .0);
-        position = good-at (sym g ∙ e ∙ first-none (judgeSynTests t a strict) _ p);
+        addresses = not-false (sized (a .source) (a .destination)) (p .input .0);
+        form = sized-of 20 (a .segment) (p .size);
+        position = good-at (sym g ∙ e ∙ first-clear (synGroups t a strict) _ p);
       }
 
 -- what the calls return
 
-pub judged-is : (t : List ℕ) (a : Arrival) (q : State) {o : Outcome} {v : Verdict} {i : ℕ} {s : State} → o ≡ check t (q .line) (q .seen) a → v ≡ verdictOf o → i ≡ indexOf o
+pub judged-is : (t : Tables) (a : Arrival) (q : State) {o : Outcome} {v : Verdict} {i : ℕ} {s : State} → o ≡ check t (q .line) (q .seen) a → v ≡ verdictOf o → i ≡ indexOf o
     → s ≡ afterJudging t q o → record { verdict = v; index = i; state = s } ≡ judged t a q
 unfolding judged
 judged-is t a q e ev ei es = (λ k. record { verdict = ev k; index = ei k; state = es k }) ∙ ap (judgedBy t q) e
 
-pub syn-is : (t : List ℕ) (a : Arrival) (strict : Bool) {o : Outcome} {v : Verdict} {i : ℕ} → o ≡ checkSyn t a strict → v ≡ verdictOf o → i ≡ indexOf o
+pub syn-is : (t : Tables) (a : Arrival) (strict : Bool) {o : Outcome} {v : Verdict} {i : ℕ} → o ≡ checkSyn t a strict → v ≡ verdictOf o → i ≡ indexOf o
     → record { verdict = v; index = i } ≡ judgedSyn t a strict
 unfolding judgedSyn
 syn-is t a strict e ev ei = λ k. record { verdict = (ev ∙ ap verdictOf e) k; index = (ei ∙ ap indexOf e) k }
 
 -- opening passively
-module _ (t : List ℕ) (p : Pair) (isn : ℕ) where
+module _ (t : Tables) (p : Pair) (isn : ℕ) where
   pub not-opened : (f : Entry) (o : Outcome) → Else o → {s : State} → s ≡ empty → s ≡ openedBy t p isn f o
   not-opened f (Good x r) (inl e) q = let z : _≡_ {A = ℕ} 0 1 = e in absurd (omega arith)
   not-opened f (Good x r) (inr e) q = let z : _≡_ {A = ℕ} 0 2 = e in absurd (omega arith)
   not-opened f Passed e q = q
   not-opened f (Bad n i) e q = q
 
-pub opened-is : (t : List ℕ) (a : Arrival) (isn : ℕ) {o : Outcome} {x r : ℕ} → o ≡ Good x r → {n : ℕ} → n ≡ sequence (a .segment) → x ≡ sequence (a .segment)
+pub opened-is : (t : Tables) (a : Arrival) (isn : ℕ) {o : Outcome} {x r : ℕ} → o ≡ Good x r → {n : ℕ} → n ≡ sequence (a .segment) → x ≡ sequence (a .segment)
     → {p : Pair} → p ≡ arrivalPair a → {f : Found} → f ≡ recvEntry t p (keyId (a .segment)) → {k : ℕ} → k ≡ nextKey t p r (f .entry .ids .send)
     → {s : State} → s ≡ opened p isn n k (f .entry .ids .recv) → s ≡ openedBy t (arrivalPair a) isn (recvEntry t (arrivalPair a) (keyId (a .segment)) .entry) o
 opened-is t a isn {o} {x} {r} g en ex {p} ep ef ek es =
@@ -103,7 +104,7 @@ opened-is t a isn {o} {x} {r} g en ex {p} ep ef ek es =
     ∙ (λ i. openedBy t (ep i) isn (recvEntry t (ep i) (keyId (a .segment)) .entry) (Good x r))
     ∙ ap (openedBy t (arrivalPair a) isn (recvEntry t (arrivalPair a) (keyId (a .segment)) .entry)) (sym g)
 
-pub passively-is : (t : List ℕ) (a : Arrival) (isn : ℕ) (strict : Bool) {o : Outcome} {v : Verdict} {i : ℕ} {s : State} → o ≡ checkSyn t a strict → v ≡ verdictOf o → i ≡ indexOf o
+pub passively-is : (t : Tables) (a : Arrival) (isn : ℕ) (strict : Bool) {o : Outcome} {v : Verdict} {i : ℕ} {s : State} → o ≡ checkSyn t a strict → v ≡ verdictOf o → i ≡ indexOf o
     → s ≡ openedBy t (arrivalPair a) isn (recvEntry t (arrivalPair a) (keyId (a .segment)) .entry) o
     → record { verdict = v; index = i; state = s } ≡ openedPassively t a isn strict
 unfolding openedPassively

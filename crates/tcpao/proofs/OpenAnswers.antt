@@ -10,7 +10,7 @@ use lib.Dec.{eqb}
 use borrow.Author.Tests.{eqb-true, not-false}
 use Rattle.keys.specs.declared.entry.Pair.{Pair}
 use Rattle.keys.specs.declared.table.Found.{Found}
-use Rattle.keys.specs.Table.{sendEntry}
+use Rattle.keys.specs.Table.{Tables, sendEntry}
 use Rattle.keys.specs.MatchLaws.{and-true}
 use Rattle.rules.specs.declared.Outcome.{Outcome}
 use Rattle.rules.specs.declared.Outcome.the-variants.{Good, Passed, Bad}
@@ -35,7 +35,7 @@ kept (Good x r) old a b h = absurd (⊎-elim (λ (e : _≡_ {A = ℕ} 0 1). omeg
 kept Passed old a b h = refl
 kept (Bad n i) old a b h = refl
 
-module _ (t local remote : List ℕ) (lp rp isn id : ℕ) (z : Outcome) (e : State) (r : Settled) (sizes : z ≡ first (addressTests local remote) unrefused) (empties : e ≡ empty) where
+module _ (t : Tables) (local remote : List ℕ) (lp rp isn id : ℕ) (z : Outcome) (e : State) (r : Settled) (sizes : z ≡ first (addressTests local remote) unrefused) (empties : e ≡ empty) where
   pub refused-sizes : Else z → r ≡ settledBy z e e → r ≡ openedActively t local remote lp rp isn id
   unfolding openedActively
   refused-sizes h q =

@@ -9,7 +9,7 @@ use borrow.Author.Tests.{ltb-false}
 use Rattle.wire.specs.Header.{sequence}
 use Rattle.keys.specs.declared.table.Found.{Found}
 use Rattle.keys.specs.Algorithm.{macBytes}
-use Rattle.keys.specs.Table.{checked}
+use Rattle.keys.specs.Table.{Tables, checked}
 use Rattle.keys.specs.SearchLaws.{valid-proper, send-holder}
 use Rattle.rules.specs.declared.Outcome.{Outcome}
 use Rattle.rules.specs.declared.Outcome.the-variants.{Good}
@@ -23,7 +23,7 @@ use Rattle.rules.specs.Calls.{outgoing, addedBytes, signTests, checkSign, signe
 use Rattle.rules.specs.SigningLaws.{signs-good}
 use Rattle.tcpao.specs.SignedBytes.{Signable}
 
-module _ (t s out : List ℕ) (q : State) where
+module _ (t : Tables) (s out : List ℕ) (q : State) where
   -- what the code's tests come to, where f is the entry found
   abbrev tested : Found → Outcome
   tested f = first (signTests t s (length out) q f) (Good (value (placeOn (q .line) (q .sent) (sequence s))) (q .«ask_id»))

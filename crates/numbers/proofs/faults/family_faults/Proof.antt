@@ -1,19 +1,19 @@
 -- The families are the kinds 4 and 6.
 use borrow.Author.Tests.{eq-eqb, ne-eqb}
-use Rattle.keys.specs.Entry.{known}
+use Rattle.keys.specs.Entry.{isFamily}
 use Rattle.numbers.proofs.faults.family_faults.Statement.{statement}
 use Rattle.numbers.proofs.faults.family_faults.Tie as tie
 
 returns : tie.Need-returns
-unfolding known
+unfolding isFamily
 returns c = simp (eq-eqb _ _ (c .if1 .taken))
 
 returns-2 : tie.Need-returns-2
-unfolding known
+unfolding isFamily
 returns-2 c = simp (ne-eqb _ _ (c .before .before .if1 .left), eq-eqb _ _ (c .if2 .taken))
 
 returns-3 : tie.Need-returns-3
-unfolding known
+unfolding isFamily
 returns-3 c = simp (ne-eqb _ _ (c .before .before .if1 .left), ne-eqb _ _ (c .if2 .left))
 
 pub family-faults-spec : {M : Type 1} → statement M

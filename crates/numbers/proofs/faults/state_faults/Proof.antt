@@ -1,8 +1,7 @@
 -- Two groups, the first before the second.
 use borrow.Author.Needs.{needs}
 use mathlib.Core.Path.{refl}
-use Rattle.rules.specs.Calls.{unrefused, familyTests}
-use Rattle.numbers.specs.Groups.{inputTests}
+use Rattle.rules.specs.Calls.{unrefused, familyTests, inputTests}
 use Rattle.numbers.specs.GroupLaws.{decided, behind}
 use Rattle.numbers.proofs.faults.state_faults.Statement.{statement}
 use Rattle.numbers.proofs.faults.state_faults.Tie as tie

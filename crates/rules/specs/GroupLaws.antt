@@ -1,0 +1,42 @@
+-- What the groups of tests leave, each by its name: nothing here or above says at which place a test stands.
+-- Assumes nothing.
+use Prim.Native.Nat.{ℕ}
+use mathlib.Core.Path.{_≡_, ap}
+use mathlib.Core.Bool.{not, true, false}
+use mathlib.Core.List.{List, _∷_}
+use Rattle.wire.specs.Tests.{any}
+use Rattle.wire.specs.Header.{sizeFaults, wellSized}
+use Rattle.rules.specs.declared.Outcome.{Outcome}
+use Rattle.rules.specs.Numbers.{joined, first}
+use Rattle.rules.specs.NumberLaws.{NoneApplies, first-none, first-past, none-any, none-joined, joined-none}
+use Rattle.rules.specs.Calls.{refuse, lengthTests, Groups, segmentGroups, inOrder}
+
+-- no test of any group applies
+pub record Clear (g : Groups) : Type 0 where
+  pub input : NoneApplies (g .input)
+  pub size : NoneApplies (g .size)
+  pub form : NoneApplies (g .form)
+  pub arrival : NoneApplies (g .arrival)
+  pub key : NoneApplies (g .key)
+  pub mac : NoneApplies (g .mac)
+
+module _ (g : Groups) where
+  pub clear-none : Clear g → NoneApplies (inOrder g)
+  clear-none c = none-joined (g .input ∷ segmentGroups g) (c .input, (c .size, (c .form, (c .arrival, (c .key, (c .mac, tt))))))
+
+  pub none-clear : NoneApplies (inOrder g) → Clear g
+  none-clear n =
+      let p = joined-none (g .input ∷ segmentGroups g) n in
+      record { input = p .0; size = p .1 .0; form = p .1 .1 .0; arrival = p .1 .1 .1 .0; key = p .1 .1 .1 .1 .0; mac = p .1 .1 .1 .1 .1 .0 }
+
+  -- then what stands behind them is given
+  pub first-clear : (o : Outcome) → Clear g → first (inOrder g) o ≡ o
+  first-clear o c = first-none (inOrder g) o (clear-none c)
+
+  -- a right input leaves it to the segment
+  pub past-input : (o : Outcome) → NoneApplies (g .input) → first (inOrder g) o ≡ first (joined (segmentGroups g)) o
+  past-input o n = first-past (g .input) (joined (segmentGroups g)) o n
+
+-- 20 leaves a segment of a right size
+pub sized-of : (n : ℕ) (s : List ℕ) → NoneApplies (lengthTests n s) → wellSized s ≡ true
+sized-of n s p = ap not (none-any (refuse n) (sizeFaults s) p)
