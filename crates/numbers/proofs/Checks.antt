@@ -1,6 +1,6 @@
 -- What is known behind each group of tests, and the arriving segment's pair, flow and entry. Assumes nothing.
 use Prim.Native.Nat.{ℕ, _-_, _≤_}
-use mathlib.Core.Path.{_≡_, refl, _∙_}
+use mathlib.Core.Path.{_≡_, refl, transport, _∙_}
 use mathlib.Core.Bool.{Bool, true, false, cond, _&&_}
 use mathlib.Core.List.{List, _++_}
 use mathlib.Core.Logic.{_⊎_, inl, inr, ⊎-elim}
@@ -26,9 +26,11 @@ use Rattle.rules.specs.NumberLaws.{NoneApplies, none-split, eachGives}
 use Rattle.rules.specs.GroupLaws.{sized-of}
 use Rattle.rules.specs.Mac.{Flow}
 use Rattle.rules.specs.Connection.{sized, arrivalPair, arrivingSyn}
-use Rattle.rules.specs.Calls.{isRefused, addressTests, tableTests, inputTests, stateTests, familyTests, lengthTests}
-use Rattle.numbers.specs.Groups.{provedTests, goodAt, arrivingOn}
+use Rattle.rules.specs.Calls.{isRefused, keyTests, addressTests, tableTests, inputTests, stateTests, familyTests, lengthTests}
+use Rattle.numbers.specs.Groups.{goodAt, arrivingOn}
 use Rattle.numbers.specs.GroupLaws.{isFinal, refusal-final}
+use Rattle.numbers.specs.Begin.{Begins}
+use Rattle.numbers.specs.declared.begun.Begun.{Begun}
 
 -- no group gives Good
 module _ (t : Tables) (a b s : List ℕ) where
@@ -69,10 +71,10 @@ module _ (t : Tables) (p : Pair) (id : ℕ) where
       go (Valid n) true q h z = omega (arith, valid-proper t (n, q) (recv-holder t p id h .0 .place) .mac)
       go (Valid n) false q h z = rw (recv-nobody t p id h) (omega arith)
 
--- 25 to 29 by values that are equal to the definitions'
-pub keyed-is : (s : List ℕ) {missing m unknown u : Outcome} {found e : Found} {g f : Flow} {place x : Place} → missing ≡ m → unknown ≡ u → found ≡ e → g ≡ f → place ≡ x → {r : Outcome}
-    → r ≡ first (provedTests missing unknown found g place s) (goodAt place s) → r ≡ first (provedTests m u e f x s) (goodAt x s)
-keyed-is s pm pu pe pf px q = q ∙ (λ i. first (provedTests (pm i) (pu i) (pe i) (pf i) (px i) s) (goodAt (px i) s))
+-- 25 to 28 by values that are equal to the definitions'
+pub begins-is : (s : List ℕ) {missing m unknown u : Outcome} {found e : Found} {g f : Flow} {place x : Place} → missing ≡ m → unknown ≡ u → found ≡ e → g ≡ f → place ≡ x → {b : Begun}
+    → Begins (first (keyTests missing unknown found place s) (goodAt place s)) (found .entry) g s b → Begins (first (keyTests m u e x s) (goodAt x s)) (e .entry) f s b
+begins-is s pm pu pe pf px {b} h = transport (λ i. Begins (first (keyTests (pm i) (pu i) (pe i) (px i) s) (goodAt (px i) s)) (pe i .entry) (pf i) s b) h
 
 -- addresses of one size
 module _ (a b : List ℕ) (e : sized a b ≡ true) where

@@ -1,14 +1,12 @@
--- The tests 25 to 29, one after another, by what the code has seen; and where a segment's TCP-AO lies. Assumes nothing.
-use Prim.Native.Nat.{ℕ, _+_, _-_, _≤_}
+-- The tests 25 to 28, one after another, by what the code has seen; and where a segment's TCP-AO lies. Assumes nothing.
+use Prim.Native.Nat.{ℕ, _+_, _≤_}
 use mathlib.Core.Path.{_≡_, refl, sym, ap, _∙_, subst}
-use mathlib.Core.Bool.{Bool, true, false, not}
+use mathlib.Core.Bool.{true, false, not}
 use mathlib.Core.List.{List}
 use native.Mathlib.Omega.{arith}
-use lib.ListN.{length, getD, take, drop, length-drop}
-use lib.Seq.{take-all}
+use lib.ListN.{length, getD}
 use lib.Dec.{eqb}
 use borrow.Author.Tests.{eq-eqb, ne-eqb}
-use Rattle.wire.specs.Bytes.{sameBytes}
 use Rattle.wire.specs.Header.{headerEnd, wellSized, area}
 use Rattle.wire.specs.HeaderLaws.{sized, area-length}
 use Rattle.wire.specs.Options.{optionsOf, aoIn}
@@ -16,19 +14,16 @@ use Rattle.wire.specs.OptionPlaces.{found-within}
 use Rattle.wire.specs.declared.options.Occurrence.{Occurrence}
 use Rattle.wire.specs.declared.options.Options.{Options}
 use Rattle.wire.specs.declared.options.Options.the-variants.{Malformed, Found}
-use Rattle.keys.specs.declared.entry.Secret.{Secret}
 use Rattle.keys.specs.declared.table.Found.{Found as Search}
 use Rattle.rules.specs.declared.Place.{Place}
 use Rattle.rules.specs.declared.Place.the-variants.{At, Nowhere}
 use Rattle.rules.specs.declared.Outcome.{Outcome}
 use Rattle.rules.specs.declared.Outcome.the-variants.{Good}
 use Rattle.rules.specs.Numbers.{first}
-use Rattle.rules.specs.Mac.{Flow, segmentMac}
 use Rattle.rules.specs.Segment.{ao}
-use Rattle.rules.specs.Connection.{located, value, extensionOf}
-use Rattle.rules.specs.Calls.{refuse, macDiffers}
-use Rattle.numbers.specs.Groups.{provedTests, goodAt}
-use Rattle.traffic.specs.TagLaws.{tagOf, tag-mac}
+use Rattle.rules.specs.Connection.{located, value}
+use Rattle.rules.specs.Calls.{refuse, keyTests}
+use Rattle.numbers.specs.Groups.{goodAt}
 use Rattle.numbers.specs.GroupLaws.{yes, no}
 
 -- what the option reader found is the segment's TCP-AO
@@ -54,18 +49,11 @@ lies s e is =
     subst (λ (x : Occurrence). Lies s x) (sym is)
     (record { header = omega (arith, inside s, area-length s (z .inside), z .offset); segment = z .inside; most = z .most })
 
--- the tag of a segment, cut to the MAC's bytes, is its MAC
-pub mac-is : (secret : Secret) (f : Flow) (extension at : ℕ) (s : List ℕ) {end : ℕ} {tag : List ℕ} → end ≡ headerEnd s → secret .«mac_bytes» ≤ 16
-    → tag ≡ tagOf secret f extension at (length s) (take end s) (take (length s - end) (drop end s)) → take (secret .«mac_bytes») tag ≡ segmentMac secret f extension at s
-mac-is secret f extension at s {end} e n q =
-    let whole = take-all (length s - end) (drop end s) (omega (arith, length-drop end s)) in
-    ap (take (secret .«mac_bytes»)) (q ∙ (λ i. tagOf secret f extension at (length s) (take (e i) s) ((whole ∙ ap (λ (k : ℕ). drop k s) e) i))) ∙ tag-mac secret f extension at s n
-
--- the tests, by what was seen: no option; no entry; the MAC's length; no position; other MAC bytes
-module _ (missing unknown : Outcome) (found : Search) (f : Flow) (x : Place) (s : List ℕ) {o : Occurrence} (is : o ≡ ao s) where
+-- the tests, by what was seen: no option; no entry; the MAC's length; no position
+module _ (missing unknown : Outcome) (found : Search) (x : Place) (s : List ℕ) {o : Occurrence} (is : o ≡ ao s) where
   -- what is given, by document 01
   abbrev Given : Outcome → Type 0
-  Given z = z ≡ first (provedTests missing unknown found f x s) (goodAt x s)
+  Given z = z ≡ first (keyTests missing unknown found x s) (goodAt x s)
 
   pub given-missing : o .count ≡ 0 → Given missing
   given-missing e = yes _ _ (eq-eqb _ _ (ap (λ (k : Occurrence). k .count) (sym is) ∙ e)) refl
@@ -88,21 +76,7 @@ module _ (missing unknown : Outcome) (found : Search) (f : Flow) (x : Place) (s 
         pub given-28 : x ≡ Nowhere → Given (refuse 28)
         given-28 e = no _ _ some (no _ _ known (no _ _ exact (yes _ _ (ap (λ (k : Place). not (located k)) e) refl)))
 
-        module _ (p : ℕ) (here : x ≡ At p) {same : Bool} {extension : ℕ} (ext : extension ≡ extensionOf p)
-            (mac : same ≡ sameBytes (take (found .entry .secret .«mac_bytes») (drop (20 + o .at + 4) s)) (segmentMac (found .entry .secret) f extension (20 + o .at) s)) where
-          differs : not same ≡ macDiffers (found .entry) f x s
-          differs =
-              ap not
-              (mac
-              ∙ (λ i. sameBytes (take (cut i) (drop (20 + is i .at + 4) s)) (segmentMac (found .entry .secret) f ((ext ∙ ap (λ (k : Place). extensionOf (value k)) (sym here)) i) (20 + is i .at) s)))
-            where
-              cut : found .entry .secret .«mac_bytes» ≡ ao s .len - 4
-              cut = omega (arith, long, ap (λ (k : Occurrence). k .len) is)
-
-          pub given-29 : not same ≡ true → Given (refuse 29)
-          given-29 e = no _ _ some (no _ _ known (no _ _ exact (no _ _ (ap (λ (k : Place). not (located k)) here) (yes _ _ (sym differs ∙ e) refl))))
-
-          pub given-good : not same ≡ false → {r : ℕ} → r ≡ getD s (20 + o .at + 3) 0 → Given (Good p r)
-          given-good e q =
-              no _ _ some (no _ _ known (no _ _ exact (no _ _ (ap (λ (k : Place). not (located k)) here) (no _ _ (sym differs ∙ e)
-              (λ i. Good (ap value (sym here) i) ((q ∙ ap (λ (k : Occurrence). getD s (20 + k .at + 3) 0) is) i))))))
+        pub given-good : (p : ℕ) → x ≡ At p → {r : ℕ} → r ≡ getD s (20 + o .at + 3) 0 → Given (Good p r)
+        given-good p here q =
+            no _ _ some (no _ _ known (no _ _ exact (no _ _ (ap (λ (k : Place). not (located k)) here)
+            (λ i. Good (ap value (sym here) i) ((q ∙ ap (λ (k : Occurrence). getD s (20 + k .at + 3) 0) is) i)))))

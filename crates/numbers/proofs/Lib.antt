@@ -3,4 +3,5 @@ pub mod Formed
 pub mod Groups
 pub mod Checks
 pub mod Keyed
+pub mod Steps
 pub mod SignNumbers

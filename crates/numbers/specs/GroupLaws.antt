@@ -33,13 +33,13 @@ isFinal (Bad n i) = true
 abbrev pub Else : Outcome → Type 0
 Else x = (tagOf the-type x ≡ 1) ⊎ (tagOf the-type x ≡ 2)
 
-else-final : (x : Outcome) → Else x → isFinal x ≡ true
+pub else-final : (x : Outcome) → Else x → isFinal x ≡ true
 else-final (Good p r) (inl e) = let z : _≡_ {A = ℕ} 0 1 = e in absurd (omega arith)
 else-final (Good p r) (inr e) = let z : _≡_ {A = ℕ} 0 2 = e in absurd (omega arith)
 else-final Passed e = refl
 else-final (Bad n i) e = refl
 
-final-kept : (a : List (Test Outcome)) (o p : Outcome) → isFinal (first a o) ≡ true → isFinal o ≡ false → first a o ≡ first a p
+pub final-kept : (a : List (Test Outcome)) (o p : Outcome) → isFinal (first a o) ≡ true → isFinal o ≡ false → first a o ≡ first a p
 final-kept [] o p e f = let z : _≡_ {A = ℕ} 0 1 = cc (rw f at e) in absurd (omega arith)
 final-kept (t ∷ a) o p e f = go (t .applies) refl (final-kept a o p)
   where

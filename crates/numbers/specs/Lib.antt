@@ -1,3 +1,5 @@
 pub mod Groups
 pub mod SignGroups
 pub mod GroupLaws
+pub mod Begin
+pub mod BeginLaws

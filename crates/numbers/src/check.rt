@@ -1,23 +1,25 @@
 // Which number an arriving segment gets, or its position: document 01, "Numbers given back", with a state and without one. Nothing here writes a
-// state. The two checks assume nothing. What a step assumes is what the tests before it left; an accepted bare SYN has passed them all, so that
-// whoever opens by it may ask `entry_for` and `arrival_pair` again.
+// state. The two checks assume nothing. What a step assumes is what the tests before it left.
 ghost use mathlib.Core.Path.{_≡_};
 ghost use mathlib.Core.Bool.{true, false, cond};
 ghost use Rattle.wire.specs.Header.{sequence as sequenceOf, wellSized};
 ghost use Rattle.keys.specs.Table.{checked, recvEntry};
-ghost use Rattle.rules.specs.Numbers.{first};
 ghost use Rattle.rules.specs.Segment.{ao, keyId};
-ghost use Rattle.rules.specs.Connection.{sized, arrivalPair, isOpen, placeOn};
+ghost use Rattle.rules.specs.Connection.{sized, arrivalPair, isOpen};
 ghost use Rattle.rules.specs.Calls.{isRefused, synMissing, synUnknown, check as checkOf, checkSyn};
 ghost use Rattle.traffic.specs.Way.{flowOf};
-ghost use Rattle.numbers.specs.Groups.{arrivingOn, keyedTests, synKeyedTests, goodAt};
+ghost use Rattle.numbers.specs.Groups.{arrivingOn};
+ghost use Rattle.numbers.specs.Begin.{Judges, JudgesSyn, Keyed, KeyedSyn};
+use crate::begun::Begun;
+use crate::begun::by_key;
+use crate::begun::finished;
+use crate::begun::nothing;
 use crate::faults::early_faults;
 use crate::faults::early_syn_faults;
 use crate::faults::formed_faults;
 use crate::faults::formed_syn_faults;
 use crate::verify::carried;
 use crate::verify::key_id;
-use crate::verify::verified;
 use keys::entry::Pair;
 use keys::table::Found;
 use rules::Line;
@@ -58,17 +60,17 @@ fn peer_isn(line: Line, number: u32) -> u32
 }
 
 // How the table is looked up: the entry that matches the pair and has the segment's KeyID as its RecvID.
-pub fn entry_for(table: &[u8], pair: Pair, option: Occurrence, segment: &[u8]) -> Found
+fn entry_for(table: &[u8], pair: Pair, option: Occurrence, segment: &[u8]) -> Found
     requires { ⌜ (option ≡ ao (now segment)) × (wellSized (now segment) ≡ true) ⌝ }
     ensures { λ r. ⌜ r ≡ recvEntry (now (table .entry)) pair (keyId (now (segment .entry))) ⌝ }
 {
     keys::table::find_recv(table, pair, key_id(option, segment))
 }
 
-// 25 to 29 with a state, on a table that is not refused.
-fn keyed(table: &[u8], segment: &[u8], line: Line, reference: u64) -> Outcome
+// 25 to 28 with a state, on a table that is not refused.
+fn keyed(table: &[u8], segment: &[u8], line: Line, reference: u64) -> Begun
     requires { ⌜ (isRefused (checked (now table)) ≡ false) × (wellSized (now segment) ≡ true) ⌝ }
-    ensures { λ r. ⌜ r ≡ first (keyedTests (now (table .entry)) line reference (now (segment .entry))) (goodAt (placeOn line reference (sequenceOf (now (segment .entry)))) (now (segment .entry))) ⌝ }
+    ensures { λ r. ⌜ Keyed (now (table .entry)) line reference (now (segment .entry)) r ⌝ }
 {
     let pair = line.pair;
     let option = carried(segment);
@@ -76,7 +78,7 @@ fn keyed(table: &[u8], segment: &[u8], line: Line, reference: u64) -> Outcome
     let number = sequence(segment);
     let way = arriving_way(pair, peer_isn(line, number), line.isn);
     let place = place_on(line, reference, number);
-    verified(
+    by_key(
         Outcome::Bad(25, 0),
         Outcome::Bad(26, 0),
         found,
@@ -87,7 +89,29 @@ fn keyed(table: &[u8], segment: &[u8], line: Line, reference: u64) -> Outcome
     )
 }
 
-// With a state, opening or open.
+// With a state, opening or open: all that needs no data.
+pub fn begin(
+    table: &[u8],
+    source: &[u8],
+    destination: &[u8],
+    segment: &[u8],
+    line: Line,
+    reference: u64,
+) -> Begun
+    ensures { λ r. ⌜ Judges (now (table .entry)) line reference (record { source = now (source .entry); destination = now (destination .entry); segment = now (segment .entry) }) r ⌝ }
+{
+    let early = early_faults(table, source, destination, segment, line);
+    let Outcome::Good(_, _) = early else {
+        return nothing(early);
+    };
+    let formed = formed_faults(line, source, destination, segment);
+    let Outcome::Good(_, _) = formed else {
+        return nothing(formed);
+    };
+    keyed(table, segment, line, reference)
+}
+
+// The whole of it.
 pub fn check(
     table: &[u8],
     source: &[u8],
@@ -98,15 +122,8 @@ pub fn check(
 ) -> Outcome
     ensures { λ r. ⌜ r ≡ checkOf (now (table .entry)) line reference (record { source = now (source .entry); destination = now (destination .entry); segment = now (segment .entry) }) ⌝ }
 {
-    let early = early_faults(table, source, destination, segment, line);
-    let Outcome::Good(_, _) = early else {
-        return early;
-    };
-    let formed = formed_faults(line, source, destination, segment);
-    let Outcome::Good(_, _) = formed else {
-        return formed;
-    };
-    keyed(table, segment, line, reference)
+    let begun = begin(table, source, destination, segment, line, reference);
+    finished(begun, segment)
 }
 
 // "Bare SYN without TCP-AO: 25 if any entry matches the pair, otherwise pass."
@@ -142,16 +159,16 @@ pub fn arrival_pair(source: &[u8], destination: &[u8], segment: &[u8]) -> Pair
     )
 }
 
-// 25 to 29 of a bare SYN without a state. "For a bare SYN .. the destination ISN is zero."
-fn keyed_syn(table: &[u8], segment: &[u8], pair: Pair, strict: bool) -> Outcome
+// 25 to 28 of a bare SYN without a state. "For a bare SYN .. the destination ISN is zero."
+fn keyed_syn(table: &[u8], segment: &[u8], pair: Pair, strict: bool) -> Begun
     requires { ⌜ (isRefused (checked (now table)) ≡ false) × (wellSized (now segment) ≡ true) ⌝ }
-    ensures { λ r. ⌜ r ≡ first (synKeyedTests (now (table .entry)) pair strict (now (segment .entry))) (goodAt (Place.At (sequenceOf (now (segment .entry)))) (now (segment .entry))) ⌝ }
+    ensures { λ r. ⌜ KeyedSyn (now (table .entry)) pair strict (arrivingOn pair (sequenceOf (now (segment .entry))) 0) (now (segment .entry)) r ⌝ }
 {
     let option = carried(segment);
     let found = entry_for(table, pair, option, segment);
     let number = sequence(segment);
     let way = arriving_way(pair, number, 0);
-    verified(
+    by_key(
         syn_missing(table, pair),
         syn_unknown(strict),
         found,
@@ -162,7 +179,29 @@ fn keyed_syn(table: &[u8], segment: &[u8], pair: Pair, strict: bool) -> Outcome
     )
 }
 
-// A bare SYN, without a state.
+// A bare SYN, without a state: all that needs no data, with the IDs of the entry that was found.
+pub fn begin_syn(
+    table: &[u8],
+    source: &[u8],
+    destination: &[u8],
+    segment: &[u8],
+    strict: bool,
+) -> Begun
+    ensures { λ r. ⌜ JudgesSyn (now (table .entry)) (record { source = now (source .entry); destination = now (destination .entry); segment = now (segment .entry) }) strict r ⌝ }
+{
+    let early = early_syn_faults(table, source, destination, segment);
+    let Outcome::Good(_, _) = early else {
+        return nothing(early);
+    };
+    let formed = formed_syn_faults(segment);
+    let Outcome::Good(_, _) = formed else {
+        return nothing(formed);
+    };
+    let pair = arrival_pair(source, destination, segment);
+    keyed_syn(table, segment, pair, strict)
+}
+
+// The whole of it.
 pub fn check_syn(
     table: &[u8],
     source: &[u8],
@@ -172,14 +211,6 @@ pub fn check_syn(
 ) -> Outcome
     ensures { λ r. ⌜ r ≡ checkSyn (now (table .entry)) (record { source = now (source .entry); destination = now (destination .entry); segment = now (segment .entry) }) strict ⌝ }
 {
-    let early = early_syn_faults(table, source, destination, segment);
-    let Outcome::Good(_, _) = early else {
-        return early;
-    };
-    let formed = formed_syn_faults(segment);
-    let Outcome::Good(_, _) = formed else {
-        return formed;
-    };
-    let pair = arrival_pair(source, destination, segment);
-    keyed_syn(table, segment, pair, strict)
+    let begun = begin_syn(table, source, destination, segment, strict);
+    finished(begun, segment)
 }

@@ -9,6 +9,7 @@ use borrow.Author.Tests.{eq-eqb, ne-eqb, not-false}
 use Rattle.wire.specs.Header.{sequence}
 use Rattle.keys.specs.declared.entry.Pair.{Pair}
 use Rattle.keys.specs.declared.entry.Entry.{Entry}
+use Rattle.keys.specs.declared.entry.Ids.{Ids}
 use Rattle.keys.specs.declared.table.Found.{Found}
 use Rattle.keys.specs.Table.{Tables, checked, sendEntry, recvEntry, anyEntry}
 use Rattle.rules.specs.declared.Outcome.{Outcome}
@@ -17,7 +18,7 @@ use Rattle.rules.specs.declared.Verdict.{Verdict}
 use Rattle.rules.specs.declared.Line.{Line}
 use Rattle.rules.specs.declared.State.{State}
 use Rattle.rules.specs.NumberLaws.{eachGives, none-applied}
-use Rattle.rules.specs.GroupLaws.{first-clear, none-clear, sized-of}
+use Rattle.rules.specs.GroupLaws.{first-clear, none-clear}
 use Rattle.rules.specs.JudgeLaws.{none-of}
 use Rattle.rules.specs.Segment.{keyId}
 use Rattle.rules.specs.Connection.{Arrival, sized, arrivalPair, available, nextKey, opened, empty}
@@ -64,14 +65,14 @@ module _ (t : Tables) (a : Arrival) (strict : Bool) where
   syn-final : eachGives isFinal (judgeSynTests t a strict) ≡ true
   syn-final = rw (refusal-final (checked t), missing-final, unknown-final strict)
 
-  pub taken-by : {o : Outcome} → o ≡ checkSyn t a strict → TakenBy a o
+  pub taken-by : {o : Outcome} {ids : Ids} → o ≡ checkSyn t a strict → ((x r : ℕ) → o ≡ Good x r → ids ≡ recvEntry t (arrivalPair a) (keyId (a .segment)) .entry .ids) → TakenBy t a ids o
   unfolding checkSyn
-  taken-by e x r g =
+  taken-by e found x r g =
       let p = none-clear (synGroups t a strict) (none-applied isFinal (judgeSynTests t a strict) _ syn-final (ap isFinal (sym e ∙ g))) in
       record {
         addresses = not-false (sized (a .source) (a .destination)) (p .input .0);
-        form = sized-of 20 (a .segment) (p .size);
         position = good-at (sym g ∙ e ∙ first-clear (synGroups t a strict) _ p);
+        found = found x r g;
       }
 
 -- what the calls return
@@ -95,13 +96,12 @@ module _ (t : Tables) (p : Pair) (isn : ℕ) where
   not-opened f (Bad n i) e q = q
 
 pub opened-is : (t : Tables) (a : Arrival) (isn : ℕ) {o : Outcome} {x r : ℕ} → o ≡ Good x r → {n : ℕ} → n ≡ sequence (a .segment) → x ≡ sequence (a .segment)
-    → {p : Pair} → p ≡ arrivalPair a → {f : Found} → f ≡ recvEntry t p (keyId (a .segment)) → {k : ℕ} → k ≡ nextKey t p r (f .entry .ids .send)
-    → {s : State} → s ≡ opened p isn n k (f .entry .ids .recv) → s ≡ openedBy t (arrivalPair a) isn (recvEntry t (arrivalPair a) (keyId (a .segment)) .entry) o
-opened-is t a isn {o} {x} {r} g en ex {p} ep ef ek es =
+    → {p : Pair} → p ≡ arrivalPair a → {ids : Ids} → ids ≡ recvEntry t (arrivalPair a) (keyId (a .segment)) .entry .ids → {k : ℕ} → k ≡ nextKey t p r (ids .send)
+    → {s : State} → s ≡ opened p isn n k (ids .recv) → s ≡ openedBy t (arrivalPair a) isn (recvEntry t (arrivalPair a) (keyId (a .segment)) .entry) o
+opened-is t a isn {o} {x} {r} g en ex {p} ep {ids} ef ek es =
     es
-    ∙ (λ i. opened p isn ((en ∙ sym ex) i) (ek i) (ef i .entry .ids .recv))
-    ∙ (λ i. opened p isn x (nextKey t p r (ef i .entry .ids .send)) (recvEntry t p (keyId (a .segment)) .entry .ids .recv))
-    ∙ (λ i. openedBy t (ep i) isn (recvEntry t (ep i) (keyId (a .segment)) .entry) (Good x r))
+    ∙ (λ i. opened p isn ((en ∙ sym ex) i) (ek i) (ids .recv))
+    ∙ (λ i. opened (ep i) isn x (nextKey t (ep i) r (ef i .send)) (ef i .recv))
     ∙ ap (openedBy t (arrivalPair a) isn (recvEntry t (arrivalPair a) (keyId (a .segment)) .entry)) (sym g)
 
 pub passively-is : (t : Tables) (a : Arrival) (isn : ℕ) (strict : Bool) {o : Outcome} {v : Verdict} {i : ℕ} {s : State} → o ≡ checkSyn t a strict → v ≡ verdictOf o → i ≡ indexOf o

@@ -2,21 +2,24 @@
 use Prim.Native.Nat.{ℕ}
 use mathlib.Core.Path.{_≡_}
 use mathlib.Core.Bool.{true, false}
-use Rattle.wire.specs.Header.{sequence, wellSized}
+use Rattle.wire.specs.Header.{sequence}
+use Rattle.keys.specs.declared.entry.Ids.{Ids}
+use Rattle.keys.specs.Table.{Tables, recvEntry}
 use Rattle.rules.specs.declared.Line.{Line}
 use Rattle.rules.specs.declared.Outcome.{Outcome}
 use Rattle.rules.specs.declared.Outcome.the-variants.{Good}
-use Rattle.rules.specs.Connection.{Arrival, sized, isOpen}
+use Rattle.rules.specs.Segment.{keyId}
+use Rattle.rules.specs.Connection.{Arrival, sized, arrivalPair, isOpen}
 
 -- what is accepted while opening stands at its own number
 abbrev pub AtNumber : Line → ℕ → Outcome → Type 0
 AtNumber l number o = (x r : ℕ) → o ≡ Good x r → isOpen l ≡ false → x ≡ number
 
--- a bare SYN that is accepted: of its addresses, its size, its position
-pub record Taken (a : Arrival) (x : ℕ) : Type 0 where
+-- a bare SYN that is accepted: of its addresses, its position, and the IDs of the entry that was found for it
+pub record Taken (t : Tables) (a : Arrival) (ids : Ids) (x : ℕ) : Type 0 where
   pub addresses : sized (a .source) (a .destination) ≡ true
-  pub form : wellSized (a .segment) ≡ true
   pub position : x ≡ sequence (a .segment)
+  pub found : ids ≡ recvEntry t (arrivalPair a) (keyId (a .segment)) .entry .ids
 
-abbrev pub TakenBy : Arrival → Outcome → Type 0
-TakenBy a o = (x r : ℕ) → o ≡ Good x r → Taken a x
+abbrev pub TakenBy : Tables → Arrival → Ids → Outcome → Type 0
+TakenBy t a ids o = (x r : ℕ) → o ≡ Good x r → Taken t a ids x

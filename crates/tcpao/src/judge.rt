@@ -7,12 +7,13 @@ ghost use Rattle.rules.specs.Segment.{keyId};
 ghost use Rattle.rules.specs.Connection.{arrivalPair, isOpen, nextKey, withDrop};
 ghost use Rattle.rules.specs.Calls.{verdictOf, indexOf, afterJudging, openedBy, judged, judgedSyn, openedPassively};
 ghost use Rattle.tcpao.specs.Arriving.{AtNumber, TakenBy};
+use keys::entry::Ids;
 use keys::entry::Pair;
+use numbers::begun::finished;
 use numbers::check::arrival_pair;
+use numbers::check::begin_syn;
 use numbers::check::check;
 use numbers::check::check_syn;
-use numbers::check::entry_for;
-use numbers::verify::carried;
 use rules::Checked;
 use rules::Judged;
 use rules::Outcome;
@@ -137,25 +138,23 @@ pub fn judge_syn(
     Checked { verdict, index }
 }
 
-// "only on accept, opens with the entry found, then applies the key rule"
+// "only on accept, opens with the entry found, then applies the key rule": its IDs, which judging found.
 fn opened_by(
     table: &[u8],
     source: &[u8],
     destination: &[u8],
     segment: &[u8],
     isn: u32,
+    ids: Ids,
     o: Outcome,
 ) -> State
-    requires { ⌜ TakenBy (record { source = now source; destination = now destination; segment = now segment }) o ⌝ }
+    requires { ⌜ TakenBy (now table) (record { source = now source; destination = now destination; segment = now segment }) ids o ⌝ }
     ensures { λ r. ⌜ r ≡ openedBy (now (table .entry)) (arrivalPair (record { source = now (source .entry); destination = now (destination .entry); segment = now (segment .entry) })) isn (recvEntry (now (table .entry)) (arrivalPair (record { source = now (source .entry); destination = now (destination .entry); segment = now (segment .entry) })) (keyId (now (segment .entry))) .entry) o ⌝ }
 {
     let Outcome::Good(_, rnext) = o else {
         return empty();
     };
     let pair = arrival_pair(source, destination, segment);
-    let found = entry_for(table, pair, carried(segment), segment);
-    let entry = found.entry;
-    let ids = entry.ids;
     let key = next_key(table, pair, rnext, ids.send);
     opened(pair, isn, sequence(segment), key, ids.recv)
 }
@@ -171,10 +170,12 @@ pub fn open_passive(
 ) -> Judged
     ensures { λ r. ⌜ r ≡ openedPassively (now (table .entry)) (record { source = now (source .entry); destination = now (destination .entry); segment = now (segment .entry) }) isn strict ⌝ }
 {
-    let o = check_syn(table, source, destination, segment, strict);
+    let begun = begin_syn(table, source, destination, segment, strict);
+    let ids = begun.ids;
+    let o = finished(begun, segment);
     let verdict = verdict_of(o);
     let index = index_of(o);
-    let state = opened_by(table, source, destination, segment, isn, o);
+    let state = opened_by(table, source, destination, segment, isn, ids, o);
     Judged {
         verdict,
         index,

@@ -45,6 +45,20 @@ fn no_hmac() -> HmacSha1Context {
     }
 }
 
+// A context that stands where none is asked for: nothing is made of it.
+pub fn unused() -> MacContext {
+    MacContext {
+        algorithm: 0,
+        hmac: no_hmac(),
+        cmac: CmacContext {
+            key: [0u8; 16],
+            chain: [0u8; 16],
+            block: [0u8; 16],
+            held: 0,
+        },
+    }
+}
+
 impl MacContext {
     pub fn new(algorithm: u8, key: [u8; HmacSha1_96::TRAFFIC_KEY_BYTES]) -> Self
         ensures { λ r. ⌜ macView r ≡ macStart algorithm key ⌝ }

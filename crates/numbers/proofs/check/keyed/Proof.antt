@@ -1,4 +1,4 @@
--- What `verified` is given is what the definition's tests look at.
+-- What `by_key` is given is what the definition's tests look at.
 use Prim.Native.Nat.{ℕ, _≤_}
 use mathlib.Core.Bool.{cond}
 use mathlib.Core.Path.{refl, sym, ap, subst, _∙_}
@@ -7,20 +7,22 @@ use Rattle.keys.specs.declared.table.Found.{Found}
 use Rattle.rules.specs.Segment.{keyId}
 use Rattle.rules.specs.Connection.{isOpen, placeOn}
 use Rattle.numbers.specs.Groups.{arrivingOn}
-use Rattle.numbers.proofs.Checks.{entry-mac, keyed-is}
+use Rattle.numbers.proofs.Checks.{entry-mac, begins-is}
 use Rattle.numbers.proofs.check.keyed.Statement.{statement}
 use Rattle.numbers.proofs.check.keyed.Tie as tie
 
 entry-for-requires : tie.Need-entry-for-requires
 entry-for-requires c κs = (c .carried .ensures, c .before .before .before .before .pre .1)
 
-verified-requires : tie.Need-verified-requires
-verified-requires c κs =
+by-key-requires : tie.Need-by-key-requires
+by-key-requires c κs =
     let a = c .before .before .before .before .before .before .before .before .before .args in (
       c .before .before .before .before .before .carried .ensures,
       c .before .before .before .before .before .before .before .before .before .pre .1,
       subst (λ (f : Found). f .entry .secret .«mac_bytes» ≤ 16) (sym (c .before .before .before .before .entry-for .ensures))
           (entry-mac (a .table .now) (a .line .pair) (keyId (a .segment .now)) (c .before .before .before .before .before .before .before .before .before .pre .0)),
+      refl,
+      refl,
     )
 
 returns : tie.Need-returns
@@ -28,8 +30,8 @@ returns c =
     let a = c .before .before .before .before .before .before .before .before .before .before .args in
     let number = c .before .before .before .before .sequence .ensures in
     let isn = c .before .before .before .peer-isn .ensures ∙ ap (λ (n : ℕ). cond (isOpen (a .line)) (a .line .«peer_isn») n) number in
-    keyed-is (a .segment .now) refl refl (c .before .before .before .before .before .entry-for .ensures) (c .before .before .arriving-way .ensures ∙ ap (λ (n : ℕ). arrivingOn (a .line .pair) n (a .line .isn)) isn)
-    (c .before .place-on .ensures ∙ ap (λ (n : ℕ). placeOn (a .line) (a .reference) n) number) (c .verified .ensures)
+    begins-is (a .segment .now) refl refl (c .before .before .before .before .before .entry-for .ensures) (c .before .before .arriving-way .ensures ∙ ap (λ (n : ℕ). arrivingOn (a .line .pair) n (a .line .isn)) isn)
+    (c .before .place-on .ensures ∙ ap (λ (n : ℕ). placeOn (a .line) (a .reference) n) number) (c .by-key .ensures)
 
 pub keyed-spec : {M : Type 1} → statement M
-keyed-spec = tie.close (tie.spec (λ c κs. search needs) entry-for-requires (λ c κs. search needs) (λ c κs. search needs) (λ c κs. search needs) (λ c κs. search needs) verified-requires returns)
+keyed-spec = tie.close (tie.spec (λ c κs. search needs) entry-for-requires (λ c κs. search needs) (λ c κs. search needs) (λ c κs. search needs) (λ c κs. search needs) by-key-requires returns)
