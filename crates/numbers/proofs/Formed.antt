@@ -1,18 +1,17 @@
 -- What the tests of a segment's form come to: 20, 21 and 22 (30 when signing is 20 by another number). Assumes nothing.
 use Prim.Native.Nat.{ℕ}
 use mathlib.Core.Path.{_≡_, refl, sym, ap, _∙_}
-use mathlib.Core.Bool.{Bool, true, false, _&&_}
+use mathlib.Core.Bool.{Bool, true, false}
 use mathlib.Core.List.{List, [], _∷_, _++_}
 use native.Mathlib.Omega.{arith}
-use lib.Dec.{ltb}
 use borrow.Author.Tests.{not-true, not-false}
 use Rattle.wire.specs.Tests.{any}
-use Rattle.wire.specs.Header.{sizeFaults, wellSized, area}
-use Rattle.wire.specs.Options.{optionsOf, isMalformed, aoIn, md5In}
+use Rattle.wire.specs.Header.{sizeFaults, wellSized}
 use Rattle.wire.specs.declared.options.Options.{Options}
 use Rattle.rules.specs.declared.Outcome.{Outcome}
-use Rattle.rules.specs.Numbers.{Test, test, tests, first}
-use Rattle.rules.specs.Calls.{refuse, unrefused, lengthTests, formTests}
+use Rattle.rules.specs.Numbers.{Test, tests, first}
+use Rattle.rules.specs.Calls.{refuse, unrefused, lengthTests}
+use Rattle.numbers.specs.Groups.{optionLines}
 
 -- one outcome behind several tests: one of them is enough
 pub one-of : (o : Outcome) (l : List Bool) (b : List (Test Outcome)) (p : Outcome) → any l ≡ true → o ≡ first (tests o l ++ b) p
@@ -33,10 +32,5 @@ module _ (n : ℕ) (s : List ℕ) (b : List (Test Outcome)) (o : Outcome) where
   well-sized e = none-of (refuse n) (sizeFaults s) b o (not-true (any (sizeFaults s)) e)
 
 -- 21 and 22 by what was read
-abbrev optionLines : Options → List (Test Outcome)
-optionLines x =
-    test (refuse 21) (isMalformed x) ∷ test (refuse 22) (ltb 1 (aoIn x .count)) ∷ test (refuse 22) (ltb 0 (aoIn x .count) && ltb 0 (md5In x .count)) ∷ []
-
-module _ (s : List ℕ) {x : Options} (read : x ≡ optionsOf (area s)) where
-  pub form-is : {z : Outcome} (y : Options) → x ≡ y → z ≡ first (optionLines y) unrefused → z ≡ first (formTests s) unrefused
-  form-is y e q = q ∙ ap (λ (k : Options). first (optionLines k) unrefused) (sym e ∙ read)
+pub form-is : {x : Options} (y : Options) → x ≡ y → {z : Outcome} → z ≡ first (optionLines y) unrefused → z ≡ first (optionLines x) unrefused
+form-is y e q = q ∙ ap (λ (k : Options). first (optionLines k) unrefused) (sym e)

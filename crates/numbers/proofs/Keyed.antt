@@ -26,10 +26,6 @@ use Rattle.rules.specs.Calls.{refuse, keyTests}
 use Rattle.numbers.specs.Groups.{goodAt}
 use Rattle.numbers.specs.GroupLaws.{yes, no}
 
--- what the option reader found is the segment's TCP-AO
-pub carried-is : (s : List ℕ) {x : Options} → x ≡ optionsOf (area s) → {o : Occurrence} (y : Options) → x ≡ y → o ≡ aoIn y → o ≡ ao s
-carried-is s read y e q = q ∙ ap aoIn (sym e ∙ read)
-
 inside : (s : List ℕ) → ao s .at + ao s .len ≤ length (area s)
 inside s = go (optionsOf (area s)) refl
   where

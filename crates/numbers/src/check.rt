@@ -2,7 +2,8 @@
 // state. The two checks assume nothing. What a step assumes is what the tests before it left.
 ghost use mathlib.Core.Path.{_≡_};
 ghost use mathlib.Core.Bool.{true, false, cond};
-ghost use Rattle.wire.specs.Header.{sequence as sequenceOf, wellSized};
+ghost use Rattle.wire.specs.Header.{sequence as sequenceOf, wellSized, headerOf};
+ghost use lib.ListN.{length};
 ghost use Rattle.keys.specs.Table.{checked, recvEntry};
 ghost use Rattle.rules.specs.Segment.{ao, keyId};
 ghost use Rattle.rules.specs.Connection.{sized, arrivalPair, isOpen};
@@ -29,7 +30,8 @@ use states::position::place_on;
 use states::writers::is_open;
 use states::writers::pair_of;
 use traffic::way::Way;
-use wire::header::sequence;
+use wire::header::Header;
+use wire::header::header_of;
 use wire::options::Occurrence;
 
 // The way of what arrives on a pair: its source is our remote side.
@@ -68,14 +70,15 @@ fn entry_for(table: &[u8], pair: Pair, option: Occurrence, segment: &[u8]) -> Fo
 }
 
 // 25 to 28 with a state, on a table that is not refused.
-fn keyed(table: &[u8], segment: &[u8], line: Line, reference: u64) -> Begun
-    requires { ⌜ (isRefused (checked (now table)) ≡ false) × (wellSized (now segment) ≡ true) ⌝ }
+fn keyed(table: &[u8], segment: &[u8], header: Header, line: Line, reference: u64) -> Begun
+    requires { ⌜ (isRefused (checked (now table)) ≡ false) × (wellSized (now segment) ≡ true) × (header ≡ headerOf (length (now segment)) (now segment)) ⌝ }
     ensures { λ r. ⌜ Keyed (now (table .entry)) line reference (now (segment .entry)) r ⌝ }
 {
     let pair = line.pair;
-    let option = carried(segment);
+    let options = header.options;
+    let option = carried(options);
     let found = entry_for(table, pair, option, segment);
-    let number = sequence(segment);
+    let number = header.sequence;
     let way = arriving_way(pair, peer_isn(line, number), line.isn);
     let place = place_on(line, reference, number);
     by_key(
@@ -104,11 +107,12 @@ pub fn begin(
     let Outcome::Good(_, _) = early else {
         return nothing(early);
     };
-    let formed = formed_faults(line, source, destination, segment);
+    let header = header_of(segment, segment.len());
+    let formed = formed_faults(line, source, destination, header);
     let Outcome::Good(_, _) = formed else {
         return nothing(formed);
     };
-    keyed(table, segment, line, reference)
+    keyed(table, segment, header, line, reference)
 }
 
 // The whole of it.
@@ -159,21 +163,29 @@ pub fn arrival_pair(source: &[u8], destination: &[u8], segment: &[u8]) -> Pair
     )
 }
 
+// "A bare SYN .. [has] extension 0 and [its] own number as position."
+fn own_place(number: u32) -> Place
+    ensures { λ r. ⌜ r ≡ Place.At number ⌝ }
+{
+    Place::At(number as u64)
+}
+
 // 25 to 28 of a bare SYN without a state. "For a bare SYN .. the destination ISN is zero."
-fn keyed_syn(table: &[u8], segment: &[u8], pair: Pair, strict: bool) -> Begun
-    requires { ⌜ (isRefused (checked (now table)) ≡ false) × (wellSized (now segment) ≡ true) ⌝ }
+fn keyed_syn(table: &[u8], segment: &[u8], header: Header, pair: Pair, strict: bool) -> Begun
+    requires { ⌜ (isRefused (checked (now table)) ≡ false) × (wellSized (now segment) ≡ true) × (header ≡ headerOf (length (now segment)) (now segment)) ⌝ }
     ensures { λ r. ⌜ KeyedSyn (now (table .entry)) pair strict (arrivingOn pair (sequenceOf (now (segment .entry))) 0) (now (segment .entry)) r ⌝ }
 {
-    let option = carried(segment);
+    let options = header.options;
+    let option = carried(options);
     let found = entry_for(table, pair, option, segment);
-    let number = sequence(segment);
+    let number = header.sequence;
     let way = arriving_way(pair, number, 0);
     by_key(
         syn_missing(table, pair),
         syn_unknown(strict),
         found,
         way,
-        Place::At(number as u64),
+        own_place(number),
         option,
         segment,
     )
@@ -193,12 +205,13 @@ pub fn begin_syn(
     let Outcome::Good(_, _) = early else {
         return nothing(early);
     };
-    let formed = formed_syn_faults(segment);
+    let header = header_of(segment, segment.len());
+    let formed = formed_syn_faults(header);
     let Outcome::Good(_, _) = formed else {
         return nothing(formed);
     };
     let pair = arrival_pair(source, destination, segment);
-    keyed_syn(table, segment, pair, strict)
+    keyed_syn(table, segment, header, pair, strict)
 }
 
 // The whole of it.

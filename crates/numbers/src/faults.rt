@@ -1,19 +1,19 @@
 // The tests that come before a key is looked at: document 01, "Numbers given back", 10 to 24. One function for each group of the crate `rules`;
 // where none of its tests applies, it gives Good(0, 0), of which nothing is made. Assumes nothing.
 ghost use mathlib.Core.Path.{_≡_};
-ghost use mathlib.Core.Bool.{_&&_};
+ghost use mathlib.Core.Bool.{not, _&&_};
 ghost use mathlib.Core.List.{_++_};
-ghost use Rattle.wire.specs.Header.{syn, ack};
 ghost use Rattle.rules.specs.Numbers.{first};
 ghost use Rattle.rules.specs.Segment.{isBareSyn};
-ghost use Rattle.rules.specs.Calls.{unrefused, familyTests, addressTests, tableTests, inputTests, stateTests, lengthTests, formTests, pairTests, stageTests, arrivalTests, synTests};
-ghost use Rattle.numbers.specs.Groups.{countTests};
+ghost use Rattle.rules.specs.Calls.{unrefused, familyTests, addressTests, tableTests, inputTests, stateTests, lengthTests};
+ghost use Rattle.numbers.specs.Groups.{countTests, optionLines, pairLines, stageLines, synLines, arrivalLines};
 use keys::entry::Pair;
 use keys::table::Loaded;
 use rules::Line;
 use rules::Outcome;
 use states::writers::is_address;
 use states::writers::is_open;
+use wire::header::Header;
 use wire::options::Options;
 
 // 10 to 17, with the entry's index.
@@ -109,18 +109,18 @@ fn length_faults(segment: &[u8]) -> Outcome
 }
 
 // 21: "malformed options"; 22.
-fn form_faults(segment: &[u8]) -> Outcome
-    ensures { λ r. ⌜ r ≡ first (formTests (now (segment .entry))) unrefused ⌝ }
+fn form_faults(options: Options) -> Outcome
+    ensures { λ r. ⌜ r ≡ first (optionLines options) unrefused ⌝ }
 {
-    match wire::options::of_segment(segment) {
+    match options {
         Options::Malformed => Outcome::Bad(21, 0),
         Options::Found(seen) => option_faults(seen.ao.count, seen.md5.count),
     }
 }
 
 // 23: "pair is not the state's". The source of what arrives is our remote side.
-fn pair_faults(pair: Pair, source: &[u8], destination: &[u8], segment: &[u8]) -> Outcome
-    ensures { λ r. ⌜ r ≡ first (pairTests pair (record { source = now (source .entry); destination = now (destination .entry); segment = now (segment .entry) })) unrefused ⌝ }
+fn pair_faults(pair: Pair, source: &[u8], destination: &[u8], header: Header) -> Outcome
+    ensures { λ r. ⌜ r ≡ first (pairLines pair (now (source .entry)) (now (destination .entry)) header) unrefused ⌝ }
 {
     let remote = pair.remote;
     let local = pair.local;
@@ -130,10 +130,10 @@ fn pair_faults(pair: Pair, source: &[u8], destination: &[u8], segment: &[u8]) ->
     if !is_address(destination, pair.family, local) {
         return Outcome::Bad(23, 0);
     }
-    if wire::header::source_port(segment) != pair.remote_port {
+    if header.source_port != pair.remote_port {
         return Outcome::Bad(23, 0);
     }
-    if wire::header::destination_port(segment) != pair.local_port {
+    if header.destination_port != pair.local_port {
         return Outcome::Bad(23, 0);
     }
     Outcome::Good(0, 0)
@@ -149,50 +149,59 @@ pub fn is_bare_syn(segment: &[u8]) -> bool
     false
 }
 
-fn is_syn_ack(segment: &[u8]) -> bool
-    ensures { λ r. ⌜ r ≡ (syn (now (segment .entry)) && ack (now (segment .entry))) ⌝ }
+fn bare_syn(header: Header) -> bool
+    ensures { λ r. ⌜ r ≡ (header .syn && not (header .ack)) ⌝ }
 {
-    if wire::header::syn(segment) {
-        return wire::header::ack(segment);
+    if header.syn {
+        return !header.ack;
+    }
+    false
+}
+
+fn syn_ack(header: Header) -> bool
+    ensures { λ r. ⌜ r ≡ (header .syn && header .ack) ⌝ }
+{
+    if header.syn {
+        return header.ack;
     }
     false
 }
 
 // 24: "wrong segment for the stage". Open: a bare SYN; opening: anything but SYN with ACK.
-fn stage_faults(line: Line, segment: &[u8]) -> Outcome
-    ensures { λ r. ⌜ r ≡ first (stageTests line (now (segment .entry))) unrefused ⌝ }
+fn stage_faults(line: Line, header: Header) -> Outcome
+    ensures { λ r. ⌜ r ≡ first (stageLines line header) unrefused ⌝ }
 {
     if is_open(line) {
-        if is_bare_syn(segment) {
+        if bare_syn(header) {
             return Outcome::Bad(24, 0);
         }
         return Outcome::Good(0, 0);
     }
-    if is_syn_ack(segment) {
+    if syn_ack(header) {
         return Outcome::Good(0, 0);
     }
     Outcome::Bad(24, 0)
 }
 
 // 24 without a state: anything but a bare SYN.
-fn syn_faults(segment: &[u8]) -> Outcome
-    ensures { λ r. ⌜ r ≡ first (synTests (now (segment .entry))) unrefused ⌝ }
+fn syn_faults(header: Header) -> Outcome
+    ensures { λ r. ⌜ r ≡ first (synLines header) unrefused ⌝ }
 {
-    if is_bare_syn(segment) {
+    if bare_syn(header) {
         return Outcome::Good(0, 0);
     }
     Outcome::Bad(24, 0)
 }
 
 // 23, then 24.
-fn arrival_faults(line: Line, source: &[u8], destination: &[u8], segment: &[u8]) -> Outcome
-    ensures { λ r. ⌜ r ≡ first (arrivalTests line (record { source = now (source .entry); destination = now (destination .entry); segment = now (segment .entry) })) unrefused ⌝ }
+fn arrival_faults(line: Line, source: &[u8], destination: &[u8], header: Header) -> Outcome
+    ensures { λ r. ⌜ r ≡ first (arrivalLines line (now (source .entry)) (now (destination .entry)) header) unrefused ⌝ }
 {
-    let pair = pair_faults(line.pair, source, destination, segment);
+    let pair = pair_faults(line.pair, source, destination, header);
     let Outcome::Good(_, _) = pair else {
         return pair;
     };
-    stage_faults(line, segment)
+    stage_faults(line, header)
 }
 
 // With a state, up to 20: the input, and the segment's size.
@@ -213,14 +222,15 @@ pub fn early_faults(
 }
 
 // 21 to 24: form, pair and stage.
-pub fn formed_faults(line: Line, source: &[u8], destination: &[u8], segment: &[u8]) -> Outcome
-    ensures { λ r. ⌜ r ≡ first (formTests (now (segment .entry)) ++ arrivalTests line (record { source = now (source .entry); destination = now (destination .entry); segment = now (segment .entry) })) unrefused ⌝ }
+pub fn formed_faults(line: Line, source: &[u8], destination: &[u8], header: Header) -> Outcome
+    ensures { λ r. ⌜ r ≡ first (optionLines (header .options) ++ arrivalLines line (now (source .entry)) (now (destination .entry)) header) unrefused ⌝ }
 {
-    let form = form_faults(segment);
+    let options = header.options;
+    let form = form_faults(options);
     let Outcome::Good(_, _) = form else {
         return form;
     };
-    arrival_faults(line, source, destination, segment)
+    arrival_faults(line, source, destination, header)
 }
 
 // The same without a state.
@@ -234,12 +244,13 @@ pub fn early_syn_faults(table: &[u8], source: &[u8], destination: &[u8], segment
     length_faults(segment)
 }
 
-pub fn formed_syn_faults(segment: &[u8]) -> Outcome
-    ensures { λ r. ⌜ r ≡ first (formTests (now (segment .entry)) ++ synTests (now (segment .entry))) unrefused ⌝ }
+pub fn formed_syn_faults(header: Header) -> Outcome
+    ensures { λ r. ⌜ r ≡ first (optionLines (header .options) ++ synLines header) unrefused ⌝ }
 {
-    let form = form_faults(segment);
+    let options = header.options;
+    let form = form_faults(options);
     let Outcome::Good(_, _) = form else {
         return form;
     };
-    syn_faults(segment)
+    syn_faults(header)
 }

@@ -2,16 +2,17 @@
 ghost use mathlib.Core.Path.{_≡_};
 ghost use mathlib.Core.Bool.{true};
 ghost use Rattle.wire.specs.Header.{wellSized};
+ghost use Rattle.wire.specs.Options.{aoIn};
 ghost use Rattle.rules.specs.Segment.{ao, keyId};
 use wire::bytes::byte_at;
 use wire::options::Occurrence;
 use wire::options::Options;
 
-// The segment's TCP-AO, if it has one.
-pub fn carried(segment: &[u8]) -> Occurrence
-    ensures { λ r. ⌜ r ≡ ao (now (segment .entry)) ⌝ }
+// The segment's TCP-AO, if it has one, among the options that were read.
+pub fn carried(options: Options) -> Occurrence
+    ensures { λ r. ⌜ r ≡ aoIn options ⌝ }
 {
-    match wire::options::of_segment(segment) {
+    match options {
         Options::Malformed => Occurrence {
             count: 0,
             at: 0,

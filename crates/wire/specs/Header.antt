@@ -1,15 +1,14 @@
 -- The header of a TCP segment (RFC 793, section 3.1), over any bytes: one that is not there counts as 0.
 -- Document 01, "The option in a segment".
 use Prim.Native.Nat.{ℕ, _*_, _-_, _/_, _%_}
-use mathlib.Core.Bool.{Bool, cond, not}
+use mathlib.Core.Bool.{Bool, not}
 use mathlib.Core.List.{List, [], _∷_}
 use lib.ListN.{length, getD, take, drop}
 use lib.Dec.{ltb, eqb}
 use Rattle.octets.specs.Octets.{get16, get32}
 use Rattle.wire.specs.Tests.{any}
+use Rattle.wire.specs.Options.{optionsOf}
 use Rattle.wire.specs.declared.header.Header.{Header}
-use Rattle.wire.specs.declared.header.Parsed.{Parsed}
-use Rattle.wire.specs.declared.header.Parsed.the-variants.{Segment, Bad}
 
 abbrev pub sourcePort : List ℕ → ℕ
 sourcePort s = get16 s 0
@@ -51,16 +50,16 @@ wellSized s = not (any (sizeFaults s))
 abbrev pub area : List ℕ → List ℕ
 area s = take (headerEnd s - 20) (drop 20 s)
 
-unfoldable pub headerOf : List ℕ → Header
-headerOf s =
+-- all of it, of a segment of n bytes
+abbrev pub headerOf : ℕ → List ℕ → Header
+headerOf n s =
     record {
+      len = n;
+      end = headerEnd s;
       «source_port» = sourcePort s;
       «destination_port» = destinationPort s;
       sequence = sequence s;
       syn = syn s;
       ack = ack s;
-      end = headerEnd s;
+      options = optionsOf (area s);
     }
-
-unfoldable pub parsed : List ℕ → Parsed
-parsed s = cond (wellSized s) (Segment (headerOf s)) Bad

@@ -1,16 +1,17 @@
 -- What the size tests give, for what stands above: the numbers in order, and how long the option area is.
 -- Assumes nothing.
-use Prim.Native.Nat.{ℕ, _-_, _≤_}
-use mathlib.Core.Bool.{Bool, true, false, cond, not, _||_}
-use mathlib.Core.Path.{_≡_, refl}
-use mathlib.Core.List.{List}
-use lib.ListN.{length, length-take, length-drop}
-use lib.Dec.{ltb}
+use Prim.Native.Nat.{ℕ, _*_, _-_, _/_, _%_, _≤_, _<_}
+use mathlib.Core.Bool.{Bool, true, false, not, _||_}
+use mathlib.Core.Path.{_≡_, refl, ap, _∙_}
+use mathlib.Core.List.{List, _++_}
+use lib.ListN.{length, getD, take, drop, length-take, length-drop, List·getD-append}
+use lib.Seq.{take-append-le, drop-append-le}
+use lib.Dec.{ltb, eqb}
+use Rattle.octets.specs.Octets.{be16, be32}
 use native.Mathlib.Omega.{arith}
 use borrow.Author.Tests.{le-ltb, ltb-false}
-use Rattle.wire.specs.Header.{dataOffset, headerEnd, wellSized, area, headerOf, parsed}
-use Rattle.wire.specs.declared.header.Header.{Header}
-use Rattle.wire.specs.declared.header.Parsed.the-variants.{Segment, Bad}
+use Rattle.wire.specs.Header.{dataOffset, headerEnd, wellSized, area, headerOf}
+use Rattle.wire.specs.Options.{optionsOf}
 
 pub record Sized (s : List ℕ) : Type 0 where
   pub least : 20 ≤ length s
@@ -32,21 +33,29 @@ sized s e = go (ltb (length s) 20) (ltb 65535 (length s)) (ltb (dataOffset s) 5)
 pub well-sized : (s : List ℕ) → Sized s → wellSized s ≡ true
 well-sized s h = rw (le-ltb _ _ (h .least), le-ltb _ _ (h .most), le-ltb _ _ (h .offset), le-ltb _ _ (h .inside))
 
--- a segment that is parsed has these fields, and this size
-pub parsed-is : (s : List ℕ) (h : Header) → parsed s ≡ Segment h → (wellSized s ≡ true) × (h ≡ headerOf s)
-unfolding parsed
-parsed-is s h e = go (wellSized s) refl e where
-  go : (t : Bool) → wellSized s ≡ t → cond t (Segment (headerOf s)) Bad ≡ Segment h → (wellSized s ≡ true) × (h ≡ headerOf s)
-  go true q r = (q, (cc))
-  go false q r = let z : _≡_ {A = ℕ} 0 1 = cc in absurd (omega arith)
-
-pub parsed-good : (s : List ℕ) → wellSized s ≡ true → parsed s ≡ Segment (headerOf s)
-unfolding parsed
-parsed-good s e = rw e
-
-pub parsed-bad : (s : List ℕ) → wellSized s ≡ false → parsed s ≡ Bad
-unfolding parsed
-parsed-bad s e = rw e
-
 pub area-length : (s : List ℕ) → headerEnd s ≤ length s → length (area s) ≡ headerEnd s - 20
 area-length s h = rw (length-take, length-drop) (omega arith)
+
+-- The data say nothing: the header of a segment is that of its header's bytes.
+module _ (h d : List ℕ) (least : 20 ≤ length h) (all : headerEnd h ≤ length h) where
+  front-at : (i : ℕ) → i < 20 → getD (h ++ d) i 0 ≡ getD h i 0
+  front-at i q = List·getD-append h d 0 i (omega arith)
+
+  front-area : area (h ++ d) ≡ area h
+  front-area =
+      ap (λ (b : ℕ). take (4 * (b / 16) - 20) (drop 20 (h ++ d))) (front-at 12 (omega arith))
+      ∙ ap (take (headerEnd h - 20)) (drop-append-le 20 h d least)
+      ∙ take-append-le (headerEnd h - 20) (drop 20 h) d (omega (arith, length-drop 20 h))
+
+  pub header-front : (n : ℕ) → headerOf n (h ++ d) ≡ headerOf n h
+  header-front n = λ i.
+      record {
+        len = n;
+        end = 4 * (front-at 12 (omega arith) i / 16);
+        «source_port» = be16 (front-at 0 (omega arith) i) (front-at 1 (omega arith) i);
+        «destination_port» = be16 (front-at 2 (omega arith) i) (front-at 3 (omega arith) i);
+        sequence = be32 (front-at 4 (omega arith) i) (front-at 5 (omega arith) i) (front-at 6 (omega arith) i) (front-at 7 (omega arith) i);
+        syn = eqb (front-at 13 (omega arith) i / 2 % 2) 1;
+        ack = eqb (front-at 13 (omega arith) i / 16 % 2) 1;
+        options = optionsOf (front-area i);
+      }

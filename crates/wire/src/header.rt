@@ -1,23 +1,22 @@
 // The header of a TCP segment: document 01, "The option in a segment"; field places by RFC 793, section 3.1.
 // Assumes nothing: each reader takes any bytes, and one that is not there counts as 0.
 ghost use mathlib.Core.Path.{_≡_};
-ghost use Rattle.wire.specs.Header.{sourcePort, destinationPort, sequence as sequenceOf, dataOffset, headerEnd, syn as synOf, ack as ackOf, wellSized, headerOf, parsed};
+ghost use Rattle.wire.specs.Header.{sourcePort, destinationPort, sequence as sequenceOf, dataOffset, headerEnd, syn as synOf, ack as ackOf, wellSized, headerOf};
 use crate::bytes::byte_at;
+use crate::options::Options;
+use crate::options::of_segment;
 
+// What a segment's header says, read once; `len` is the whole segment's length, as it is or as it was announced.
 pub struct Header {
+    pub len: usize,
+    // Where the header ends, in bytes.
+    pub end: usize,
     pub source_port: u16,
     pub destination_port: u16,
     pub sequence: u32,
     pub syn: bool,
     pub ack: bool,
-    // Where the header ends, in bytes.
-    pub end: usize,
-}
-
-pub enum Parsed {
-    Segment(Header),
-    // Bad length or offset.
-    Bad,
+    pub options: Options,
 }
 
 pub fn source_port(segment: &[u8]) -> u16
@@ -88,26 +87,18 @@ pub fn well_sized(segment: &[u8]) -> bool
     true
 }
 
-// The fields, whatever the segment's size.
-pub fn header_of(segment: &[u8]) -> Header
-    ensures { λ r. ⌜ r ≡ headerOf (now (segment .entry)) ⌝ }
+// The header of a segment of `len` bytes, of which these are there: all of its header, or more. The data are not looked at.
+pub fn header_of(bytes: &[u8], len: usize) -> Header
+    ensures { λ r. ⌜ r ≡ headerOf len (now (bytes .entry)) ⌝ }
 {
     Header {
-        source_port: source_port(segment),
-        destination_port: destination_port(segment),
-        sequence: sequence(segment),
-        syn: syn(segment),
-        ack: ack(segment),
-        end: header_end(segment),
-    }
-}
-
-pub fn parse(segment: &[u8]) -> Parsed
-    ensures { λ r. ⌜ r ≡ parsed (now (segment .entry)) ⌝ }
-{
-    if well_sized(segment) {
-        Parsed::Segment(header_of(segment))
-    } else {
-        Parsed::Bad
+        len,
+        end: header_end(bytes),
+        source_port: source_port(bytes),
+        destination_port: destination_port(bytes),
+        sequence: sequence(bytes),
+        syn: syn(bytes),
+        ack: ack(bytes),
+        options: of_segment(bytes),
     }
 }

@@ -1,8 +1,11 @@
 -- From seam to seam: the laws of Groups.
-use mathlib.Core.Path.{refl}
-use mathlib.Core.List.{_++_}
 use borrow.Author.Needs.{needs}
-use Rattle.rules.specs.Calls.{stateTests, lengthTests, formTests, arrivalTests}
+use mathlib.Core.Path.{refl, ap, _∙_}
+use mathlib.Core.List.{_++_}
+use Rattle.wire.specs.declared.header.Header.{Header}
+use Rattle.rules.specs.Numbers.{first}
+use Rattle.rules.specs.Calls.{unrefused, stateTests, lengthTests, formTests, arrivalTests}
+use Rattle.numbers.specs.Groups.{optionLines, arrivalLines}
 use Rattle.numbers.specs.GroupLaws.{passed}
 use Rattle.numbers.proofs.Checks.{early-final, early-left, state-left}
 use Rattle.numbers.proofs.Groups.{begin-early, begin-formed, begin-keyed}
@@ -16,22 +19,23 @@ returns c =
 
 returns-2 : tie.Need-returns-2
 returns-2 c =
-    let a = c .before .before .before .before .before .before .before .before .before .before .args in
-    let n = passed (stateTests (a .table .now) (a .source .now) (a .destination .now) (a .line) ++ lengthTests 20 (a .segment .now)) (c .before .before .before .before .before .early-faults .ensures) (early-final (a .table .now) (a .source .now) (a .destination .now) (a .segment .now) (a .line)) (c .before .before .before .enum-told .given .1) in
-    begin-formed (a .table .now) (a .line) (a .reference) (record { source = a .source .now; destination = a .destination .now; segment = a .segment .now }) (c .nothing2 .result) n (c .nothing2 .ensures) (c .before .before .formed-faults .ensures) (c .before .match2 .keys2)
+    let a = c .before .before .before .before .before .before .before .before .before .before .before .args in
+    let n = passed (stateTests (a .table .now) (a .source .now) (a .destination .now) (a .line) ++ lengthTests 20 (a .segment .now)) (c .before .before .before .before .before .before .early-faults .ensures) (early-final (a .table .now) (a .source .now) (a .destination .now) (a .segment .now) (a .line)) (c .before .before .before .before .enum-told .given .1) in
+    begin-formed (a .table .now) (a .line) (a .reference) (record { source = a .source .now; destination = a .destination .now; segment = a .segment .now }) (c .nothing2 .result) n (c .nothing2 .ensures) (c .before .before .formed-faults .ensures ∙ ap (λ (h : Header). first (optionLines (h .options) ++ arrivalLines (a .line) (a .source .now) (a .destination .now) h) unrefused) (c .before .before .before .header-of .ensures)) (c .before .match2 .keys2)
 
 keyed-requires : tie.Need-keyed-requires
 keyed-requires c κs =
-    let a = c .before .before .before .before .before .before .before .before .before .before .args in
-    let n = passed (stateTests (a .table .now) (a .source .now) (a .destination .now) (a .line) ++ lengthTests 20 (a .segment .now)) (c .before .before .before .before .before .early-faults .ensures) (early-final (a .table .now) (a .source .now) (a .destination .now) (a .segment .now) (a .line)) (c .before .before .before .enum-told .given .1) in
-    early-left (a .table .now) (a .source .now) (a .destination .now) (a .segment .now) (state-left (a .table .now) (a .source .now) (a .destination .now) (a .segment .now) (a .line) n)
+    let a = c .before .before .before .before .before .before .before .before .before .before .before .args in
+    let n = passed (stateTests (a .table .now) (a .source .now) (a .destination .now) (a .line) ++ lengthTests 20 (a .segment .now)) (c .before .before .before .before .before .before .early-faults .ensures) (early-final (a .table .now) (a .source .now) (a .destination .now) (a .segment .now) (a .line)) (c .before .before .before .before .enum-told .given .1) in
+    let l = early-left (a .table .now) (a .source .now) (a .destination .now) (a .segment .now) (state-left (a .table .now) (a .source .now) (a .destination .now) (a .segment .now) (a .line) n) in
+    (l .0, l .1, c .before .before .before .header-of .ensures)
 
 returns-3 : tie.Need-returns-3
 returns-3 c =
-    let a = c .before .before .before .before .before .before .before .before .before .before .before .args in
-    let n = passed (stateTests (a .table .now) (a .source .now) (a .destination .now) (a .line) ++ lengthTests 20 (a .segment .now)) (c .before .before .before .before .before .before .early-faults .ensures) (early-final (a .table .now) (a .source .now) (a .destination .now) (a .segment .now) (a .line)) (c .before .before .before .before .enum-told .given .1) in
-    let m = passed (formTests (a .segment .now) ++ arrivalTests (a .line) (record { source = a .source .now; destination = a .destination .now; segment = a .segment .now })) (c .before .before .before .formed-faults .ensures) refl (c .before .enum-told2 .given .1) in
+    let a = c .before .before .before .before .before .before .before .before .before .before .before .before .args in
+    let n = passed (stateTests (a .table .now) (a .source .now) (a .destination .now) (a .line) ++ lengthTests 20 (a .segment .now)) (c .before .before .before .before .before .before .before .early-faults .ensures) (early-final (a .table .now) (a .source .now) (a .destination .now) (a .segment .now) (a .line)) (c .before .before .before .before .before .enum-told .given .1) in
+    let m = passed (formTests (a .segment .now) ++ arrivalTests (a .line) (record { source = a .source .now; destination = a .destination .now; segment = a .segment .now })) (c .before .before .before .formed-faults .ensures ∙ ap (λ (h : Header). first (optionLines (h .options) ++ arrivalLines (a .line) (a .source .now) (a .destination .now) h) unrefused) (c .before .before .before .before .header-of .ensures)) refl (c .before .enum-told2 .given .1) in
     begin-keyed (a .table .now) (a .line) (a .reference) (record { source = a .source .now; destination = a .destination .now; segment = a .segment .now }) (c .keyed .result) n m (c .keyed .ensures)
 
 pub begin-spec : {M : Type 1} → statement M
-begin-spec = tie.close (tie.spec (λ c κs. search needs) (λ c. search needs) (λ c κs. search needs) returns (λ c κs. search needs) (λ c. search needs) (λ c κs. search needs) returns-2 keyed-requires returns-3)
+begin-spec = tie.close (tie.spec (λ c κs. search needs) (λ c. search needs) (λ c κs. search needs) returns (λ c κs. search needs) (λ c κs. search needs) (λ c. search needs) (λ c κs. search needs) returns-2 keyed-requires returns-3)

@@ -1,20 +1,21 @@
 -- Two groups, the first before the second.
 use borrow.Author.Needs.{needs}
 use mathlib.Core.Path.{refl}
-use Rattle.rules.specs.Calls.{unrefused, pairTests, stageTests}
+use Rattle.rules.specs.Calls.{unrefused}
+use Rattle.numbers.specs.Groups.{pairLines, stageLines}
 use Rattle.numbers.specs.GroupLaws.{decided, behind}
 use Rattle.numbers.proofs.faults.arrival_faults.Statement.{statement}
 use Rattle.numbers.proofs.faults.arrival_faults.Tie as tie
 
 returns : tie.Need-returns
 returns c =
-    let a = c .before .before .before .before .before .args in
-    decided (pairTests (a .line .pair) (record { source = a .source .now; destination = a .destination .now; segment = a .segment .now })) (stageTests (a .line) (a .segment .now)) unrefused (c .before .pair-faults .ensures) (c .match .keys2)
+    let a = c .before .before .before .before .args in
+    decided (pairLines (a .line .pair) (a .source .now) (a .destination .now) (a .header)) (stageLines (a .line) (a .header)) unrefused (c .before .pair-faults .ensures) (c .match .keys2)
 
 returns-2 : tie.Need-returns-2
 returns-2 c =
-    let a = c .before .before .before .before .before .before .before .args in
-    behind (pairTests (a .line .pair) (record { source = a .source .now; destination = a .destination .now; segment = a .segment .now })) (stageTests (a .line) (a .segment .now)) unrefused (c .before .before .before .pair-faults .ensures) refl (c .before .enum-told .given .1) (c .stage-faults .ensures)
+    let a = c .before .before .before .before .before .before .args in
+    behind (pairLines (a .line .pair) (a .source .now) (a .destination .now) (a .header)) (stageLines (a .line) (a .header)) unrefused (c .before .before .before .pair-faults .ensures) refl (c .before .enum-told .given .1) (c .stage-faults .ensures)
 
 pub arrival-faults-spec : {M : Type 1} → statement M
 arrival-faults-spec = tie.close (tie.spec (λ c κs. search needs) (λ c. search needs) returns (λ c κs. search needs) returns-2)

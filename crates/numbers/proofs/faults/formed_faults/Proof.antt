@@ -1,20 +1,21 @@
 -- Two groups, the first before the second.
 use borrow.Author.Needs.{needs}
 use mathlib.Core.Path.{refl}
-use Rattle.rules.specs.Calls.{unrefused, formTests, arrivalTests}
+use Rattle.rules.specs.Calls.{unrefused}
+use Rattle.numbers.specs.Groups.{optionLines, arrivalLines}
 use Rattle.numbers.specs.GroupLaws.{decided, behind}
 use Rattle.numbers.proofs.faults.formed_faults.Statement.{statement}
 use Rattle.numbers.proofs.faults.formed_faults.Tie as tie
 
 returns : tie.Need-returns
 returns c =
-    let a = c .before .before .before .before .before .args in
-    decided (formTests (a .segment .now)) (arrivalTests (a .line) (record { source = a .source .now; destination = a .destination .now; segment = a .segment .now })) unrefused (c .before .form-faults .ensures) (c .match .keys2)
+    let a = c .before .before .before .before .args in
+    decided (optionLines (a .header .options)) (arrivalLines (a .line) (a .source .now) (a .destination .now) (a .header)) unrefused (c .before .form-faults .ensures) (c .match .keys2)
 
 returns-2 : tie.Need-returns-2
 returns-2 c =
-    let a = c .before .before .before .before .before .before .before .args in
-    behind (formTests (a .segment .now)) (arrivalTests (a .line) (record { source = a .source .now; destination = a .destination .now; segment = a .segment .now })) unrefused (c .before .before .before .form-faults .ensures) refl (c .before .enum-told .given .1) (c .arrival-faults .ensures)
+    let a = c .before .before .before .before .before .before .args in
+    behind (optionLines (a .header .options)) (arrivalLines (a .line) (a .source .now) (a .destination .now) (a .header)) unrefused (c .before .before .before .form-faults .ensures) refl (c .before .enum-told .given .1) (c .arrival-faults .ensures)
 
 pub formed-faults-spec : {M : Type 1} → statement M
 formed-faults-spec = tie.close (tie.spec (λ c κs. search needs) (λ c. search needs) returns (λ c κs. search needs) returns-2)

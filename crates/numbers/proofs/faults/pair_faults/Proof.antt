@@ -17,19 +17,19 @@ returns-3 : tie.Need-returns-3
 returns-3 c =
     no _ _ (ap not (sym (c .before .before .before .before .before .before .is-address .ensures)) ∙ c .before .before .before .before .before .if1 .left)
     (no _ _ (ap not (sym (c .before .before .before .before .is-address2 .ensures)) ∙ c .before .before .before .if2 .left)
-    (yes _ _ (ap not (ne-eqb _ _ (λ e. c .if3 .taken (c .before .before .source-port .ensures ∙ e)))) refl))
+    (yes _ _ (ap not (ne-eqb _ _ (c .if3 .taken))) refl))
 
 returns-4 : tie.Need-returns-4
 returns-4 c =
     no _ _ (ap not (sym (c .before .before .before .before .before .before .before .before .before .is-address .ensures)) ∙ c .before .before .before .before .before .before .before .before .if1 .left)
     (no _ _ (ap not (sym (c .before .before .before .before .before .before .before .is-address2 .ensures)) ∙ c .before .before .before .before .before .before .if2 .left)
-    (no _ _ (ap not (eq-eqb _ _ (sym (c .before .before .before .before .before .source-port .ensures) ∙ c .before .before .before .if3 .left))) (yes _ _ (ap not (ne-eqb _ _ (λ e. c .if4 .taken (c .before .before .destination-port .ensures ∙ e)))) refl)))
+    (no _ _ (ap not (eq-eqb _ _ (c .before .before .before .if3 .left))) (yes _ _ (ap not (ne-eqb _ _ (c .if4 .taken))) refl)))
 
 returns-5 : tie.Need-returns-5
 returns-5 c =
     no _ _ (ap not (sym (c .before .before .before .before .before .before .before .before .before .is-address .ensures)) ∙ c .before .before .before .before .before .before .before .before .if1 .left)
     (no _ _ (ap not (sym (c .before .before .before .before .before .before .before .is-address2 .ensures)) ∙ c .before .before .before .before .before .before .if2 .left)
-    (no _ _ (ap not (eq-eqb _ _ (sym (c .before .before .before .before .before .source-port .ensures) ∙ c .before .before .before .if3 .left))) (no _ _ (ap not (eq-eqb _ _ (sym (c .before .before .destination-port .ensures) ∙ c .if4 .left))) refl)))
+    (no _ _ (ap not (eq-eqb _ _ (c .before .before .before .if3 .left))) (no _ _ (ap not (eq-eqb _ _ (c .if4 .left))) refl)))
 
 pub pair-faults-spec : {M : Type 1} → statement M
-pair-faults-spec = tie.close (tie.spec (λ c κs. search needs) returns (λ c κs. search needs) returns-2 (λ c κs. search needs) returns-3 (λ c κs. search needs) returns-4 returns-5)
+pair-faults-spec = tie.close (tie.spec (λ c κs. search needs) returns (λ c κs. search needs) returns-2 returns-3 returns-4 returns-5)

@@ -10,8 +10,8 @@ stage-faults-spec =
     (tie.spec
     (λ c κs. search needs)
     (λ c κs. search needs)
-    (λ c. rw (sym (c .before .before .before .is-open .ensures) ∙ c .before .before .if1 .taken, sym (c .before .is-bare-syn .ensures) ∙ c .if2 .taken))
-    (λ c. rw (sym (c .before .before .before .is-open .ensures) ∙ c .before .before .if1 .taken, sym (c .before .is-bare-syn .ensures) ∙ c .if2 .left))
+    (λ c. rw (sym (c .before .before .before .is-open .ensures) ∙ c .before .before .if1 .taken, sym (c .before .bare-syn .ensures) ∙ c .if2 .taken))
+    (λ c. rw (sym (c .before .before .before .is-open .ensures) ∙ c .before .before .if1 .taken, sym (c .before .bare-syn .ensures) ∙ c .if2 .left))
     (λ c κs. search needs)
-    (λ c. rw (sym (c .before .before .before .is-open .ensures) ∙ c .before .before .if1 .left, sym (c .before .is-syn-ack .ensures) ∙ c .if3 .taken))
-    (λ c. rw (sym (c .before .before .before .is-open .ensures) ∙ c .before .before .if1 .left, sym (c .before .is-syn-ack .ensures) ∙ c .if3 .left)))
+    (λ c. rw (sym (c .before .before .before .is-open .ensures) ∙ c .before .before .if1 .left, sym (c .before .syn-ack .ensures) ∙ c .if3 .taken))
+    (λ c. rw (sym (c .before .before .before .is-open .ensures) ∙ c .before .before .if1 .left, sym (c .before .syn-ack .ensures) ∙ c .if3 .left)))

@@ -9,5 +9,5 @@ syn-faults-spec =
     tie.close
     (tie.spec
     (λ c κs. search needs)
-    (λ c. rw (sym (c .before .is-bare-syn .ensures) ∙ c .if1 .taken))
-    (λ c. rw (sym (c .before .is-bare-syn .ensures) ∙ c .if1 .left)))
+    (λ c. rw (sym (c .before .bare-syn .ensures) ∙ c .if1 .taken))
+    (λ c. rw (sym (c .before .bare-syn .ensures) ∙ c .if1 .left)))
