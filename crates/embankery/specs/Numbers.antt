@@ -22,7 +22,7 @@ use Rattle.rules.specs.declared.Signing.{Signing}
 use Rattle.rules.specs.declared.Signing.the-variants as S
 use Rattle.rules.specs.declared.Done.{Done}
 use Rattle.rules.specs.declared.Done.the-variants as D
-use Rattle.rules.specs.declared.Line.{Line}
+use Rattle.rules.specs.declared.Connection.{Connection}
 use Rattle.rules.specs.declared.State.{State}
 use Rattle.rules.specs.Numbers.{Test, first}
 use Rattle.rules.specs.NumberLaws.{eachGives, first-passes}
@@ -91,7 +91,7 @@ refused-fits : (b : Bool) (n : ℕ) → fits (refuse n) ≡ true → fits (cond 
 refused-fits true n e = e
 refused-fits false n e = refl
 
-check-fits : (t : K.Tables) (l : Line) (reference : ℕ) (a : Arrival) → fits (check t l reference a) ≡ true
+check-fits : (t : K.Tables) (l : Connection) (reference : ℕ) (a : Arrival) → fits (check t l reference a) ≡ true
 unfolding check
 check-fits t l reference a = first-passes fits (judgeTests t l reference a) _ (rw (refusal-fits t)) refl
 
@@ -129,7 +129,7 @@ verdicts (Bad n i) e = let b = bad n i e in record { number = b .0; index = b .1
 
 pub judged-fits : (t : K.Tables) (a : Arrival) (q : State) → Verdicts (judged t a q .verdict) (judged t a q .index)
 unfolding judged
-judged-fits t a q = verdicts (check t (q .line) (q .seen) a) (check-fits t (q .line) (q .seen) a)
+judged-fits t a q = verdicts (check t (q .conn) (q .seen) a) (check-fits t (q .conn) (q .seen) a)
 
 pub judgedSyn-fits : (t : K.Tables) (a : Arrival) (strict : Bool) → Verdicts (judgedSyn t a strict .verdict) (judgedSyn t a strict .index)
 unfolding judgedSyn
@@ -148,7 +148,7 @@ settles (Bad n i) old new e = let b = bad n i e in record { number = b .0; value
 
 pub asked-fits : (t : K.Tables) (id : ℕ) (q : State) → Fits (ofSettled (asked t id q))
 unfolding asked
-asked-fits t id q = settles (first (askTests t id (q .line)) unrefused) q _ (settled-fits (askTests t id (q .line)) (rw (refusal-fits t)))
+asked-fits t id q = settles (first (askTests t id (q .conn)) unrefused) q _ (settled-fits (askTests t id (q .conn)) (rw (refusal-fits t)))
 
 pub active-fits : (t : K.Tables) (local remote : List ℕ) (localPort remotePort isn sendId : ℕ) → Fits (ofSettled (openedActively t local remote localPort remotePort isn sendId))
 unfolding openedActively

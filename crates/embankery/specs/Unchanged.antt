@@ -65,9 +65,9 @@ module _ (b : List ℕ) (o : Octets b) where
 
   -- judging: a drop adds one to its count if the connection is open and the number is counted, and nothing else
   pub judge-refused : (t : Tables) (a : Arrival) (n : ℕ) → judged t a (decodeOf b) .verdict ≡ Drop n
-      → stateAfter b (judged t a (decodeOf b) .state) ≡ stateWhere b (isOpen (decodeOf b .line) && isCounted n) (oneMore n (decodeOf b))
+      → stateAfter b (judged t a (decodeOf b) .state) ≡ stateWhere b (isOpen (decodeOf b .conn) && isCounted n) (oneMore n (decodeOf b))
   judge-refused t a n e =
-      alike (judged t a (decodeOf b) .state) (isOpen (decodeOf b .line) && isCounted n) (oneMore n (decodeOf b)) (refusal (on (judge t a) (decodeOf b)) n (ap byVerdict e) .state)
+      alike (judged t a (decodeOf b) .state) (isOpen (decodeOf b .conn) && isCounted n) (oneMore n (decodeOf b)) (refusal (on (judge t a) (decodeOf b)) n (ap byVerdict e) .state)
 
   -- and it never passes: that is for a bare SYN without a state
   pub judge-passes-none : (t : Tables) (a : Arrival) → judged t a (decodeOf b) .verdict ≡ Pass → ⊥

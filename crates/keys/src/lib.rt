@@ -2,6 +2,6 @@
 // Nobody above this crate slices table bytes or knows how long an entry is: functions take the table's bytes, any bytes, and give values.
 pub mod algorithm;
 pub mod entry;
+mod faults;
 pub mod matching;
-mod numbers;
 pub mod table;

@@ -99,7 +99,7 @@ fn number_at(table: &[u8], at: usize, i: usize) -> u8
         return 10;
     }
     let e = entry_of(&table[at..]);
-    let n = crate::numbers::entry_number(e);
+    let n = crate::faults::entry_number(e);
     if n != 0 {
         return n;
     }

@@ -5,13 +5,13 @@ use crate::ends::entries;
 use crate::ends::table;
 use keys::entry::Pair;
 use traffic::derive;
-use traffic::way::Way;
+use traffic::flow::Flow;
 
 // "'source' is whoever sent the segment", here the remote side.
-fn arriving(pair: Pair, source_isn: u32, destination_isn: u32) -> Way {
+fn arriving(pair: Pair, source_isn: u32, destination_isn: u32) -> Flow {
     let source = pair.remote;
     let destination = pair.local;
-    Way {
+    Flow {
         family: pair.family,
         source,
         destination,

@@ -94,8 +94,8 @@ fn at_server(line: &[u8], e: End, segment: &[u8], run: Run) -> Run {
 }
 
 fn is_open(q: State) -> bool {
-    let line = q.line;
-    line.stage == 1
+    let conn = q.conn;
+    conn.stage == 1
 }
 
 fn at_client(line: &[u8], e: End, segment: &[u8], run: Run) -> Run {

@@ -15,12 +15,12 @@ pub const SYN_ACK: u8 = 18;
 // A header of 20 bytes from this end: ports, number, what it acknowledges (not looked at here), data offset 5, flags, window 4096, then
 // checksum and urgent pointer zero.
 pub fn header(state: State, number: u32, flags: u8) -> [u8; 20] {
-    let line = state.line;
-    let pair = line.pair;
+    let conn = state.conn;
+    let pair = conn.pair;
     let p = octets::bytes16(pair.local_port);
     let q = octets::bytes16(pair.remote_port);
     let n = octets::bytes32(number);
-    let a = octets::bytes32(line.peer_isn);
+    let a = octets::bytes32(conn.peer_isn);
     [
         p[0],
         p[1],
@@ -47,9 +47,9 @@ pub fn header(state: State, number: u32, flags: u8) -> [u8; 20] {
 
 // The segment of data numbered `no`.
 pub fn unsigned(state: State, no: u8) -> [u8; 44] {
-    let line = state.line;
+    let conn = state.conn;
     let offset = byte(&script::OFFSETS, no as usize);
-    let number = std::num::wrapping_add_u32(line.isn, offset as u32);
+    let number = std::num::wrapping_add_u32(conn.isn, offset as u32);
     let mut s = [0u8; 44];
     lay(&mut s, 0, &header(state, number, ACK));
     lay(&mut s, 20, b"level 2.41 m at pond 4 \n");

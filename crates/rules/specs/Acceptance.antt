@@ -43,7 +43,7 @@ pub agree-of : (p : Pair) (ours theirs : Entry) → Mirror p ours theirs → Agr
 agree-of p ours theirs m = record { flags = m .flags; algorithm = m .algorithm; mac = m .mac; key = m .key }
 
 -- a signed SYN: "(bare or with ACK) whose position is .. our ISN"
-pub syn-at : (q : State) (e : Entry) (x : ℕ) (b : List ℕ) (g : SignedAt q e x b) → syn (g .unsigned) ≡ true → x ≡ q .line .isn
+pub syn-at : (q : State) (e : Entry) (x : ℕ) (b : List ℕ) (g : SignedAt q e x b) → syn (g .unsigned) ≡ true → x ≡ q .conn .isn
 syn-at q e x b g its-syn = ap value (sym (g .position)) ∙ eqb-true _ _ (not-false _ (rw its-syn at (signs q e x b g .number)))
 
 module _ (q : State) (e : Entry) (x : ℕ) (b : List ℕ) (g : SignedAt q e x b) (c d : ℕ) where
@@ -63,7 +63,7 @@ module _ (q : State) (e : Entry) (x : ℕ) (b : List ℕ) (g : SignedAt q e x b)
 
   -- 25 to 29, under the entry that mirrors the sender's, for the flow that it signed and a place with its extension
   module _ (missing unknown : Outcome) (i : ℕ) (ours : Entry) (f : Flow) (y : ℕ) (found : Found) (agree : Agree (ours .secret) (e .secret)) (held : found ≡ hit i ours)
-      (flow : f ≡ leaving (q .line)) (ext : extensionOf y ≡ extensionOf x) where
+      (flow : f ≡ leaving (q .conn)) (ext : extensionOf y ≡ extensionOf x) where
     right-length : not (eqb (ao came .len) (4 + found .entry .secret .«mac_bytes»)) ≡ false
     right-length =
         (λ j. not (eqb (read .one j .len) (4 + held j .entry .secret .«mac_bytes»)))

@@ -21,7 +21,7 @@ use Rattle.keys.specs.SearchLaws.{hit, recv-found, send-holder}
 use Rattle.rules.specs.declared.Place.{Place}
 use Rattle.rules.specs.declared.Place.the-variants.{At}
 use Rattle.rules.specs.declared.Outcome.the-variants.{Good}
-use Rattle.rules.specs.declared.Line.{Line}
+use Rattle.rules.specs.declared.Connection.{Connection}
 use Rattle.rules.specs.declared.State.{State}
 use Rattle.rules.specs.Position.{position, Near}
 use Rattle.rules.specs.PositionLaws.{complete, sound}
@@ -58,10 +58,10 @@ family-by f n a h = go (eqb f 4) (eqb f 6) refl refl
     go false true p r = rw (h, p) (sym (eqb-true f 6 r))
     go false false p r = let z : _≡_ {A = ℕ} 0 1 = cc (rw (p, r) at a) in absurd (omega arith)
 
--- With a state: the receiver's table t holds `ours`, which mirrors the sender's entry e; its line l faces the sender's.
+-- With a state: the receiver's table t holds `ours`, which mirrors the sender's entry e; its connection l faces the sender's.
 module _ (q : State) (e : Entry) (x : ℕ) (b : List ℕ) (g : SignedAt q e x b) (c d : ℕ)
-    (t : Tables) (valid : ValidTable t) (l : Line) (allowed : Allowed l) (local : length (l .pair .local) ≡ 16) (remote : length (l .pair .remote) ≡ 16)
-    (facing : Facing (l .pair) (q .line .pair)) (i : ℕ) (ours : Entry) (among : EntryAt (entries t) i ours) (mirror : Mirror (l .pair) ours e) where
+    (t : Tables) (valid : ValidTable t) (l : Connection) (allowed : Allowed l) (local : length (l .pair .local) ≡ 16) (remote : length (l .pair .remote) ≡ 16)
+    (facing : Facing (l .pair) (q .conn .pair)) (i : ℕ) (ours : Entry) (among : EntryAt (entries t) i ours) (mirror : Mirror (l .pair) ours e) where
   abbrev came : List ℕ
   came = segment q e x b g c d
 
@@ -74,14 +74,14 @@ module _ (q : State) (e : Entry) (x : ℕ) (b : List ℕ) (g : SignedAt q e x b)
   its-key : keyId came ≡ ours .ids .recv
   its-key =
       read .reads .key
-      ∙ sym (send-holder (g .table) (q .line .pair) (q .«send_id») (signs q e x b g .entry) .1)
+      ∙ sym (send-holder (g .table) (q .conn .pair) (q .«send_id») (signs q e x b g .entry) .1)
       ∙ ap (λ (f : Entry). f .ids .send) (g .under) ∙ sym (mirror .received)
 
   found : recvEntry t (l .pair) (keyId came) ≡ hit i ours
   found = recv-found t (l .pair) (keyId came) valid among (mirror .here) (sym its-key)
 
   -- accepted at a place of the same extension, if the stage is right and the flow is the sender's
-  accepted : (reference y : ℕ) → cond (isOpen l) (isBareSyn came) (not (syn came && ack came)) ≡ false → arriving l came ≡ leaving (q .line)
+  accepted : (reference y : ℕ) → cond (isOpen l) (isBareSyn came) (not (syn came && ack came)) ≡ false → arriving l came ≡ leaving (q .conn)
       → placeOn l reference (sequence came) ≡ At y → extensionOf y ≡ extensionOf x → check t l reference comes ≡ Good y (q .«ask_id»)
   unfolding check
   accepted reference y stage flow place ext =
@@ -122,23 +122,23 @@ module _ (q : State) (e : Entry) (x : ℕ) (b : List ℕ) (g : SignedAt q e x b)
   not-bare w h = (λ j. read .its-syn j && not (read .its-ack j)) ∙ h
 
   -- the position by which it was signed, where the sender is open
-  signed-near : Typed q → isOpen (q .line) ≡ true → Near (q .sent) (sequence (g .unsigned)) x
+  signed-near : Typed q → isOpen (q .conn) ≡ true → Near (q .sent) (sequence (g .unsigned)) x
   signed-near typed opens =
       sound (q .sent) (sequence (g .unsigned)) x (sequence-below (g .unsigned) (g .octets)) (typed .sent) (rw opens at (g .position))
 
   -- Once open: accepted at the true position, with the sender's extension, by every reference less than 2^31 away.
-  pub open-accepted : Typed q → OtherEnd l (q .line) → (reference : ℕ) → Within reference x → check t l reference comes ≡ Good x (q .«ask_id»)
+  pub open-accepted : Typed q → OtherEnd l (q .conn) → (reference : ℕ) → Within reference x → check t l reference comes ≡ Good x (q .«ask_id»)
   open-accepted typed other reference near =
       accepted reference x (rw (other .here) (not-bare false (rw (other .there) at (signs q e x b g .stage)))) flow place refl
     where
-      flow : arriving l came ≡ leaving (q .line)
+      flow : arriving l came ≡ leaving (q .conn)
       flow = λ j. record {
         source = facing .remote j;
         destination = facing .local j;
         sourcePort = facing .remote-port j;
         destinationPort = facing .local-port j;
         sourceIsn = (ap (λ (w : Bool). cond w (l .«peer_isn») (sequence came)) (other .here) ∙ other .peer) j;
-        destinationIsn = (other .isn ∙ ap (λ (w : Bool). cond w (q .line .«peer_isn») 0) (sym (other .there))) j;
+        destinationIsn = (other .isn ∙ ap (λ (w : Bool). cond w (q .conn .«peer_isn») 0) (sym (other .there))) j;
       }
 
       place : placeOn l reference (sequence came) ≡ At x
@@ -149,17 +149,17 @@ module _ (q : State) (e : Entry) (x : ℕ) (b : List ℕ) (g : SignedAt q e x b)
           ∙ complete reference (sequence (g .unsigned)) x (record { remainder = n .remainder; above = omega arith; below = omega arith; fits = n .fits })
 
   -- The SYN+ACK that opens: accepted by the end that is opening, at the peer's ISN, whatever else that state holds.
-  pub syn-ack-accepted : Typed q → isOpen (q .line) ≡ true → isOpen l ≡ false → l .isn ≡ q .line .«peer_isn» → syn (g .unsigned) ≡ true → (reference : ℕ)
-      → check t l reference comes ≡ Good (q .line .isn) (q .«ask_id»)
+  pub syn-ack-accepted : Typed q → isOpen (q .conn) ≡ true → isOpen l ≡ false → l .isn ≡ q .conn .«peer_isn» → syn (g .unsigned) ≡ true → (reference : ℕ)
+      → check t l reference comes ≡ Good (q .conn .isn) (q .«ask_id»)
   syn-ack-accepted typed there here isn its-syn reference =
-      accepted reference (q .line .isn) stage flow place (ap extensionOf (sym (syn-at q e x b g its-syn)))
+      accepted reference (q .conn .isn) stage flow place (ap extensionOf (sym (syn-at q e x b g its-syn)))
     where
-      number : sequence came ≡ q .line .isn
+      number : sequence came ≡ q .conn .isn
       number =
           let n = signed-near typed there in
           let z = syn-at q e x b g its-syn in
           let w = typed .isn in
-          let k : sequence (g .unsigned) ≡ q .line .isn = omega arith in
+          let k : sequence (g .unsigned) ≡ q .conn .isn = omega arith in
           read .number ∙ k
 
       with-ack : ack (g .unsigned) ≡ true
@@ -168,46 +168,46 @@ module _ (q : State) (e : Entry) (x : ℕ) (b : List ℕ) (g : SignedAt q e x b)
       stage : cond (isOpen l) (isBareSyn came) (not (syn came && ack came)) ≡ false
       stage = λ j. cond (here j) (isBareSyn came) (not ((read .its-syn ∙ its-syn) j && (read .its-ack ∙ with-ack) j))
 
-      flow : arriving l came ≡ leaving (q .line)
+      flow : arriving l came ≡ leaving (q .conn)
       flow = λ j. record {
         source = facing .remote j;
         destination = facing .local j;
         sourcePort = facing .remote-port j;
         destinationPort = facing .local-port j;
         sourceIsn = (ap (λ (w : Bool). cond w (l .«peer_isn») (sequence came)) here ∙ number) j;
-        destinationIsn = (isn ∙ ap (λ (w : Bool). cond w (q .line .«peer_isn») 0) (sym there)) j;
+        destinationIsn = (isn ∙ ap (λ (w : Bool). cond w (q .conn .«peer_isn») 0) (sym there)) j;
       }
 
-      place : placeOn l reference (sequence came) ≡ At (q .line .isn)
+      place : placeOn l reference (sequence came) ≡ At (q .conn .isn)
       place = ap (λ (w : Bool). cond w (position reference (sequence came)) (At (sequence came))) here ∙ ap At number
 
 -- Without a state: a bare SYN that the opening end q signed. `comes` has the sender's addresses.
-module _ (q : State) (typed : Typed q) (opening : isOpen (q .line) ≡ false) (e : Entry) (x : ℕ) (b : List ℕ) (g : SignedAt q e x b) (c d : ℕ) where
+module _ (q : State) (typed : Typed q) (opening : isOpen (q .conn) ≡ false) (e : Entry) (x : ℕ) (b : List ℕ) (g : SignedAt q e x b) (c d : ℕ) where
   abbrev pub synArrival : Arrival
-  synArrival = record { source = localAddress (q .line .pair); destination = remoteAddress (q .line .pair); segment = segment q e x b g c d }
+  synArrival = record { source = localAddress (q .conn .pair); destination = remoteAddress (q .conn .pair); segment = segment q e x b g c d }
 
   -- one pair, from both ends
-  pub syn-facing : Facing (q .line .pair) (arrivalPair synArrival)
+  pub syn-facing : Facing (q .conn .pair) (arrivalPair synArrival)
   syn-facing =
       record {
         family = sym family;
-        local = sym (whole (q .line .pair .local) (typed .local));
-        remote = sym (whole (q .line .pair .remote) (typed .remote));
+        local = sym (whole (q .conn .pair .local) (typed .local));
+        remote = sym (whole (q .conn .pair .remote) (typed .remote));
         local-port = sym (reads q e x b g c d .source-port ∙ signs q e x b g .source-port);
         remote-port = sym (reads q e x b g c d .destination-port ∙ signs q e x b g .destination-port);
       }
     where
       f : ℕ
-      f = q .line .pair .family
+      f = q .conn .pair .family
 
-      family : cond (eqb (length (remoteAddress (q .line .pair))) 4) 4 6 ≡ q .line .pair .family
-      family = family-by (q .line .pair .family) _ (signs q e x b g .allowed) (address-length (q .line .pair .family) (q .line .pair .remote) (typed .remote))
+      family : cond (eqb (length (remoteAddress (q .conn .pair))) 4) 4 6 ≡ q .conn .pair .family
+      family = family-by (q .conn .pair .family) _ (signs q e x b g .allowed) (address-length (q .conn .pair .family) (q .conn .pair .remote) (typed .remote))
 
       whole : (a : List ℕ) → length a ≡ 16
-          → take (width (cond (eqb (length (remoteAddress (q .line .pair))) 4) 4 6)) (padded (take (width (q .line .pair .family)) a)) ≡ take (width (q .line .pair .family)) a
+          → take (width (cond (eqb (length (remoteAddress (q .conn .pair))) 4) 4 6)) (padded (take (width (q .conn .pair .family)) a)) ≡ take (width (q .conn .pair .family)) a
       whole a h =
-          ap (λ (n : ℕ). take (width n) (padded (take (width (q .line .pair .family)) a))) family
-          ∙ take-at (take (width (q .line .pair .family)) a) _ (width (q .line .pair .family)) (address-length (q .line .pair .family) a h)
+          ap (λ (n : ℕ). take (width n) (padded (take (width (q .conn .pair .family)) a))) family
+          ∙ take-at (take (width (q .conn .pair .family)) a) _ (width (q .conn .pair .family)) (address-length (q .conn .pair .family) a h)
 
   module _ (t : Tables) (valid : ValidTable t) (strict : Bool) (i : ℕ) (ours : Entry) (among : EntryAt (entries t) i ours) (mirror : Mirror (arrivalPair synArrival) ours e) where
     abbrev syn-came : List ℕ
@@ -219,7 +219,7 @@ module _ (q : State) (typed : Typed q) (opening : isOpen (q .line) ≡ false) (e
     bare : isBareSyn (g .unsigned) ≡ true
     bare = not-false _ (rw opening at (signs q e x b g .stage))
 
-    syn-number : sequence syn-came ≡ q .line .isn
+    syn-number : sequence syn-came ≡ q .conn .isn
     syn-number =
         let z : sequence (g .unsigned) ≡ x = cc (rw opening at (g .position)) in
         syn-read .number ∙ z ∙ syn-at q e x b g (and-true (syn (g .unsigned)) (not (ack (g .unsigned))) bare .0)
@@ -227,16 +227,16 @@ module _ (q : State) (typed : Typed q) (opening : isOpen (q .line) ≡ false) (e
     pub syn-found : recvEntry t (arrivalPair synArrival) (keyId syn-came) ≡ hit i ours
     syn-found =
         recv-found t (arrivalPair synArrival) (keyId syn-came) valid among (mirror .here)
-        (mirror .received ∙ ap (λ (f : Entry). f .ids .send) (sym (g .under)) ∙ send-holder (g .table) (q .line .pair) (q .«send_id») (signs q e x b g .entry) .1 ∙ sym (syn-read .reads .key))
+        (mirror .received ∙ ap (λ (f : Entry). f .ids .send) (sym (g .under)) ∙ send-holder (g .table) (q .conn .pair) (q .«send_id») (signs q e x b g .entry) .1 ∙ sym (syn-read .reads .key))
 
-    pub syn-accepted : checkSyn t synArrival strict ≡ Good (q .line .isn) (q .«ask_id»)
+    pub syn-accepted : checkSyn t synArrival strict ≡ Good (q .conn .isn) (q .«ask_id»)
     unfolding checkSyn
     syn-accepted =
         first-clear (synGroups t synArrival strict) _
         (record {
           input =
               none-append (addressTests (synArrival .source) (synArrival .destination)) (tableTests t)
-              (ap not (sized-by (q .line .pair .family) (synArrival .source) (synArrival .destination) (address-length (q .line .pair .family) (q .line .pair .local) (typed .local)) (address-length (q .line .pair .family) (q .line .pair .remote) (typed .remote))), tt) (none-10 t valid);
+              (ap not (sized-by (q .conn .pair .family) (synArrival .source) (synArrival .destination) (address-length (q .conn .pair .family) (q .conn .pair .local) (typed .local)) (address-length (q .conn .pair .family) (q .conn .pair .remote) (typed .remote))), tt) (none-10 t valid);
           size = none-20 q e x b g c d;
           form = none-21 q e x b g c d;
           arrival = (ap not ((λ j. syn-read .its-syn j && not (syn-read .its-ack j)) ∙ bare), tt);
@@ -248,14 +248,14 @@ module _ (q : State) (typed : Typed q) (opening : isOpen (q .line) ≡ false) (e
         its-syn : syn (g .unsigned) ≡ true
         its-syn = and-true (syn (g .unsigned)) (not (ack (g .unsigned))) bare .0
 
-        flow : arrivingSyn synArrival ≡ leaving (q .line)
+        flow : arrivingSyn synArrival ≡ leaving (q .conn)
         flow = λ j. record {
-          source = localAddress (q .line .pair);
-          destination = remoteAddress (q .line .pair);
+          source = localAddress (q .conn .pair);
+          destination = remoteAddress (q .conn .pair);
           sourcePort = (syn-read .source-port ∙ signs q e x b g .source-port) j;
           destinationPort = (syn-read .destination-port ∙ signs q e x b g .destination-port) j;
           sourceIsn = syn-number j;
-          destinationIsn = ap (λ (w : Bool). cond w (q .line .«peer_isn») 0) (sym opening) j;
+          destinationIsn = ap (λ (w : Bool). cond w (q .conn .«peer_isn») 0) (sym opening) j;
         }
 
         keys : NoneApplies (keyTests (synMissing t (arrivalPair synArrival)) (synUnknown strict) (recvEntry t (arrivalPair synArrival) (keyId syn-came)) (At (sequence syn-came)) syn-came)
@@ -265,7 +265,7 @@ module _ (q : State) (typed : Typed q) (opening : isOpen (q .line) ≡ false) (e
             (recvEntry t (arrivalPair synArrival) (keyId syn-came)) (agree-of (arrivalPair synArrival) ours e mirror) syn-found flow (ap extensionOf (syn-number ∙ sym (syn-at q e x b g its-syn)))
 
 -- A true segment of demand 3 is such a one.
-pub true-good : (t : Tables) → ValidTable t → (l : Line) → Allowed l → length (l .pair .local) ≡ 16 → length (l .pair .remote) ≡ 16
+pub true-good : (t : Tables) → ValidTable t → (l : Connection) → Allowed l → length (l .pair .local) ≡ 16 → length (l .pair .remote) ≡ 16
     → (reference : ℕ) (a : Arrival) (x r : ℕ) → TrueSegment t l a x r → Within reference x → check t l reference a ≡ Good x r
 true-good t valid l allowed local remote reference a x r s near =
     let v = s .delivered in

@@ -21,7 +21,7 @@ use Rattle.rules.specs.declared.Outcome.{Outcome}
 use Rattle.rules.specs.declared.Outcome.the-variants.{Good, Passed, Bad}
 use Rattle.rules.specs.declared.Verdict.{Verdict}
 use Rattle.rules.specs.declared.Verdict.the-variants.{Accept, Pass, Drop}
-use Rattle.rules.specs.declared.Line.{Line}
+use Rattle.rules.specs.declared.Connection.{Connection}
 use Rattle.rules.specs.declared.State.{State}
 use Rattle.rules.specs.declared.Judged.{Judged}
 use Rattle.rules.specs.declared.Checked.{Checked}
@@ -41,7 +41,7 @@ refuse n = Bad n 0
 -- The numbers, in groups.
 
 -- 18: "state's family is neither IPv4 nor IPv6"; the families are the entries' kinds, 4 and 6
-abbrev pub familyTests : Line → List (Test Outcome)
+abbrev pub familyTests : Connection → List (Test Outcome)
 familyTests l = test (refuse 18) (not (isFamily (l .pair .family))) ∷ []
 
 -- 19: "addresses not both 4 or both 16 bytes"
@@ -64,7 +64,7 @@ tableTests t = test (refusal (checked t)) (isRefused (checked t)) ∷ []
 abbrev pub inputTests : Tables → List ℕ → List ℕ → List (Test Outcome)
 inputTests t a b = addressTests a b ++ tableTests t
 
-abbrev pub stateTests : Tables → List ℕ → List ℕ → Line → List (Test Outcome)
+abbrev pub stateTests : Tables → List ℕ → List ℕ → Connection → List (Test Outcome)
 stateTests t a b l = familyTests l ++ inputTests t a b
 
 -- 20, or 30 when signing: "bad length or offset"
@@ -86,11 +86,11 @@ pairTests p a =
     ∷ not (eqb (destinationPort (a .segment)) (p .«local_port»)) ∷ [])
 
 -- 24: "wrong segment for the stage". Open: a bare SYN; opening: anything but SYN with ACK; without a state: anything but a bare SYN
-abbrev pub stageTests : Line → List ℕ → List (Test Outcome)
+abbrev pub stageTests : Connection → List ℕ → List (Test Outcome)
 stageTests l s = test (refuse 24) (cond (isOpen l) (isBareSyn s) (not (syn s && ack s))) ∷ []
 
 -- 23, then 24
-abbrev pub arrivalTests : Line → Arrival → List (Test Outcome)
+abbrev pub arrivalTests : Connection → Arrival → List (Test Outcome)
 arrivalTests l a = pairTests (l .pair) a ++ stageTests l (a .segment)
 
 abbrev pub synTests : List ℕ → List (Test Outcome)
@@ -131,7 +131,7 @@ inOrder g = joined (g .input ∷ segmentGroups g)
 -- Judging.
 
 -- with a state, opening or open: from the table, what the connection is, its reference, and the arrival
-abbrev pub judgeGroups : Tables → Line → ℕ → Arrival → Groups
+abbrev pub judgeGroups : Tables → Connection → ℕ → Arrival → Groups
 judgeGroups t l reference a =
     record {
       input = stateTests t (a .source) (a .destination) l;
@@ -142,10 +142,10 @@ judgeGroups t l reference a =
       mac = macTests (recvEntry t (l .pair) (keyId (a .segment)) .entry) (arriving l (a .segment)) (placeOn l reference (sequence (a .segment))) (a .segment);
     }
 
-abbrev pub judgeTests : Tables → Line → ℕ → Arrival → List (Test Outcome)
+abbrev pub judgeTests : Tables → Connection → ℕ → Arrival → List (Test Outcome)
 judgeTests t l reference a = inOrder (judgeGroups t l reference a)
 
-unfoldable pub check : Tables → Line → ℕ → Arrival → Outcome
+unfoldable pub check : Tables → Connection → ℕ → Arrival → Outcome
 check t l reference a =
     first (judgeTests t l reference a) (Good (value (placeOn l reference (sequence (a .segment)))) (rnextKeyId (a .segment)))
 
@@ -188,17 +188,17 @@ indexOf (Bad n i) = i
 -- after judging with a state: an accepted segment opens, or is counted and moves the reference; a drop is counted once open
 abbrev pub afterJudging : Tables → State → Outcome → State
 afterJudging t q (Good x r) =
-    cond (isOpen (q .line))
-    (withAccepted x (nextKey t (q .line .pair) r (q .«send_id»)) q)
-    (opened (q .line .pair) (q .line .isn) x (nextKey t (q .line .pair) r (q .«send_id»)) (q .«ask_id»))
+    cond (isOpen (q .conn))
+    (withAccepted x (nextKey t (q .conn .pair) r (q .«send_id»)) q)
+    (opened (q .conn .pair) (q .conn .isn) x (nextKey t (q .conn .pair) r (q .«send_id»)) (q .«ask_id»))
 afterJudging t q Passed = q
-afterJudging t q (Bad n i) = cond (isOpen (q .line)) (withDrop n q) q
+afterJudging t q (Bad n i) = cond (isOpen (q .conn)) (withDrop n q) q
 
 abbrev pub judgedBy : Tables → State → Outcome → Judged
 judgedBy t q o = record { verdict = verdictOf o; index = indexOf o; state = afterJudging t q o }
 
 unfoldable pub judged : Tables → Arrival → State → Judged
-judged t a q = judgedBy t q (check t (q .line) (q .seen) a)
+judged t a q = judgedBy t q (check t (q .conn) (q .seen) a)
 
 -- "a bare SYN is judged without a state"
 unfoldable pub judgedSyn : Tables → Arrival → Bool → Checked
@@ -242,11 +242,11 @@ unfoldable pub openedActively : Tables → List ℕ → List ℕ → ℕ → ℕ
 openedActively t local remote localPort remotePort isn sendId = openedWith t local remote (pairOf local remote localPort remotePort) isn sendId
 
 -- 35: no entry matching the pair has "the RecvID to ask (operator call)"
-abbrev pub askTests : Tables → ℕ → Line → List (Test Outcome)
+abbrev pub askTests : Tables → ℕ → Connection → List (Test Outcome)
 askTests t id l = familyTests l ++ (tableTests t ++ (test (refuse 35) (not (recvEntry t (l .pair) id .there)) ∷ []))
 
 unfoldable pub asked : Tables → ℕ → State → Settled
-asked t id q = settledBy (first (askTests t id (q .line)) unrefused) q (withAsked id q)
+asked t id q = settledBy (first (askTests t id (q .conn)) unrefused) q (withAsked id q)
 
 -- Signing. No test of it gives pass.
 
@@ -268,40 +268,40 @@ abbrev pub portTests : Pair → List ℕ → List (Test Outcome)
 portTests p s = tests (refuse 33) (not (eqb (sourcePort s) (p .«local_port»)) ∷ not (eqb (destinationPort s) (p .«remote_port»)) ∷ [])
 
 -- 34: "wrong segment for the stage". Open: a bare SYN; opening: anything else
-abbrev pub signStageTests : Line → List ℕ → List (Test Outcome)
+abbrev pub signStageTests : Connection → List ℕ → List (Test Outcome)
 signStageTests l s = test (refuse 34) (cond (isOpen l) (isBareSyn s) (not (isBareSyn s))) ∷ []
 
 -- 36: "no position, or a SYN (bare or with ACK) whose position is not our ISN"
-abbrev pub sentPlaceTests : Line → Place → List ℕ → List (Test Outcome)
+abbrev pub sentPlaceTests : Connection → Place → List ℕ → List (Test Outcome)
 sentPlaceTests l x s = tests (refuse 36) (not (located x) ∷ (syn s && not (eqb (value x) (l .isn))) ∷ [])
 
 abbrev pub signTests : Tables → List ℕ → ℕ → State → Found → List (Test Outcome)
 signTests t s room q found =
-    familyTests (q .line)
+    familyTests (q .conn)
     ++ (tableTests t
     ++ (lengthTests 30 s
     ++ (freshTests s
     ++ (growthTests (addedBytes found) s
-    ++ (portTests (q .line .pair) s
-    ++ (signStageTests (q .line) s
+    ++ (portTests (q .conn .pair) s
+    ++ (signStageTests (q .conn) s
     ++ (test (refuse 35) (not (found .there))
-    ∷ (sentPlaceTests (q .line) (placeOn (q .line) (q .sent) (sequence s)) s
+    ∷ (sentPlaceTests (q .conn) (placeOn (q .conn) (q .sent) (sequence s)) s
     ++ (test (refuse 37) (ltb room (length s + addedBytes found)) ∷ [])))))))))
 
 -- the outgoing key's entry
 abbrev pub outgoing : Tables → State → Found
-outgoing t q = sendEntry t (q .line .pair) (q .«send_id»)
+outgoing t q = sendEntry t (q .conn .pair) (q .«send_id»)
 
 -- the position that a segment is signed by, with the asked RecvID; or the number. `room` is the output's length
 unfoldable pub checkSign : Tables → List ℕ → ℕ → State → Outcome
 checkSign t s room q =
-    first (signTests t s room q (outgoing t q)) (Good (value (placeOn (q .line) (q .sent) (sequence s))) (q .«ask_id»))
+    first (signTests t s room q (outgoing t q)) (Good (value (placeOn (q .conn) (q .sent) (sequence s))) (q .«ask_id»))
 
 -- "KeyID is the outgoing SendID, RNextKeyID the asked RecvID." The MAC is that of the segment with zeros in its place.
 unfoldable pub signedSegment : Entry → State → ℕ → List ℕ → List ℕ
 signedSegment e q x s =
     signedWith (q .«send_id») (q .«ask_id»)
-    (segmentMac (e .secret) (leaving (q .line)) (extensionOf x) 20
+    (segmentMac (e .secret) (leaving (q .conn)) (extensionOf x) 20
     (signedWith (q .«send_id») (q .«ask_id») (replicate (e .secret .«mac_bytes») 0) s)) s
 
 -- "Signing writes only the signed length's bytes of the output."

@@ -10,7 +10,7 @@ use Rattle.keys.specs.Entry.{width, padded}
 use Rattle.keys.specs.Table.{Tables, sendEntry}
 use Rattle.rules.specs.declared.Place.{Place}
 use Rattle.rules.specs.declared.Place.the-variants.{At, Nowhere}
-use Rattle.rules.specs.declared.Line.{Line}
+use Rattle.rules.specs.declared.Connection.{Connection}
 use Rattle.rules.specs.declared.State.{State}
 use Rattle.rules.specs.Mac.{Flow}
 use Rattle.rules.specs.Position.{position}
@@ -51,13 +51,13 @@ arrivalPair a = pairOf (a .destination) (a .source) (destinationPort (a .segment
 
 -- Stages. Stage 1 is open, every other value opening.
 
-abbrev pub isOpen : Line → Bool
+abbrev pub isOpen : Connection → Bool
 isOpen l = eqb (l .stage) 1
 
 -- Flows: "'source' is whoever sent the segment".
 
 -- "Open: each segment .. is judged and signed with both ISNs"; of the SYN+ACK that opens, "its sequence number is the peer's ISN"
-abbrev pub arriving : Line → List ℕ → Flow
+abbrev pub arriving : Connection → List ℕ → Flow
 arriving l s =
     record {
       source = remoteAddress (l .pair);
@@ -69,7 +69,7 @@ arriving l s =
     }
 
 -- "For a bare SYN (SYN set, ACK clear) the destination ISN is zero", and while opening nothing else is signed
-abbrev pub leaving : Line → Flow
+abbrev pub leaving : Connection → Flow
 leaving l =
     record {
       source = localAddress (l .pair);
@@ -96,7 +96,7 @@ arrivingSyn a =
 
 -- "A bare SYN and the SYN+ACK that opens have extension 0 and their own number as position; once open, every segment goes by its
 -- position." (A position below 2^32 has extension 0.)
-abbrev pub placeOn : Line → ℕ → ℕ → Place
+abbrev pub placeOn : Connection → ℕ → ℕ → Place
 placeOn l reference s = cond (isOpen l) (position reference s) (At s)
 
 abbrev pub located : Place → Bool
@@ -167,7 +167,7 @@ nextKey t p rnext current = cond (eqb rnext current) current (cond (available t 
 abbrev pub opened : Pair → ℕ → ℕ → ℕ → ℕ → State
 opened p isn peerIsn sendId askId =
     record {
-      line = record { stage = 1; pair = p; isn = isn; «peer_isn» = peerIsn };
+      conn = record { stage = 1; pair = p; isn = isn; «peer_isn» = peerIsn };
       sent = isn;
       seen = peerIsn;
       «send_id» = sendId;
@@ -180,7 +180,7 @@ opened p isn peerIsn sendId askId =
 abbrev pub opening : Pair → ℕ → ℕ → ℕ → State
 opening p isn sendId askId =
     record {
-      line = record { stage = 0; pair = p; isn = isn; «peer_isn» = 0 };
+      conn = record { stage = 0; pair = p; isn = isn; «peer_isn» = 0 };
       sent = isn;
       seen = 0;
       «send_id» = sendId;
@@ -193,7 +193,7 @@ opening p isn sendId askId =
 abbrev pub empty : State
 empty =
     record {
-      line =
+      conn =
           record {
             stage = 0;
             pair = record { family = 0; «local_port» = 0; «remote_port» = 0; local = replicate 16 0; remote = replicate 16 0 };
@@ -212,7 +212,7 @@ empty =
 abbrev pub withAccepted : ℕ → ℕ → State → State
 withAccepted x sendId q =
     record {
-      line = q .line;
+      conn = q .conn;
       sent = q .sent;
       seen = max (q .seen) x;
       «send_id» = sendId;
@@ -225,7 +225,7 @@ withAccepted x sendId q =
 abbrev pub withDrop : ℕ → State → State
 withDrop n q =
     record {
-      line = q .line;
+      conn = q .conn;
       sent = q .sent;
       seen = q .seen;
       «send_id» = q .«send_id»;
@@ -238,7 +238,7 @@ withDrop n q =
 abbrev pub withSent : ℕ → State → State
 withSent x q =
     record {
-      line = q .line;
+      conn = q .conn;
       sent = max (q .sent) x;
       seen = q .seen;
       «send_id» = q .«send_id»;
@@ -251,7 +251,7 @@ withSent x q =
 abbrev pub withAsked : ℕ → State → State
 withAsked id q =
     record {
-      line = q .line;
+      conn = q .conn;
       sent = q .sent;
       seen = q .seen;
       «send_id» = q .«send_id»;

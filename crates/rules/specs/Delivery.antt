@@ -30,13 +30,13 @@ module _ (t : Tables) (s out : List ℕ) (q : State) (signs : Signs t s out q) (
   entry = outgoing t q .entry
 
   twelve-of : entry .secret .«mac_bytes» ≡ 12
-  twelve-of = twelve-bytes t (q .line .pair) (q .«send_id») (signs .valid) (signs .entry)
+  twelve-of = twelve-bytes t (q .conn .pair) (q .«send_id») (signs .valid) (signs .entry)
 
   pub signed-long : length (signedSegment entry q x s) ≡ length s + addedBytes (outgoing t q)
   unfolding signedSegment
   signed-long =
-      let m = segmentMac (entry .secret) (leaving (q .line)) (extensionOf x) 20 (signedWith (q .«send_id») (q .«ask_id») (replicate (entry .secret .«mac_bytes») 0) s) in
-      let l : length m ≡ 12 = length-mac (entry .secret) (leaving (q .line)) (extensionOf x) 20 _ (omega (arith, twelve-of)) ∙ twelve-of in
+      let m = segmentMac (entry .secret) (leaving (q .conn)) (extensionOf x) 20 (signedWith (q .«send_id») (q .«ask_id») (replicate (entry .secret .«mac_bytes») 0) s) in
+      let l : length m ≡ 12 = length-mac (entry .secret) (leaving (q .conn)) (extensionOf x) 20 _ (omega (arith, twelve-of)) ∙ twelve-of in
       length-signed s (signs .fresh) 0 0 (q .«send_id») (q .«ask_id») m (omega arith) ∙ ap (λ (n : ℕ). length s + n) (ap (λ (n : ℕ). 4 + n) l ∙ sym (added-16 t q (signs .valid)))
 
 module _ (q : State) (e : Entry) (x : ℕ) (b : List ℕ) (g : SignedAt q e x b) where
@@ -53,10 +53,10 @@ module _ (q : State) (e : Entry) (x : ℕ) (b : List ℕ) (g : SignedAt q e x b)
   twelve = ap (λ (f : Entry). f .secret .«mac_bytes») (sym (g .under)) ∙ twelve-of (g .table) s (g .out) q signs x
 
   abbrev pub mac : List ℕ
-  mac = segmentMac (e .secret) (leaving (q .line)) (extensionOf x) 20 (signedWith (q .«send_id») (q .«ask_id») (replicate (e .secret .«mac_bytes») 0) s)
+  mac = segmentMac (e .secret) (leaving (q .conn)) (extensionOf x) 20 (signedWith (q .«send_id») (q .«ask_id») (replicate (e .secret .«mac_bytes») 0) s)
 
   pub length-its-mac : length mac ≡ 12
-  length-its-mac = length-mac (e .secret) (leaving (q .line)) (extensionOf x) 20 _ (omega (arith, twelve)) ∙ twelve
+  length-its-mac = length-mac (e .secret) (leaving (q .conn)) (extensionOf x) 20 _ (omega (arith, twelve)) ∙ twelve
 
   even : 4 * ((4 + length mac) / 4) ≡ 4 + length mac
   even = omega (arith, length-its-mac)
@@ -94,13 +94,13 @@ module _ (q : State) (e : Entry) (x : ℕ) (b : List ℕ) (g : SignedAt q e x b)
         (arrival s (signs .fresh) c d (q .«send_id») (q .«ask_id») mac even)
 
     -- the receiver computes the MAC that it carries
-    pub same-mac : (r : Secret) (f : Flow) → Agree r (e .secret) → f ≡ leaving (q .line) → segmentMac r f (extensionOf x) 20 segment ≡ mac
+    pub same-mac : (r : Secret) (f : Flow) → Agree r (e .secret) → f ≡ leaving (q .conn) → segmentMac r f (extensionOf x) 20 segment ≡ mac
     unfolding segmentMac
     same-mac r f a p =
         mac-agree r (e .secret) f (extensionOf x) 20 segment a
         ∙ ap₂ (λ (f : Flow) (z : List ℕ). segmentMac (e .secret) f (extensionOf x) 20 z) p segment-is
-        ∙ ap (λ (m : List ℕ). take (e .secret .«mac_bytes») (applied (e .secret .algorithm) (trafficKey (e .secret) (leaving (q .line))) m))
-        (covers s (signs .fresh) c d (q .«send_id») (q .«ask_id») mac even (e .secret) (leaving (q .line)) (extensionOf x) (twelve ∙ sym length-its-mac))
+        ∙ ap (λ (m : List ℕ). take (e .secret .«mac_bytes») (applied (e .secret .algorithm) (trafficKey (e .secret) (leaving (q .conn))) m))
+        (covers s (signs .fresh) c d (q .«send_id») (q .«ask_id») mac even (e .secret) (leaving (q .conn)) (extensionOf x) (twelve ∙ sym length-its-mac))
 
     -- none of 20, 21, 22 and 25
     pub sizes : (ltb (length segment) 20 ≡ false) × (ltb 65535 (length segment) ≡ false) × (ltb (dataOffset segment) 5 ≡ false) × (ltb (length segment) (headerEnd segment) ≡ false)

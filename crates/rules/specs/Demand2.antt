@@ -16,7 +16,7 @@ use Rattle.keys.specs.Table.{Tables, recvEntry}
 use Rattle.rules.specs.declared.Outcome.{Outcome}
 use Rattle.rules.specs.declared.Outcome.the-variants.{Good}
 use Rattle.rules.specs.declared.Verdict.the-variants.{Accept}
-use Rattle.rules.specs.declared.Line.{Line}
+use Rattle.rules.specs.declared.Connection.{Connection}
 use Rattle.rules.specs.declared.State.{State}
 use Rattle.rules.specs.declared.Judged.{Judged}
 use Rattle.rules.specs.Segment.{keyId}
@@ -36,49 +36,49 @@ low-extension : (n : ℕ) → n < 2 ^ 32 → n / 2 ^ 32 ≡ 0
 low-extension n h = omega arith
 
 -- what the call returns where its tests come to Good, by the receiver's stage
-judged-open : (t : Tables) (p : State) (a : Arrival) (x r : ℕ) → isOpen (p .line) ≡ true → check t (p .line) (p .seen) a ≡ Good x r
-    → judged t a p ≡ record { verdict = Accept (extensionOf x); index = 0; state = withAccepted x (nextKey t (p .line .pair) r (p .«send_id»)) p }
+judged-open : (t : Tables) (p : State) (a : Arrival) (x r : ℕ) → isOpen (p .conn) ≡ true → check t (p .conn) (p .seen) a ≡ Good x r
+    → judged t a p ≡ record { verdict = Accept (extensionOf x); index = 0; state = withAccepted x (nextKey t (p .conn .pair) r (p .«send_id»)) p }
 unfolding judged
 judged-open t p a x r opens e = ap (judgedBy t p) e ∙ rw opens
 
-judged-opening : (t : Tables) (p : State) (a : Arrival) (x r : ℕ) → isOpen (p .line) ≡ false → check t (p .line) (p .seen) a ≡ Good x r
-    → judged t a p ≡ record { verdict = Accept (extensionOf x); index = 0; state = opened (p .line .pair) (p .line .isn) x (nextKey t (p .line .pair) r (p .«send_id»)) (p .«ask_id») }
+judged-opening : (t : Tables) (p : State) (a : Arrival) (x r : ℕ) → isOpen (p .conn) ≡ false → check t (p .conn) (p .seen) a ≡ Good x r
+    → judged t a p ≡ record { verdict = Accept (extensionOf x); index = 0; state = opened (p .conn .pair) (p .conn .isn) x (nextKey t (p .conn .pair) r (p .«send_id»)) (p .«ask_id») }
 unfolding judged
 judged-opening t p a x r opening e = ap (judgedBy t p) e ∙ rw opening
 
 -- Once open: accepted with the sender's extension. The reference becomes the larger, the key rule applies, and one acceptance more is counted.
-pub open-segment : (q : State) (e : Entry) (x : ℕ) (b : List ℕ) (a : Arrival) (t : Tables) (p : State) → Typed q → Typed p → Allowed (p .line) → OtherEnd (p .line) (q .line)
-    → SignedAt q e x b → Delivered (remoteAddress (p .line .pair)) (localAddress (p .line .pair)) b a → Holds t (p .line .pair) e → Within (p .seen) x
-    → judged t a p ≡ record { verdict = Accept (extensionOf x); index = 0; state = withAccepted x (nextKey t (p .line .pair) (q .«ask_id») (p .«send_id»)) p }
+pub open-segment : (q : State) (e : Entry) (x : ℕ) (b : List ℕ) (a : Arrival) (t : Tables) (p : State) → Typed q → Typed p → Allowed (p .conn) → OtherEnd (p .conn) (q .conn)
+    → SignedAt q e x b → Delivered (remoteAddress (p .conn .pair)) (localAddress (p .conn .pair)) b a → Holds t (p .conn .pair) e → Within (p .seen) x
+    → judged t a p ≡ record { verdict = Accept (extensionOf x); index = 0; state = withAccepted x (nextKey t (p .conn .pair) (q .«ask_id») (p .«send_id»)) p }
 open-segment q e x b a t p tq tp allowed other g v h near =
     judged-open t p a x (q .«ask_id») (other .here)
-    (ap (check t (p .line) (p .seen)) (came a v)
-    ∙ open-accepted q e x b g (v .high) (v .low) t (h .valid) (p .line) allowed (tp .local) (tp .remote) (other .pair) (h .place) (h .ours) (h .among) (h .mirror) tq other (p .seen) near)
+    (ap (check t (p .conn) (p .seen)) (came a v)
+    ∙ open-accepted q e x b g (v .high) (v .low) t (h .valid) (p .conn) allowed (tp .local) (tp .remote) (other .pair) (h .place) (h .ours) (h .among) (h .mirror) tq other (p .seen) near)
 
 -- The SYN+ACK of an open end: it opens the end that is opening, whatever else that state holds, with extension 0; "Opening sets each reference to
 -- that side's ISN", the counts are 0, and the key rule applies.
-pub syn-ack : (q : State) (e : Entry) (x : ℕ) (b : List ℕ) (a : Arrival) (t : Tables) (p : State) → Typed q → Typed p → Allowed (p .line)
-    → isOpen (q .line) ≡ true → isOpen (p .line) ≡ false → Facing (p .line .pair) (q .line .pair) → p .line .isn ≡ q .line .«peer_isn»
-    → (g : SignedAt q e x b) → syn (g .unsigned) ≡ true → Delivered (remoteAddress (p .line .pair)) (localAddress (p .line .pair)) b a → Holds t (p .line .pair) e
+pub syn-ack : (q : State) (e : Entry) (x : ℕ) (b : List ℕ) (a : Arrival) (t : Tables) (p : State) → Typed q → Typed p → Allowed (p .conn)
+    → isOpen (q .conn) ≡ true → isOpen (p .conn) ≡ false → Facing (p .conn .pair) (q .conn .pair) → p .conn .isn ≡ q .conn .«peer_isn»
+    → (g : SignedAt q e x b) → syn (g .unsigned) ≡ true → Delivered (remoteAddress (p .conn .pair)) (localAddress (p .conn .pair)) b a → Holds t (p .conn .pair) e
     → judged t a p ≡ record
-    { verdict = Accept 0; index = 0; state = opened (p .line .pair) (p .line .isn) (q .line .isn) (nextKey t (p .line .pair) (q .«ask_id») (p .«send_id»)) (p .«ask_id») }
+    { verdict = Accept 0; index = 0; state = opened (p .conn .pair) (p .conn .isn) (q .conn .isn) (nextKey t (p .conn .pair) (q .«ask_id») (p .«send_id»)) (p .«ask_id») }
 syn-ack q e x b a t p tq tp allowed there here facing isn g its-syn v h =
-    judged-opening t p a (q .line .isn) (q .«ask_id») here
-    (ap (check t (p .line) (p .seen)) (came a v)
-    ∙ syn-ack-accepted q e x b g (v .high) (v .low) t (h .valid) (p .line) allowed (tp .local) (tp .remote) facing (h .place) (h .ours) (h .among) (h .mirror) tq there here isn its-syn (p .seen))
+    judged-opening t p a (q .conn .isn) (q .«ask_id») here
+    (ap (check t (p .conn) (p .seen)) (came a v)
+    ∙ syn-ack-accepted q e x b g (v .high) (v .low) t (h .valid) (p .conn) allowed (tp .local) (tp .remote) facing (h .place) (h .ours) (h .among) (h .mirror) tq there here isn its-syn (p .seen))
     ∙ (λ j. record {
-      verdict = Accept (low-extension (q .line .isn) (tq .isn) j);
+      verdict = Accept (low-extension (q .conn .isn) (tq .isn) j);
       index = 0;
-      state = opened (p .line .pair) (p .line .isn) (q .line .isn) (nextKey t (p .line .pair) (q .«ask_id») (p .«send_id»)) (p .«ask_id»);
+      state = opened (p .conn .pair) (p .conn .isn) (q .conn .isn) (nextKey t (p .conn .pair) (q .«ask_id») (p .«send_id»)) (p .«ask_id»);
     })
 
 -- The bare SYN of an opening end: accepted with extension 0 by the call without a state, and by the passive opening, which opens with the entry
 -- found.
-module _ (q : State) (e : Entry) (x : ℕ) (b : List ℕ) (a : Arrival) (t : Tables) (typed : Typed q) (opening : isOpen (q .line) ≡ false) (g : SignedAt q e x b)
-    (v : Delivered (localAddress (q .line .pair)) (remoteAddress (q .line .pair)) b a) (h : Holds t (arrivalPair a) e) (strict : Bool) where
-  syn-good : (checkSyn t a strict ≡ Good (q .line .isn) (q .«ask_id»)) × (recvEntry t (arrivalPair a) (keyId (a .segment)) .entry ≡ h .ours)
+module _ (q : State) (e : Entry) (x : ℕ) (b : List ℕ) (a : Arrival) (t : Tables) (typed : Typed q) (opening : isOpen (q .conn) ≡ false) (g : SignedAt q e x b)
+    (v : Delivered (localAddress (q .conn .pair)) (remoteAddress (q .conn .pair)) b a) (h : Holds t (arrivalPair a) e) (strict : Bool) where
+  syn-good : (checkSyn t a strict ≡ Good (q .conn .isn) (q .«ask_id»)) × (recvEntry t (arrivalPair a) (keyId (a .segment)) .entry ≡ h .ours)
   syn-good =
-      subst⁻¹ (λ (z : Arrival). Mirror (arrivalPair z) (h .ours) e → (checkSyn t z strict ≡ Good (q .line .isn) (q .«ask_id»)) × (recvEntry t (arrivalPair z) (keyId (z .segment)) .entry ≡ h .ours))
+      subst⁻¹ (λ (z : Arrival). Mirror (arrivalPair z) (h .ours) e → (checkSyn t z strict ≡ Good (q .conn .isn) (q .«ask_id»)) × (recvEntry t (arrivalPair z) (keyId (z .segment)) .entry ≡ h .ours))
       (came a v)
       (λ m. (
         syn-accepted q typed opening e x b g (v .high) (v .low) t (h .valid) strict (h .place) (h .ours) (h .among) m,
@@ -90,11 +90,11 @@ module _ (q : State) (e : Entry) (x : ℕ) (b : List ℕ) (a : Arrival) (t : Tab
   unfolding judgedSyn
   bare-syn =
       ap (λ (o : Outcome). record { verdict = verdictOf o; index = indexOf o }) (syn-good .0)
-      ∙ ap (λ (n : ℕ). record { verdict = Accept n; index = 0 }) (low-extension (q .line .isn) (typed .isn))
+      ∙ ap (λ (n : ℕ). record { verdict = Accept n; index = 0 }) (low-extension (q .conn .isn) (typed .isn))
 
   pub bare-syn-opens : (isn : ℕ)
       → openedPassively t a isn strict ≡ record
-      { verdict = Accept 0; index = 0; state = opened (arrivalPair a) isn (q .line .isn) (nextKey t (arrivalPair a) (q .«ask_id») (h .ours .ids .send)) (h .ours .ids .recv) }
+      { verdict = Accept 0; index = 0; state = opened (arrivalPair a) isn (q .conn .isn) (nextKey t (arrivalPair a) (q .«ask_id») (h .ours .ids .send)) (h .ours .ids .recv) }
   unfolding openedPassively
   bare-syn-opens isn =
       (λ j. record {
@@ -103,42 +103,42 @@ module _ (q : State) (e : Entry) (x : ℕ) (b : List ℕ) (a : Arrival) (t : Tab
         state = openedBy t (arrivalPair a) isn (syn-good .1 j) (syn-good .0 j);
       })
       ∙ (λ j. record {
-        verdict = Accept (low-extension (q .line .isn) (typed .isn) j);
+        verdict = Accept (low-extension (q .conn .isn) (typed .isn) j);
         index = 0;
-        state = opened (arrivalPair a) isn (q .line .isn) (nextKey t (arrivalPair a) (q .«ask_id») (h .ours .ids .send)) (h .ours .ids .recv);
+        state = opened (arrivalPair a) isn (q .conn .isn) (nextKey t (arrivalPair a) (q .«ask_id») (h .ours .ids .send)) (h .ours .ids .recv);
       })
 
 -- The three steps of an opening: one end signs a bare SYN while opening, the other opens passively on it and signs a SYN+ACK, and the first end judges
--- that. Between these the calls of each end may change anything but its line. Then both are open on one connection, each the other's other end.
-module _ (active : State) (e : Entry) (x : ℕ) (b : List ℕ) (a : Arrival) (t : Tables) (typed : Typed active) (opening : isOpen (active .line) ≡ false)
-    (g : SignedAt active e x b) (v : Delivered (localAddress (active .line .pair)) (remoteAddress (active .line .pair)) b a) (h : Holds t (arrivalPair a) e) (strict : Bool) (isn : ℕ) where
-  abbrev passiveLine : Line
-  passiveLine = openedPassively t a isn strict .state .line
+-- that. Between these the calls of each end may change anything but what its connection is. Then both are open on one connection, each the other's other end.
+module _ (active : State) (e : Entry) (x : ℕ) (b : List ℕ) (a : Arrival) (t : Tables) (typed : Typed active) (opening : isOpen (active .conn) ≡ false)
+    (g : SignedAt active e x b) (v : Delivered (localAddress (active .conn .pair)) (remoteAddress (active .conn .pair)) b a) (h : Holds t (arrivalPair a) e) (strict : Bool) (isn : ℕ) where
+  abbrev passiveConnection : Connection
+  passiveConnection = openedPassively t a isn strict .state .conn
 
-  passive-line : passiveLine ≡ record { stage = 1; pair = arrivalPair a; isn = isn; «peer_isn» = active .line .isn }
-  passive-line = ap (λ (r : Judged). r .state .line) (bare-syn-opens active e x b a t typed opening g v h strict isn)
+  passive-conn : passiveConnection ≡ record { stage = 1; pair = arrivalPair a; isn = isn; «peer_isn» = active .conn .isn }
+  passive-conn = ap (λ (r : Judged). r .state .conn) (bare-syn-opens active e x b a t typed opening g v h strict isn)
 
-  facing : Facing (active .line .pair) (arrivalPair a)
-  facing = subst⁻¹ (λ (z : Arrival). Facing (active .line .pair) (arrivalPair z)) (came a v) (syn-facing active typed opening e x b g (v .high) (v .low))
+  facing : Facing (active .conn .pair) (arrivalPair a)
+  facing = subst⁻¹ (λ (z : Arrival). Facing (active .conn .pair) (arrivalPair z)) (came a v) (syn-facing active typed opening e x b g (v .high) (v .low))
 
   pub opened-together : (passive : State) (f : Entry) (y : ℕ) (c : List ℕ) (r : Arrival) (u : List ℕ) (now : State) → Typed passive → Typed now
-      → passive .line ≡ passiveLine → now .line ≡ active .line
-      → (k : SignedAt passive f y c) → syn (k .unsigned) ≡ true → Delivered (remoteAddress (now .line .pair)) (localAddress (now .line .pair)) c r → Holds u (now .line .pair) f
-      → OtherEnd (judged u r now .state .line) (passive .line)
+      → passive .conn ≡ passiveConnection → now .conn ≡ active .conn
+      → (k : SignedAt passive f y c) → syn (k .unsigned) ≡ true → Delivered (remoteAddress (now .conn .pair)) (localAddress (now .conn .pair)) c r → Holds u (now .conn .pair) f
+      → OtherEnd (judged u r now .state .conn) (passive .conn)
   opened-together passive f y c r u now tp tn at-passive at-now k its-syn w j =
-      subst⁻¹ (λ (z : Judged). OtherEnd (z .state .line) (passive .line))
-      (syn-ack passive f y c r u now tp tn (ap (λ (l : Line). isFamily (l .pair .family)) at-now ∙ signs active e x b g .allowed) there
+      subst⁻¹ (λ (z : Judged). OtherEnd (z .state .conn) (passive .conn))
+      (syn-ack passive f y c r u now tp tn (ap (λ (l : Connection). isFamily (l .pair .family)) at-now ∙ signs active e x b g .allowed) there
       (ap isOpen at-now ∙ opening) pairs isns k its-syn w j)
       (record { here = refl; there = there; pair = pairs; isn = isns; peer = refl })
     where
-      line : passive .line ≡ record { stage = 1; pair = arrivalPair a; isn = isn; «peer_isn» = active .line .isn }
-      line = at-passive ∙ passive-line
+      conn : passive .conn ≡ record { stage = 1; pair = arrivalPair a; isn = isn; «peer_isn» = active .conn .isn }
+      conn = at-passive ∙ passive-conn
 
-      there : isOpen (passive .line) ≡ true
-      there = ap isOpen line
+      there : isOpen (passive .conn) ≡ true
+      there = ap isOpen conn
 
-      pairs : Facing (now .line .pair) (passive .line .pair)
-      pairs = subst₂ (λ (l m : Line). Facing (l .pair) (m .pair)) (sym at-now) (sym line) facing
+      pairs : Facing (now .conn .pair) (passive .conn .pair)
+      pairs = subst₂ (λ (l m : Connection). Facing (l .pair) (m .pair)) (sym at-now) (sym conn) facing
 
-      isns : now .line .isn ≡ passive .line .«peer_isn»
-      isns = ap (λ (l : Line). l .isn) at-now ∙ ap (λ (l : Line). l .«peer_isn») (sym line)
+      isns : now .conn .isn ≡ passive .conn .«peer_isn»
+      isns = ap (λ (l : Connection). l .isn) at-now ∙ ap (λ (l : Connection). l .«peer_isn») (sym conn)

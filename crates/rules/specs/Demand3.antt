@@ -5,7 +5,7 @@ use mathlib.Core.Bool.{Bool, true, cond}
 use mathlib.Core.List.{List, [], _∷_, map, List·Permᴰ}
 use Rattle.rules.specs.declared.Verdict.{Verdict}
 use Rattle.rules.specs.declared.Verdict.the-variants.{Accept}
-use Rattle.rules.specs.declared.Line.{Line}
+use Rattle.rules.specs.declared.Connection.{Connection}
 use Rattle.rules.specs.declared.State.{State}
 use Rattle.keys.specs.Table.{Tables, ValidTable}
 use Rattle.rules.specs.Connection.{Arrival, isOpen, sized, extensionOf, stop, available}
@@ -28,11 +28,11 @@ judgeAll t q (a ∷ l) =
 
 -- What arrives: "true segments .., and others that verify under none of these keys with any extension".
 
-pub data Arriving (t : Tables) (l : Line) : Type 0 where
+pub data Arriving (t : Tables) (l : Connection) : Type 0 where
   real : (a : Arrival) (x r : ℕ) → TrueSegment t l a x r → Arriving t l
   other : (a : Arrival) → (Verifies t l a → ⊥) → Arriving t l
 
-module _ {t : List ℕ} {l : Line} where
+module _ {t : List ℕ} {l : Connection} where
   abbrev pub arrival : Arriving t l → Arrival
   arrival (real a x r p) = a
   arrival (other a o) = a
@@ -105,7 +105,7 @@ pub record NoStop (q : State) : Type 0 where
 
 -- "end alike, but for the outgoing key and the split by drop reason"
 pub record Alike (q r : State) : Type 0 where
-  pub line : q .line ≡ r .line
+  pub conn : q .conn ≡ r .conn
   pub sent : q .sent ≡ r .sent
   pub seen : q .seen ≡ r .seen
   pub asks : q .«ask_id» ≡ r .«ask_id»
@@ -113,29 +113,29 @@ pub record Alike (q r : State) : Type 0 where
   pub dropped : sum (q .drops) ≡ sum (r .drops)
 
 -- the state after the list
-abbrev pub after : (t : Tables) (q : State) → List (Arriving t (q .line)) → State
+abbrev pub after : (t : Tables) (q : State) → List (Arriving t (q .conn)) → State
 after t q l = judgeAll t q (map arrival l) .state
 
 -- What the demand is given: "an open connection and a fixed valid key table", a state that 18 allows, and "The true positions lie less than 2^31 from
 -- each other and from the starting reference."
-pub record Given (t : Tables) (q : State) (l : List (Arriving t (q .line))) : Type 0 where
+pub record Given (t : Tables) (q : State) (l : List (Arriving t (q .conn))) : Type 0 where
   pub valid : ValidTable t
   pub typed : Typed q
-  pub allowed : Allowed (q .line)
-  pub is-open : isOpen (q .line) ≡ true
+  pub allowed : Allowed (q .conn)
+  pub is-open : isOpen (q .conn) ≡ true
   pub close : Close (q .seen ∷ positions l)
 
 -- The demand, of one list of arrivals on the connection of q under the table t.
-pub record Demand3 (t : Tables) (q : State) (l : List (Arriving t (q .line))) : Type 0 where
+pub record Demand3 (t : Tables) (q : State) (l : List (Arriving t (q .conn))) : Type 0 where
   pub verdicts : AllFit l (judgeAll t q (map arrival l) .verdicts)
   -- "After the list the reference is the largest of the starting one and the true positions."
   pub reference : after t q l .seen ≡ largest (q .seen) (positions l)
   -- "The outgoing key is what the last true segment asking for an available key asked for, or the starting one."
-  pub key : after t q l .«send_id» ≡ lastOr (q .«send_id») (those (available t (q .line .pair)) (requested l))
+  pub key : after t q l .«send_id» ≡ lastOr (q .«send_id») (those (available t (q .conn .pair)) (requested l))
   -- "With no count at its stop, accepted = accepted at the start + true arrivals, and dropped = dropped at the start + the others that document 01 counts"
   pub accepted : NoStop (after t q l) → after t q l .accepted ≡ q .accepted + trues l
   pub dropped : NoStop (after t q l) → sum (after t q l .drops) ≡ sum (q .drops) + others l
   -- what no arrival changes
-  pub rest : (after t q l .line ≡ q .line) × (after t q l .sent ≡ q .sent) × (after t q l .«ask_id» ≡ q .«ask_id»)
+  pub rest : (after t q l .conn ≡ q .conn) × (after t q l .sent ≡ q .sent) × (after t q l .«ask_id» ≡ q .«ask_id»)
   -- "two orders of the same arrivals then end alike": "A count's stop is looked for after the list; of two orders, after both."
   pub orders : (k : List Arrival) → List·Permᴰ (map arrival l) k → NoStop (after t q l) → NoStop (judgeAll t q k .state) → Alike (after t q l) (judgeAll t q k .state)

@@ -13,7 +13,7 @@ use Rattle.keys.specs.Table.{Tables, ValidTable, recvEntry}
 use Rattle.keys.specs.PlaceLaws.{At as EntryAt}
 use Rattle.keys.specs.Mirror.{Mirror}
 use Rattle.rules.specs.declared.Place.the-variants.{At}
-use Rattle.rules.specs.declared.Line.{Line}
+use Rattle.rules.specs.declared.Connection.{Connection}
 use Rattle.rules.specs.declared.State.{State}
 use Rattle.rules.specs.declared.Signing.the-variants as S
 use Rattle.rules.specs.declared.Signed.{Signed}
@@ -34,14 +34,14 @@ Bytes s = Each (λ (b : ℕ). b < 256) s
 pub record Typed (q : State) : Type 0 where
   pub sent : q .sent < 2 ^ 64
   pub seen : q .seen < 2 ^ 64
-  pub isn : q .line .isn < 2 ^ 32
-  pub peer : q .line .«peer_isn» < 2 ^ 32
-  pub local : length (q .line .pair .local) ≡ 16
-  pub remote : length (q .line .pair .remote) ≡ 16
+  pub isn : q .conn .isn < 2 ^ 32
+  pub peer : q .conn .«peer_isn» < 2 ^ 32
+  pub local : length (q .conn .pair .local) ≡ 16
+  pub remote : length (q .conn .pair .remote) ≡ 16
   pub counts : length (q .drops) ≡ slots
 
 -- a state that 18 allows
-abbrev pub Allowed : Line → Type 0
+abbrev pub Allowed : Connection → Type 0
 Allowed l = isFamily (l .pair .family) ≡ true
 
 -- one socket pair as its two ends hold it
@@ -53,7 +53,7 @@ pub record Facing (p q : Pair) : Type 0 where
   pub remote-port : p .«remote_port» ≡ q .«local_port»
 
 -- both open on one connection: "our pair as seen from there, the same ISNs"
-pub record OtherEnd (l m : Line) : Type 0 where
+pub record OtherEnd (l m : Connection) : Type 0 where
   pub here : isOpen l ≡ true
   pub there : isOpen m ≡ true
   pub pair : Facing (l .pair) (m .pair)
@@ -83,7 +83,7 @@ pub record SignedAt (q : State) (e : Entry) (x : ℕ) (bytes : List ℕ) : Type 
   pub answer : signed table unsigned out q .answer ≡ S.Signed (length bytes)
   pub wrote : bytes ≡ take (length bytes) (output table unsigned out q)
   pub under : outgoing table q .entry ≡ e
-  pub position : placeOn (q .line) (q .sent) (sequence unsigned) ≡ At x
+  pub position : placeOn (q .conn) (q .sent) (sequence unsigned) ≡ At x
 
 -- "it holds the mirrored key in a valid table": of the entry e, on the connection whose pair this end holds as p
 pub record Holds (t : Tables) (p : Pair) (e : Entry) : Type 0 where
@@ -95,10 +95,10 @@ pub record Holds (t : Tables) (p : Pair) (e : Entry) : Type 0 where
 
 -- "A true segment was signed at the other end, in a state open on this connection .., under a mirror of one of the table's entries; it arrives
 -- with our state's pair and as signed, except perhaps for its checksum." Its position is x, and it asks for the key r.
-pub record TrueSegment (t : Tables) (l : Line) (a : Arrival) (x r : ℕ) : Type 0 where
+pub record TrueSegment (t : Tables) (l : Connection) (a : Arrival) (x r : ℕ) : Type 0 where
   pub peer : State
   pub typed : Typed peer
-  pub other : OtherEnd l (peer .line)
+  pub other : OtherEnd l (peer .conn)
   pub ours : Entry
   pub theirs : Entry
   pub place : ℕ
@@ -111,7 +111,7 @@ pub record TrueSegment (t : Tables) (l : Line) (a : Arrival) (x r : ℕ) : Type 
 
 -- "An arrival verifies if it is no bare SYN, comes with our state's pair, and its MAC bytes are, for some extension, what these rules give under
 -- our ISNs and the entry for its KeyID." It has MAC bytes only if none of 20, 21, 22 applies and TCP-AO is there.
-pub record Verifies (t : Tables) (l : Line) (a : Arrival) : Type 0 where
+pub record Verifies (t : Tables) (l : Connection) (a : Arrival) : Type 0 where
   pub sized : wellSized (a .segment) ≡ true
   pub formed : malformed (a .segment) ≡ false
   pub one : ao (a .segment) .count ≡ 1

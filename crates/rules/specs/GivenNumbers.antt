@@ -21,7 +21,7 @@ use Rattle.rules.specs.declared.Outcome.{Outcome}
 use Rattle.rules.specs.declared.Outcome.the-variants.{Good, Passed, Bad}
 use Rattle.rules.specs.declared.Verdict.{Verdict}
 use Rattle.rules.specs.declared.Verdict.the-variants.{Accept, Pass, Drop}
-use Rattle.rules.specs.declared.Line.{Line}
+use Rattle.rules.specs.declared.Connection.{Connection}
 use Rattle.rules.specs.declared.State.{State}
 use Rattle.rules.specs.declared.Done.the-variants as D
 use Rattle.rules.specs.Numbers.{Test, first}
@@ -165,7 +165,7 @@ pass-only : (l : List ℕ) (b : Bool) (n : ℕ) → among n l ≡ true → only 
 pass-only l true n e = e
 pass-only l false n e = refl
 
-pub check-only : (t : K.Tables) (l : Line) (reference : ℕ) (a : Arrival) → only false judgeNumbers (check t l reference a) ≡ true
+pub check-only : (t : K.Tables) (l : Connection) (reference : ℕ) (a : Arrival) → only false judgeNumbers (check t l reference a) ≡ true
 unfolding check
 check-only t l reference a = first-only false judgeNumbers (judgeTests t l reference a) _ (rw (table-only false judgeNumbers t refl)) refl
 
@@ -179,7 +179,7 @@ pub checkSign-only : (t : K.Tables) (s : List ℕ) (room : ℕ) (q : State) → 
 unfolding checkSign
 checkSign-only t s room q = first-only false signNumbers (signTests t s room q (outgoing t q)) _ (rw (table-only false signNumbers t refl)) refl
 
-pub ask-only : (t : K.Tables) (id : ℕ) (l : Line) → only false askNumbers (first (askTests t id l) unrefused) ≡ true
+pub ask-only : (t : K.Tables) (id : ℕ) (l : Connection) → only false askNumbers (first (askTests t id l) unrefused) ≡ true
 ask-only t id l = first-only false askNumbers (askTests t id l) unrefused (rw (table-only false askNumbers t refl)) refl
 
 pub open-only : (t : K.Tables) (local remote : List ℕ) (found : Found) → only false openNumbers (first (openTests t local remote found) unrefused) ≡ true
@@ -209,9 +209,9 @@ active-among t local remote p isn sendId n e =
 -- a call that is refused gives one of its numbers
 pub refused-among : (c : Request) (n : ℕ) → reply c ≡ D.Refused n → among n (numbersOf c) ≡ true
 unfolding judged signed asked judgedSyn openedPassively openedActively
-refused-among (on (judge t a) q) n e = verdict-among false judgeNumbers (check t (q .line) (q .seen) a) n (check-only t (q .line) (q .seen) a) e
+refused-among (on (judge t a) q) n e = verdict-among false judgeNumbers (check t (q .conn) (q .seen) a) n (check-only t (q .conn) (q .seen) a) e
 refused-among (on (sign t s out) q) n e = signing-among q s (outgoing t q) signNumbers (checkSign t s (length out) q) n (checkSign-only t s (length out) q) e
-refused-among (on (ask t id) q) n e = settled-among q _ askNumbers (first (askTests t id (q .line)) unrefused) n (ask-only t id (q .line)) e
+refused-among (on (ask t id) q) n e = settled-among q _ askNumbers (first (askTests t id (q .conn)) unrefused) n (ask-only t id (q .conn)) e
 refused-among (judgeSyn t a strict) n e = verdict-among true synNumbers (checkSyn t a strict) n (checkSyn-only t a strict) e
 refused-among (openPassively t a isn strict) n e = verdict-among true synNumbers (checkSyn t a strict) n (checkSyn-only t a strict) e
 refused-among (openActively t local remote localPort remotePort isn sendId) n e = active-among t local remote (pairOf local remote localPort remotePort) isn sendId n e
@@ -245,13 +245,13 @@ table-bounds t n i e =
 not-passed : (l : List ℕ) (o : Outcome) → only false l o ≡ true → o ≡ Passed → ⊥
 not-passed l o p e = let z : _≡_ {A = ℕ} 0 1 = cc (rw e at p) in omega arith
 
-pub check-not-passed : (t : K.Tables) (l : Line) (reference : ℕ) (a : Arrival) → check t l reference a ≡ Passed → ⊥
+pub check-not-passed : (t : K.Tables) (l : Connection) (reference : ℕ) (a : Arrival) → check t l reference a ≡ Passed → ⊥
 check-not-passed t l reference a = not-passed judgeNumbers (check t l reference a) (check-only t l reference a)
 
 pub sign-not-passed : (t : K.Tables) (s : List ℕ) (room : ℕ) (q : State) → checkSign t s room q ≡ Passed → ⊥
 sign-not-passed t s room q = not-passed signNumbers (checkSign t s room q) (checkSign-only t s room q)
 
-pub ask-not-passed : (t : K.Tables) (id : ℕ) (l : Line) → first (askTests t id l) unrefused ≡ Passed → ⊥
+pub ask-not-passed : (t : K.Tables) (id : ℕ) (l : Connection) → first (askTests t id l) unrefused ≡ Passed → ⊥
 ask-not-passed t id l = not-passed askNumbers (first (askTests t id l) unrefused) (ask-only t id l)
 
 pub open-not-passed : (t : K.Tables) (local remote : List ℕ) (found : Found) → first (openTests t local remote found) unrefused ≡ Passed → ⊥
@@ -270,4 +270,4 @@ no-pass l (Bad n i) p = refl
 -- judging on a connection never gives pass
 pub judge-never-passes : (t : K.Tables) (a : Arrival) (q : State) → isPass (judged t a q .verdict) ≡ false
 unfolding judged
-judge-never-passes t a q = no-pass judgeNumbers (check t (q .line) (q .seen) a) (check-only t (q .line) (q .seen) a)
+judge-never-passes t a q = no-pass judgeNumbers (check t (q .conn) (q .seen) a) (check-only t (q .conn) (q .seen) a)

@@ -29,7 +29,7 @@ unfolding macBytes
 added-16 t q v = go (outgoing t q .there) refl
   where
     go : (b : Bool) → outgoing t q .there ≡ b → addedBytes (outgoing t q) ≡ 16
-    go true e = rw e (ap (λ (n : ℕ). 4 + n) (twelve-bytes t (q .line .pair) (q .«send_id») v e))
+    go true e = rw e (ap (λ (n : ℕ). 4 + n) (twelve-bytes t (q .conn .pair) (q .«send_id») v e))
     go false e = rw e
 
 -- "data offset above 11": a header of 60 bytes is passed

@@ -33,7 +33,7 @@ ended q (c ∷ l) = ended (next c q) l
 
 -- the verdict of a call on an open connection: "the segment that opens is not counted"
 abbrev pub verdictOn : Call → State → List Verdict
-verdictOn (judge t a) q = cond (isOpen (q .line)) (judged t a q .verdict ∷ []) []
+verdictOn (judge t a) q = cond (isOpen (q .conn)) (judged t a q .verdict ∷ []) []
 verdictOn (sign t s out) q = []
 verdictOn (ask t id) q = []
 

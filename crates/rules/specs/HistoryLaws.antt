@@ -24,29 +24,29 @@ use Rattle.rules.specs.CountLaws.{raised, each-below, slot-below, length
 -- What a history needs of the state that it starts from: as many counts as the type says, all 0 unless it is open.
 pub record Ready (q : State) : Type 0 where
   pub counts : length (q .drops) ≡ slots
-  pub fresh : isOpen (q .line) ≡ false → CountsZero q
+  pub fresh : isOpen (q .conn) ≡ false → CountsZero q
 
 -- a call that is no verdict leaves what the counts go by
 record Keeps (q r : State) : Type 0 where
-  line : r .line ≡ q .line
+  conn : r .conn ≡ q .conn
   accepted : r .accepted ≡ q .accepted
   drops : r .drops ≡ q .drops
 
 sign-keeps : (q : State) (s : List ℕ) (f : Found) (o : Outcome) → Keeps q (signedBy q s f o .state)
-sign-keeps q s f (Good x r) = record { line = refl; accepted = refl; drops = refl }
-sign-keeps q s f Passed = record { line = refl; accepted = refl; drops = refl }
-sign-keeps q s f (Bad n i) = record { line = refl; accepted = refl; drops = refl }
+sign-keeps q s f (Good x r) = record { conn = refl; accepted = refl; drops = refl }
+sign-keeps q s f Passed = record { conn = refl; accepted = refl; drops = refl }
+sign-keeps q s f (Bad n i) = record { conn = refl; accepted = refl; drops = refl }
 
 ask-keeps : (q : State) (id : ℕ) (o : Outcome) → Keeps q (settledBy o q (withAsked id q) .state)
-ask-keeps q id (Good x r) = record { line = refl; accepted = refl; drops = refl }
-ask-keeps q id Passed = record { line = refl; accepted = refl; drops = refl }
-ask-keeps q id (Bad n i) = record { line = refl; accepted = refl; drops = refl }
+ask-keeps q id (Good x r) = record { conn = refl; accepted = refl; drops = refl }
+ask-keeps q id Passed = record { conn = refl; accepted = refl; drops = refl }
+ask-keeps q id (Bad n i) = record { conn = refl; accepted = refl; drops = refl }
 
 keeps-ready : (q r : State) → Keeps q r → Ready q → Ready r
 keeps-ready q r k h =
     record {
       counts = ap length (k .drops) ∙ h .counts;
-      fresh = λ z. let f = h .fresh (rw (k .line) at z) in record { accepted = k .accepted ∙ f .accepted; drops = k .drops ∙ f .drops };
+      fresh = λ z. let f = h .fresh (rw (k .conn) at z) in record { accepted = k .accepted ∙ f .accepted; drops = k .drops ∙ f .drops };
     }
 
 -- the same counts at the start
@@ -63,15 +63,15 @@ opposite : {b : Bool} → b ≡ true → b ≡ false → ⊥
 opposite e z = true≢false (sym e ∙ z)
 
 -- judging, by what the tests come to
-judge-ready : (t : Tables) (q : State) (o : Outcome) (b : Bool) → isOpen (q .line) ≡ b → Ready q → Ready (afterJudging t q o)
+judge-ready : (t : Tables) (q : State) (o : Outcome) (b : Bool) → isOpen (q .conn) ≡ b → Ready q → Ready (afterJudging t q o)
 judge-ready t q (Good x r) true e h = rw e (record { counts = h .counts; fresh = λ z. absurd (opposite e z) })
 judge-ready t q (Good x r) false e h = rw e (record { counts = refl; fresh = λ z. record { accepted = refl; drops = refl } })
 judge-ready t q Passed b e h = h
 judge-ready t q (Bad n i) true e h = rw e (record { counts = length-count n (q .drops) ∙ h .counts; fresh = λ z. absurd (opposite e z) })
 judge-ready t q (Bad n i) false e h = rw e h
 
-judge-counts : (t : Tables) (q : State) (o : Outcome) (vs : List Verdict) (end : State) (b : Bool) → isOpen (q .line) ≡ b → Ready q
-    → Counts (afterJudging t q o) vs end → Counts q (cond (isOpen (q .line)) (verdictOf o ∷ []) [] ++ vs) end
+judge-counts : (t : Tables) (q : State) (o : Outcome) (vs : List Verdict) (end : State) (b : Bool) → isOpen (q .conn) ≡ b → Ready q
+    → Counts (afterJudging t q o) vs end → Counts q (cond (isOpen (q .conn)) (verdictOf o ∷ []) [] ++ vs) end
 judge-counts t q (Good x r) vs end true e h c = rw e (count-accept q vs end x _ (extensionOf x) (rw e at c))
 judge-counts t q (Good x r) vs end false e h c = rw e (count-same q _ vs end (sym (h .fresh e .accepted)) (sym (h .fresh e .drops)) (rw e at c))
 judge-counts t q Passed vs end true e h c = rw e (record { accepted = c .accepted; dropped = c .dropped; began = c .began; total = c .total })
@@ -82,15 +82,15 @@ judge-counts t q (Bad n i) vs end false e h c = rw e (rw e at c)
 -- any call
 call-ready : (c : Call) (q : State) → Ready q → Ready (next c q)
 unfolding judged signed asked
-call-ready (judge t a) q h = judge-ready t q (check t (q .line) (q .seen) a) (isOpen (q .line)) refl h
+call-ready (judge t a) q h = judge-ready t q (check t (q .conn) (q .seen) a) (isOpen (q .conn)) refl h
 call-ready (sign t s out) q h = keeps-ready q _ (sign-keeps q s (outgoing t q) (checkSign t s (length out) q)) h
-call-ready (ask t id) q h = keeps-ready q _ (ask-keeps q id (first (askTests t id (q .line)) unrefused)) h
+call-ready (ask t id) q h = keeps-ready q _ (ask-keeps q id (first (askTests t id (q .conn)) unrefused)) h
 
 call-counts : (c : Call) (q : State) (vs : List Verdict) (end : State) → Ready q → Counts (next c q) vs end → Counts q (verdictOn c q ++ vs) end
 unfolding judged signed asked
-call-counts (judge t a) q vs end h n = judge-counts t q (check t (q .line) (q .seen) a) vs end (isOpen (q .line)) refl h n
+call-counts (judge t a) q vs end h n = judge-counts t q (check t (q .conn) (q .seen) a) vs end (isOpen (q .conn)) refl h n
 call-counts (sign t s out) q vs end h n = let k = sign-keeps q s (outgoing t q) (checkSign t s (length out) q) in count-same q _ vs end (k .accepted) (k .drops) n
-call-counts (ask t id) q vs end h n = let k = ask-keeps q id (first (askTests t id (q .line)) unrefused) in count-same q _ vs end (k .accepted) (k .drops) n
+call-counts (ask t id) q vs end h n = let k = ask-keeps q id (first (askTests t id (q .conn)) unrefused) in count-same q _ vs end (k .accepted) (k .drops) n
 
 -- any list of calls, from any state that is open, or whose counts are 0
 pub history : (l : List Call) (q : State) → Ready q → Counts q (given q l) (ended q l)

@@ -13,7 +13,7 @@ use Rattle.keys.specs.Entry.{knownKind, isFamily, body, width, sideOf, selector
 use Rattle.keys.specs.PlaceLaws as Places
 use Rattle.keys.specs.Match.{holds, matches, share, clash}
 use Rattle.keys.specs.Table.{first, clashing, judged, loaded, found, answers}
-use Rattle.rules.specs.declared.Line.{Line}
+use Rattle.rules.specs.declared.Connection.{Connection}
 use Rattle.rules.specs.declared.State.{State}
 use Rattle.rules.specs.declared.Outcome.{Outcome}
 use Rattle.rules.specs.declared.Outcome.the-variants.{Good}
@@ -33,8 +33,8 @@ abbrev table : ℕ → ℕ → List ℕ
 table sendId recvId =
     (4 ∷ 1 ∷ 1 ∷ sendId ∷ recvId ∷ 0 ∷ 0 ∷ 255 ∷ 255 ∷ 0 ∷ 0 ∷ 255 ∷ 255 ∷ 0 ∷ 0 ∷ 0 ∷ 0 ∷ 0 ∷ 0 ∷ 0 ∷ 0 ∷ 0 ∷ 0 ∷ 2 ∷ 1 ∷ 2 ∷ []) ++ replicate 78 0
 
-abbrev line : Line
-line =
+abbrev conn : Connection
+conn =
     record {
       stage = 1;
       pair = record { family = 4; «local_port» = 59863; «remote_port» = 179; local = (10 ∷ 11 ∷ 12 ∷ 13 ∷ []) ++ replicate 12 0; remote = (172 ∷ 27 ∷ 28 ∷ 29 ∷ []) ++ replicate 12 0 };
@@ -46,7 +46,7 @@ line =
 abbrev peer : State
 peer =
     record {
-      line =
+      conn =
           record {
             stage = 1;
             pair = record { family = 4; «local_port» = 179; «remote_port» = 59863; local = (172 ∷ 27 ∷ 28 ∷ 29 ∷ []) ++ replicate 12 0; remote = (10 ∷ 11 ∷ 12 ∷ 13 ∷ []) ++ replicate 12 0 };
@@ -99,8 +99,8 @@ twelve = refl
 long : length bytes ≡ 43
 unfolding signedSegment
 long =
-    let m = segmentMac (theirs .secret) (leaving (peer .line)) (extensionOf 4294967312) 20 (signedWith 84 61 (replicate (theirs .secret .«mac_bytes») 0) segment) in
-    let l : length m ≡ 12 = length-mac (theirs .secret) (leaving (peer .line)) (extensionOf 4294967312) 20 _ (omega (arith, twelve)) ∙ twelve in
+    let m = segmentMac (theirs .secret) (leaving (peer .conn)) (extensionOf 4294967312) 20 (signedWith 84 61 (replicate (theirs .secret .«mac_bytes») 0) segment) in
+    let l : length m ≡ 12 = length-mac (theirs .secret) (leaving (peer .conn)) (extensionOf 4294967312) 20 _ (omega (arith, twelve)) ∙ twelve in
     length-signed segment fresh 0 0 84 61 m (omega arith) ∙ ap (λ (n : ℕ). 27 + (4 + n)) l
 
 one-entry : entries (table 61 84) ≡ entryOf (table 61 84) ∷ []
@@ -126,7 +126,7 @@ signing =
       position = refl;
     }
 
-pub true-arrival : TrueSegment (table 61 84) line (record { source = 172 ∷ 27 ∷ 28 ∷ 29 ∷ []; destination = 10 ∷ 11 ∷ 12 ∷ 13 ∷ []; segment = rechecked 18 52 bytes }) 4294967312 61
+pub true-arrival : TrueSegment (table 61 84) conn (record { source = 172 ∷ 27 ∷ 28 ∷ 29 ∷ []; destination = 10 ∷ 11 ∷ 12 ∷ 13 ∷ []; segment = rechecked 18 52 bytes }) 4294967312 61
 unfolding agree width sideOf selectorOf idsOf secretOf entryOf holds matches
 true-arrival =
     record {
@@ -145,6 +145,6 @@ true-arrival =
     }
 
 -- the same segment without TCP-AO verifies under no key
-pub other-arrival : Verifies (table 61 84) line (record { source = 172 ∷ 27 ∷ 28 ∷ 29 ∷ []; destination = 10 ∷ 11 ∷ 12 ∷ 13 ∷ []; segment = segment }) → ⊥
+pub other-arrival : Verifies (table 61 84) conn (record { source = 172 ∷ 27 ∷ 28 ∷ 29 ∷ []; destination = 10 ∷ 11 ∷ 12 ∷ 13 ∷ []; segment = segment }) → ⊥
 unfolding optionsOf readFrom
 other-arrival v = omega (arith, v .one)

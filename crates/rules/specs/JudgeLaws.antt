@@ -15,7 +15,7 @@ use Rattle.keys.specs.declared.table.Loaded.the-variants.{Valid, Refused}
 use Rattle.keys.specs.Table.{Tables, checked, recvEntry, ValidTable}
 use Rattle.rules.specs.declared.Outcome.{Outcome}
 use Rattle.rules.specs.declared.Outcome.the-variants.{Good, Passed, Bad}
-use Rattle.rules.specs.declared.Line.{Line}
+use Rattle.rules.specs.declared.Connection.{Connection}
 use Rattle.rules.specs.Numbers.{joined}
 use Rattle.rules.specs.NumberLaws.{NoneApplies, none-append, first-passes, none-applied}
 use Rattle.rules.specs.GroupLaws.{Clear, none-clear, past-input, sized-of}
@@ -54,7 +54,7 @@ absent n m e one = go (ltb 0 m) refl
     go true q = let z : _≡_ {A = ℕ} 0 1 = cc (rw (q, one) at e) in absurd (omega arith)
     go false q = omega (arith, ltb-false 0 m q)
 
-module _ (t : Tables) (l : Line) (reference : ℕ) (a : Arrival) where
+module _ (t : Tables) (l : Connection) (reference : ℕ) (a : Arrival) where
   -- accepted means that every test failed
   pub none-of : (x r : ℕ) → check t l reference a ≡ Good x r → Clear (judgeGroups t l reference a)
   unfolding check

@@ -13,7 +13,7 @@ use Rattle.keys.specs.declared.entry.Secret.{Secret}
 use Rattle.keys.specs.Algorithm.{outputBits}
 use Rattle.keys.specs.Entry.{keyOf, allOptions}
 
--- both ends of a segment's way: "'source' is whoever sent the segment"
+-- a segment's two ends: "'source' is whoever sent the segment"
 pub record Flow : Type 0 where
   pub source : List ℕ
   pub destination : List ℕ

@@ -13,7 +13,7 @@ use Rattle.keys.specs.Table.{Tables, ValidTable}
 use Rattle.rules.specs.declared.Outcome.the-variants.{Good, Bad}
 use Rattle.rules.specs.declared.Verdict.{Verdict}
 use Rattle.rules.specs.declared.Verdict.the-variants.{Accept, Drop}
-use Rattle.rules.specs.declared.Line.{Line}
+use Rattle.rules.specs.declared.Connection.{Connection}
 use Rattle.rules.specs.declared.State.{State}
 use Rattle.rules.specs.declared.Judged.{Judged}
 use Rattle.rules.specs.Connection.{Arrival, sized, isOpen, extensionOf, slots, isCounted, available, nextKey, withAccepted, withDrop}
@@ -47,32 +47,32 @@ last-step t p r k l = go (eqb r k) (available t p r) refl refl
     go false false e f = simp (e, f, nextKey)
 
 -- What judging the list l from s comes to: the verdicts vs and the state e.
-record Run (t : Tables) (line : Line) (s : State) (l : List (Arriving t line)) (vs : List Verdict) (e : State) : Type 0 where
+record Run (t : Tables) (conn : Connection) (s : State) (l : List (Arriving t conn)) (vs : List Verdict) (e : State) : Type 0 where
   fits : AllFit l vs
   reference : e .seen ≡ largest (s .seen) (positions l)
-  key : e .«send_id» ≡ lastOr (s .«send_id») (those (available t (line .pair)) (requested l))
-  rest : (e .line ≡ s .line) × (e .sent ≡ s .sent) × (e .«ask_id» ≡ s .«ask_id»)
+  key : e .«send_id» ≡ lastOr (s .«send_id») (those (available t (conn .pair)) (requested l))
+  rest : (e .conn ≡ s .conn) × (e .sent ≡ s .sent) × (e .«ask_id» ≡ s .«ask_id»)
   counts : Counts s vs e
   its-trues : accepts vs ≡ trues l
   its-others : countedDrops vs ≡ others l
 
 -- one arrival before the others
-module _ (t : Tables) (line : Line) (s : State) (l : List (Arriving t line)) (vs : List Verdict) (e : State) where
-  real-step : (a : Arrival) (x r : ℕ) (p : TrueSegment t line a x r) → Run t line (withAccepted x (nextKey t (line .pair) r (s .«send_id»)) s) l vs e
-      → Run t line s (real a x r p ∷ l) (Accept (extensionOf x) ∷ vs) e
+module _ (t : Tables) (conn : Connection) (s : State) (l : List (Arriving t conn)) (vs : List Verdict) (e : State) where
+  real-step : (a : Arrival) (x r : ℕ) (p : TrueSegment t conn a x r) → Run t conn (withAccepted x (nextKey t (conn .pair) r (s .«send_id»)) s) l vs e
+      → Run t conn s (real a x r p ∷ l) (Accept (extensionOf x) ∷ vs) e
   real-step a x r p h =
       record {
         fits = (refl, h .fits);
         reference = h .reference;
-        key = h .key ∙ last-step t (line .pair) r (s .«send_id») (requested l);
+        key = h .key ∙ last-step t (conn .pair) r (s .«send_id») (requested l);
         rest = h .rest;
         counts = count-accept s vs e x _ (extensionOf x) (h .counts);
         its-trues = omega (arith, h .its-trues);
         its-others = h .its-others;
       }
 
-  other-step : (a : Arrival) (o : Verifies t line a → ⊥) (n : ℕ) → length (s .drops) ≡ slots → isCounted n ≡ sized (a .source) (a .destination)
-      → Run t line (withDrop n s) l vs e → Run t line s (other a o ∷ l) (Drop n ∷ vs) e
+  other-step : (a : Arrival) (o : Verifies t conn a → ⊥) (n : ℕ) → length (s .drops) ≡ slots → isCounted n ≡ sized (a .source) (a .destination)
+      → Run t conn (withDrop n s) l vs e → Run t conn s (other a o ∷ l) (Drop n ∷ vs) e
   other-step a o n c q h =
       record {
         fits = (λ k z. let z : _≡_ {A = ℕ} 0 1 = cc in absurd (omega arith), h .fits);
@@ -105,13 +105,13 @@ close-perm (List·Permᴰ·swap {l = l} e g) c =
     ((omega arith, subst (λ (z : ℕ). Each (Within z) l) g (c .1 .0)), (subst (λ (z : ℕ). Each (Within z) l) e (c .0 .1), c .1 .1))
 close-perm (List·Permᴰ·trans p q) c = close-perm q (close-perm p c)
 
-module _ {t : List ℕ} {line : Line} where
+module _ {t : List ℕ} {conn : Connection} where
   -- a number that the arrivals add up to does not depend on their order
-  sum-perm : (f : List (Arriving t line) → ℕ) → ((i : Arriving t line) (l : List (Arriving t line)) → f (i ∷ l) ≡ f (i ∷ []) + f l)
-      → {l k : List (Arriving t line)} → List·Permᴰ l k → f l ≡ f k
+  sum-perm : (f : List (Arriving t conn) → ℕ) → ((i : Arriving t conn) (l : List (Arriving t conn)) → f (i ∷ l) ≡ f (i ∷ []) + f l)
+      → {l k : List (Arriving t conn)} → List·Permᴰ l k → f l ≡ f k
   sum-perm f step List·Permᴰ·nil = refl
   sum-perm f step (List·Permᴰ·cons {a = i} {b = j} {l₁ = l} {l₂ = k} e p) =
-      omega (arith, step i l, step j k, ap (λ (z : Arriving t line). f (z ∷ [])) e, sum-perm f step p)
+      omega (arith, step i l, step j k, ap (λ (z : Arriving t conn). f (z ∷ [])) e, sum-perm f step p)
   sum-perm f step (List·Permᴰ·swap {a = i} {b = j} {a′ = j′} {b′ = i′} {l = l} e g) =
       omega (
         arith,
@@ -119,63 +119,63 @@ module _ {t : List ℕ} {line : Line} where
         step j l,
         step j′ (i′ ∷ l),
         step i′ l,
-        ap (λ (z : Arriving t line). f (z ∷ [])) e,
-        ap (λ (z : Arriving t line). f (z ∷ [])) g,
+        ap (λ (z : Arriving t conn). f (z ∷ [])) e,
+        ap (λ (z : Arriving t conn). f (z ∷ [])) g,
       )
   sum-perm f step (List·Permᴰ·trans p q) = sum-perm f step p ∙ sum-perm f step q
 
-  trues-step : (i : Arriving t line) (l : List (Arriving t line)) → trues (i ∷ l) ≡ trues (i ∷ []) + trues l
+  trues-step : (i : Arriving t conn) (l : List (Arriving t conn)) → trues (i ∷ l) ≡ trues (i ∷ []) + trues l
   trues-step (real a x r p) l = omega arith
   trues-step (other a o) l = omega arith
 
-  others-step : (i : Arriving t line) (l : List (Arriving t line)) → others (i ∷ l) ≡ others (i ∷ []) + others l
+  others-step : (i : Arriving t conn) (l : List (Arriving t conn)) → others (i ∷ l) ≡ others (i ∷ []) + others l
   others-step (real a x r p) l = omega arith
   others-step (other a o) l = omega arith
 
-  positions-cons : (i : Arriving t line) (l k : List (Arriving t line)) → List·Permᴰ (positions l) (positions k) → List·Permᴰ (positions (i ∷ l)) (positions (i ∷ k))
+  positions-cons : (i : Arriving t conn) (l k : List (Arriving t conn)) → List·Permᴰ (positions l) (positions k) → List·Permᴰ (positions (i ∷ l)) (positions (i ∷ k))
   positions-cons (real a x r p) l k h = List·Permᴰ·cons refl h
   positions-cons (other a o) l k h = h
 
-  positions-swap : (i j : Arriving t line) (l : List (Arriving t line)) → List·Permᴰ (positions (i ∷ j ∷ l)) (positions (j ∷ i ∷ l))
+  positions-swap : (i j : Arriving t conn) (l : List (Arriving t conn)) → List·Permᴰ (positions (i ∷ j ∷ l)) (positions (j ∷ i ∷ l))
   positions-swap (real a x r p) (real b y q w) l = List·Permᴰ·swap refl refl
   positions-swap (real a x r p) (other b w) l = Permᴰ·refl (x ∷ positions l)
   positions-swap (other a o) (real b y q w) l = Permᴰ·refl (y ∷ positions l)
   positions-swap (other a o) (other b w) l = Permᴰ·refl (positions l)
 
-  positions-perm : {l k : List (Arriving t line)} → List·Permᴰ l k → List·Permᴰ (positions l) (positions k)
+  positions-perm : {l k : List (Arriving t conn)} → List·Permᴰ l k → List·Permᴰ (positions l) (positions k)
   positions-perm List·Permᴰ·nil = List·Permᴰ·nil
   positions-perm (List·Permᴰ·cons {b = j} {l₁ = l} {l₂ = k} e p) =
-      subst⁻¹ (λ (z : Arriving t line). List·Permᴰ (positions (z ∷ l)) (positions (j ∷ k))) e (positions-cons j l k (positions-perm p))
+      subst⁻¹ (λ (z : Arriving t conn). List·Permᴰ (positions (z ∷ l)) (positions (j ∷ k))) e (positions-cons j l k (positions-perm p))
   positions-perm (List·Permᴰ·swap {a = i} {b = j} {l = l} e g) =
-      subst₂ (λ (y z : Arriving t line). List·Permᴰ (positions (i ∷ j ∷ l)) (positions (y ∷ z ∷ l))) g e (positions-swap i j l)
+      subst₂ (λ (y z : Arriving t conn). List·Permᴰ (positions (i ∷ j ∷ l)) (positions (y ∷ z ∷ l))) g e (positions-swap i j l)
   positions-perm (List·Permᴰ·trans p q) = List·Permᴰ·trans (positions-perm p) (positions-perm q)
 
-module _ (t : Tables) (valid : ValidTable t) (line : Line) (allowed : Allowed line) (is-open : isOpen line ≡ true)
-    (true-good : (reference : ℕ) (a : Arrival) (x r : ℕ) → TrueSegment t line a x r → Within reference x → check t line reference a ≡ Good x r) where
+module _ (t : Tables) (valid : ValidTable t) (conn : Connection) (allowed : Allowed conn) (is-open : isOpen conn ≡ true)
+    (true-good : (reference : ℕ) (a : Arrival) (x r : ℕ) → TrueSegment t conn a x r → Within reference x → check t conn reference a ≡ Good x r) where
   -- one call
-  judged-good : (s : State) → s .line ≡ line → (a : Arrival) (x r : ℕ) → check t line (s .seen) a ≡ Good x r
-      → judged t a s ≡ record { verdict = Accept (extensionOf x); index = 0; state = withAccepted x (nextKey t (line .pair) r (s .«send_id»)) s }
+  judged-good : (s : State) → s .conn ≡ conn → (a : Arrival) (x r : ℕ) → check t conn (s .seen) a ≡ Good x r
+      → judged t a s ≡ record { verdict = Accept (extensionOf x); index = 0; state = withAccepted x (nextKey t (conn .pair) r (s .«send_id»)) s }
   unfolding judged
-  judged-good s q a x r e = ap (judgedBy t s) (ap (λ (z : Line). check t z (s .seen) a) q ∙ e) ∙ rw (q, is-open)
+  judged-good s q a x r e = ap (judgedBy t s) (ap (λ (z : Connection). check t z (s .seen) a) q ∙ e) ∙ rw (q, is-open)
 
-  judged-bad : (s : State) → s .line ≡ line → (a : Arrival) (n i : ℕ) → check t line (s .seen) a ≡ Bad n i
+  judged-bad : (s : State) → s .conn ≡ conn → (a : Arrival) (n i : ℕ) → check t conn (s .seen) a ≡ Bad n i
       → judged t a s ≡ record { verdict = Drop n; index = i; state = withDrop n s }
   unfolding judged
-  judged-bad s q a n i e = ap (judgedBy t s) (ap (λ (z : Line). check t z (s .seen) a) q ∙ e) ∙ rw (q, is-open)
+  judged-bad s q a n i e = ap (judgedBy t s) (ap (λ (z : Connection). check t z (s .seen) a) q ∙ e) ∙ rw (q, is-open)
 
-  order : (l : List (Arriving t line)) (s : State) → s .line ≡ line → length (s .drops) ≡ slots → Close (s .seen ∷ positions l)
-      → Run t line s l (judgeAll t s (map arrival l) .verdicts) (judgeAll t s (map arrival l) .state)
+  order : (l : List (Arriving t conn)) (s : State) → s .conn ≡ conn → length (s .drops) ≡ slots → Close (s .seen ∷ positions l)
+      → Run t conn s l (judgeAll t s (map arrival l) .verdicts) (judgeAll t s (map arrival l) .state)
   order [] s q n c =
       record { fits = tt; reference = refl; key = refl; rest = (refl, refl, refl); counts = count-none s; its-trues = refl; its-others = refl }
   order (real a x r p ∷ l) s q n c =
-      subst⁻¹ (λ (j : Judged). Run t line s (real a x r p ∷ l) (j .verdict ∷ judgeAll t (j .state) (map arrival l) .verdicts) (judgeAll t (j .state) (map arrival l) .state))
+      subst⁻¹ (λ (j : Judged). Run t conn s (real a x r p ∷ l) (j .verdict ∷ judgeAll t (j .state) (map arrival l) .verdicts) (judgeAll t (j .state) (map arrival l) .state))
       (judged-good s q a x r (true-good (s .seen) a x r p (c .0 .0)))
-      (real-step t line s l _ _ a x r p (order l (withAccepted x (nextKey t (line .pair) r (s .«send_id»)) s) q n (close-max (s .seen) x (positions l) c)))
+      (real-step t conn s l _ _ a x r p (order l (withAccepted x (nextKey t (conn .pair) r (s .«send_id»)) s) q n (close-max (s .seen) x (positions l) c)))
   order (other a o ∷ l) s q n c =
-      let d = other-bad t line (s .seen) a valid allowed is-open o in
-      subst⁻¹ (λ (j : Judged). Run t line s (other a o ∷ l) (j .verdict ∷ judgeAll t (j .state) (map arrival l) .verdicts) (judgeAll t (j .state) (map arrival l) .state))
+      let d = other-bad t conn (s .seen) a valid allowed is-open o in
+      subst⁻¹ (λ (j : Judged). Run t conn s (other a o ∷ l) (j .verdict ∷ judgeAll t (j .state) (map arrival l) .verdicts) (judgeAll t (j .state) (map arrival l) .state))
       (judged-bad s q a (d .0) (d .1) (d .2))
-      (other-step t line s l _ _ a o (d .0) n (d .3) (order l (withDrop (d .0) s) q (length-count (d .0) (s .drops) ∙ n) c))
+      (other-step t conn s l _ _ a o (d .0) n (d .3) (order l (withDrop (d .0) s) q (length-count (d .0) (s .drops) ∙ n) c))
 
 -- Another order of the arrivals is another order of what is known of them.
 
@@ -196,16 +196,16 @@ unmap f (List·Permᴰ·trans p q) l e =
 
 -- The demand.
 module _ (t : Tables) (q : State) where
-  judging : (l : List (Arriving t (q .line))) → Given t q l → Run t (q .line) q l (judgeAll t q (map arrival l) .verdicts) (after t q l)
+  judging : (l : List (Arriving t (q .conn))) → Given t q l → Run t (q .conn) q l (judgeAll t q (map arrival l) .verdicts) (after t q l)
   judging l g =
-      order t (g .valid) (q .line) (g .allowed) (g .is-open) (true-good t (g .valid) (q .line) (g .allowed) (g .typed .local) (g .typed .remote)) l q refl (g .typed .counts) (g .close)
+      order t (g .valid) (q .conn) (g .allowed) (g .is-open) (true-good t (g .valid) (q .conn) (g .allowed) (g .typed .local) (g .typed .remote)) l q refl (g .typed .counts) (g .close)
 
-  alike : (l k : List (Arriving t (q .line))) → Given t q l → List·Permᴰ l k → NoStop (after t q l) → NoStop (after t q k) → Alike (after t q l) (after t q k)
+  alike : (l k : List (Arriving t (q .conn))) → Given t q l → List·Permᴰ l k → NoStop (after t q l) → NoStop (after t q k) → Alike (after t q l) (after t q k)
   alike l k g p n m =
       let e = judging l g in
       let d = judging k (record { valid = g .valid; typed = g .typed; allowed = g .allowed; is-open = g .is-open; close = close-perm (List·Permᴰ·cons refl (positions-perm p)) (g .close) }) in
       record {
-        line = e .rest .0 ∙ sym (d .rest .0);
+        conn = e .rest .0 ∙ sym (d .rest .0);
         sent = e .rest .1 ∙ sym (d .rest .1);
         seen = e .reference ∙ largest-perm (positions-perm p) (q .seen) ∙ sym (d .reference);
         asks = e .rest .2 ∙ sym (d .rest .2);
@@ -214,7 +214,7 @@ module _ (t : Tables) (q : State) where
         dropped = omega (arith, e .counts .total (n .drops), e .its-others, d .counts .total (m .drops), d .its-others, sum-perm others others-step p);
       }
 
-  pub demand3 : (l : List (Arriving t (q .line))) → Given t q l → Demand3 t q l
+  pub demand3 : (l : List (Arriving t (q .conn))) → Given t q l → Demand3 t q l
   demand3 l g =
       let e = judging l g in
       record {

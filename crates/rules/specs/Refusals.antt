@@ -86,7 +86,7 @@ outputAfter (openActively t local remote localPort remotePort isn sendId) = []
 abbrev pub oneMore : ℕ → State → State
 oneMore n q =
     record {
-      line = q .line;
+      conn = q .conn;
       sent = q .sent;
       seen = q .seen;
       «send_id» = q .«send_id»;
@@ -97,7 +97,7 @@ oneMore n q =
 
 -- the state that a refusal with the number n leaves; "An opening refused .. returns the empty state"
 abbrev pub left : Request → ℕ → State
-left (on (judge t a) q) n = cond (isOpen (q .line) && isCounted n) (oneMore n q) q
+left (on (judge t a) q) n = cond (isOpen (q .conn) && isCounted n) (oneMore n q) q
 left (on (sign t s out) q) n = q
 left (on (ask t id) q) n = q
 left (judgeSyn t a strict) n = empty
@@ -110,16 +110,16 @@ pub record Unchanged (c : Request) (n : ℕ) : Type 0 where
 
 -- Each kind of answer, by what the tests come to.
 
-drop-left : (n : ℕ) (q : State) (b : Bool) (p : Place) → isOpen (q .line) ≡ b → slot n ≡ p → cond (isOpen (q .line)) (withDrop n q) q ≡ cond (isOpen (q .line) && isCounted n) (oneMore n q) q
+drop-left : (n : ℕ) (q : State) (b : Bool) (p : Place) → isOpen (q .conn) ≡ b → slot n ≡ p → cond (isOpen (q .conn)) (withDrop n q) q ≡ cond (isOpen (q .conn) && isCounted n) (oneMore n q) q
 unfolding countDrop
 drop-left n q true (At i) p e = rw (p, e)
 drop-left n q true Nowhere p e = rw (p, e)
 drop-left n q false c p e = rw p
 
-judge-left : (t : Tables) (q : State) (o : Outcome) (n : ℕ) → byVerdict (verdictOf o) ≡ D.Refused n → afterJudging t q o ≡ cond (isOpen (q .line) && isCounted n) (oneMore n q) q
+judge-left : (t : Tables) (q : State) (o : Outcome) (n : ℕ) → byVerdict (verdictOf o) ≡ D.Refused n → afterJudging t q o ≡ cond (isOpen (q .conn) && isCounted n) (oneMore n q) q
 judge-left t q (Good x r) n e = let z : _≡_ {A = ℕ} 0 1 = cc in absurd (omega arith)
 judge-left t q Passed n e = let z : _≡_ {A = ℕ} 0 1 = cc in absurd (omega arith)
-judge-left t q (Bad m i) n e = let z : m ≡ n = cc in ap (λ (k : ℕ). cond (isOpen (q .line)) (withDrop k q) q) z ∙ drop-left n q (isOpen (q .line)) (slot n) refl refl
+judge-left t q (Bad m i) n e = let z : m ≡ n = cc in ap (λ (k : ℕ). cond (isOpen (q .conn)) (withDrop k q) q) z ∙ drop-left n q (isOpen (q .conn)) (slot n) refl refl
 
 sign-left : (q : State) (s out : List ℕ) (f : Found) (o : Outcome) (n : ℕ) → bySigning (signedBy q s f o .answer) ≡ D.Refused n
     → (outputBy q s out (f .entry) o ≡ out) × (signedBy q s f o .state ≡ q)
@@ -144,11 +144,11 @@ open-left t p isn f (Bad m i) n e = refl
 
 pub refusal : (c : Request) (n : ℕ) → reply c ≡ D.Refused n → Unchanged c n
 unfolding judged signed output asked openedPassively openedActively
-refusal (on (judge t a) q) n e = record { output = refl; state = judge-left t q (check t (q .line) (q .seen) a) n e }
+refusal (on (judge t a) q) n e = record { output = refl; state = judge-left t q (check t (q .conn) (q .seen) a) n e }
 refusal (on (sign t s out) q) n e =
     let u = sign-left q s out (outgoing t q) (checkSign t s (length out) q) n e in
     record { output = u .0; state = u .1 }
-refusal (on (ask t id) q) n e = record { output = refl; state = settle-left (first (askTests t id (q .line)) unrefused) q (withAsked id q) n e }
+refusal (on (ask t id) q) n e = record { output = refl; state = settle-left (first (askTests t id (q .conn)) unrefused) q (withAsked id q) n e }
 refusal (judgeSyn t a strict) n e = record { output = refl; state = refl }
 refusal (openPassively t a isn strict) n e =
     record { output = refl; state = open-left t (arrivalPair a) isn (recvEntry t (arrivalPair a) (keyId (a .segment)) .entry) (checkSyn t a strict) n e }

@@ -34,25 +34,25 @@ valid-of t e = go (checked t) refl
 
 module _ (t : Tables) (s out : List ℕ) (q : State) where
   abbrev place : Place
-  place = placeOn (q .line) (q .sent) (sequence s)
+  place = placeOn (q .conn) (q .sent) (sequence s)
 
   pub record Signs : Type 0 where
-    pub allowed : isFamily (q .line .pair .family) ≡ true
+    pub allowed : isFamily (q .conn .pair .family) ≡ true
     pub valid : ValidTable t
     pub fresh : Fresh s
     pub header : headerEnd s + addedBytes (outgoing t q) ≤ 60
     pub whole : length s + addedBytes (outgoing t q) ≤ 65535
-    pub source-port : sourcePort s ≡ q .line .pair .«local_port»
-    pub destination-port : destinationPort s ≡ q .line .pair .«remote_port»
-    pub stage : cond (isOpen (q .line)) (isBareSyn s) (not (isBareSyn s)) ≡ false
+    pub source-port : sourcePort s ≡ q .conn .pair .«local_port»
+    pub destination-port : destinationPort s ≡ q .conn .pair .«remote_port»
+    pub stage : cond (isOpen (q .conn)) (isBareSyn s) (not (isBareSyn s)) ≡ false
     pub entry : outgoing t q .there ≡ true
     pub is-located : located place ≡ true
-    pub number : (syn s && not (eqb (value place) (q .line .isn))) ≡ false
+    pub number : (syn s && not (eqb (value place) (q .conn .isn))) ≡ false
 
   none-signs : NoneApplies (signTests t s (length out) q (outgoing t q)) → Signs
   none-signs n =
       record {
-        allowed = not-false (isFamily (q .line .pair .family)) (search);
+        allowed = not-false (isFamily (q .conn .pair .family)) (search);
         valid = valid-of t (search);
         fresh =
             record {
@@ -65,8 +65,8 @@ module _ (t : Tables) (s out : List ℕ) (q : State) where
             };
         header = ltb-false 60 (headerEnd s + addedBytes (outgoing t q)) (search);
         whole = ltb-false 65535 (length s + addedBytes (outgoing t q)) (search);
-        source-port = eqb-true _ _ (not-false (eqb (sourcePort s) (q .line .pair .«local_port»)) (search));
-        destination-port = eqb-true _ _ (not-false (eqb (destinationPort s) (q .line .pair .«remote_port»)) (search));
+        source-port = eqb-true _ _ (not-false (eqb (sourcePort s) (q .conn .pair .«local_port»)) (search));
+        destination-port = eqb-true _ _ (not-false (eqb (destinationPort s) (q .conn .pair .«remote_port»)) (search));
         stage = search;
         entry = not-false (outgoing t q .there) (search);
         is-located = not-false (located place) (search);

@@ -1,5 +1,5 @@
 // The rules of a TCP-AO connection: the types that the calls take and give. What the calls do with them is defined in specs/;
-// the code is in `states`, `numbers` and `tcpao`. Document 01, "Positions", "A connection's life", "Numbers given back".
+// the code is in `states`, `checks` and `tcpao`. Document 01, "Positions", "A connection's life", "Numbers given back".
 // Every value of these types is a value that a call may get: no field is an enum, and nothing is assumed of it.
 use keys::entry::Pair;
 
@@ -25,7 +25,7 @@ pub enum Verdict {
 }
 
 // What is fixed while a connection stays open: the pair as this end holds it, and both ISNs. Stage 1 is open, any other opening.
-pub struct Line {
+pub struct Connection {
     pub stage: u8,
     pub pair: Pair,
     pub isn: u32,
@@ -35,7 +35,7 @@ pub struct Line {
 // A connection's state. `sent` is the reference of the direction that this end signs, `seen` that of the arriving one; `send_id` is the
 // outgoing key's SendID (current_key), `ask_id` the RecvID asked of the peer (rnext_key). `drops` counts the drops 20 to 29.
 pub struct State {
-    pub line: Line,
+    pub conn: Connection,
     pub sent: u64,
     pub seen: u64,
     pub send_id: u8,

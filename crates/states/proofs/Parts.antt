@@ -10,9 +10,9 @@ use Rattle.octets.specs.Octets.{get16, bytes16, bytes32, bytes64}
 use Rattle.keys.specs.Entry.{padded}
 use Rattle.keys.specs.MatchLaws.{Octets}
 use Rattle.rules.specs.Connection.{slots}
-use Rattle.rules.specs.declared.Line.{Line}
+use Rattle.rules.specs.declared.Connection.{Connection}
 use Rattle.rules.specs.declared.State.{State}
-use Rattle.states.specs.Layout.{familyAt, sendIdAt, askIdAt, localPortAt, remotePortAt, localAt, remoteAt, sentAt, seenAt, acceptedAt, dropsAt, stateBytes, get64, wordsAt, wordBytes, decodePair, decodeLine, decodeOf, encodeOf}
+use Rattle.states.specs.Layout.{familyAt, sendIdAt, askIdAt, localPortAt, remotePortAt, localAt, remoteAt, sentAt, seenAt, acceptedAt, dropsAt, stateBytes, get64, wordsAt, wordBytes, decodePair, decodeConnection, decodeOf, encodeOf}
 use Rattle.states.specs.LayoutLaws.{headOf, encode-decode}
 use Rattle.states.specs.WordLaws.{length-words}
 
@@ -67,11 +67,11 @@ one-written o w x y v at i h k p q r =
 
 -- The parts of a state.
 
-pub head-is : (s : State) (a b c d : List ℕ) → a ≡ bytes16 (s .line .pair .«local_port») → b ≡ bytes16 (s .line .pair .«remote_port») → c ≡ bytes32 (s .line .isn) → d ≡ bytes32 (s .line .«peer_isn»)
-    → s .line .pair .family ∷ s .line .stage ∷ s .«send_id» ∷ s .«ask_id» ∷ getD a 0 0 ∷ getD a 1 0 ∷ getD b 0 0 ∷ getD b 1 0
+pub head-is : (s : State) (a b c d : List ℕ) → a ≡ bytes16 (s .conn .pair .«local_port») → b ≡ bytes16 (s .conn .pair .«remote_port») → c ≡ bytes32 (s .conn .isn) → d ≡ bytes32 (s .conn .«peer_isn»)
+    → s .conn .pair .family ∷ s .conn .stage ∷ s .«send_id» ∷ s .«ask_id» ∷ getD a 0 0 ∷ getD a 1 0 ∷ getD b 0 0 ∷ getD b 1 0
     ∷ getD c 0 0 ∷ getD c 1 0 ∷ getD c 2 0 ∷ getD c 3 0 ∷ getD d 0 0 ∷ getD d 1 0 ∷ getD d 2 0 ∷ getD d 3 0 ∷ [] ≡ headOf s
 head-is s a b c d p q r t i =
-    s .line .pair .family ∷ s .line .stage ∷ s .«send_id» ∷ s .«ask_id» ∷ getD (p i) 0 0 ∷ getD (p i) 1 0 ∷ getD (q i) 0 0 ∷ getD (q i) 1 0
+    s .conn .pair .family ∷ s .conn .stage ∷ s .«send_id» ∷ s .«ask_id» ∷ getD (p i) 0 0 ∷ getD (p i) 1 0 ∷ getD (q i) 0 0 ∷ getD (q i) 1 0
     ∷ getD (r i) 0 0 ∷ getD (r i) 1 0 ∷ getD (r i) 2 0 ∷ getD (r i) 3 0 ∷ getD (t i) 0 0 ∷ getD (t i) 1 0 ∷ getD (t i) 2 0 ∷ getD (t i) 3 0 ∷ []
 
 -- a part of n bytes put right behind what stands there already
@@ -106,11 +106,11 @@ unfolding decodePair
 pair-read b l r p q h e f g k i =
     record { family = getD b familyAt 0; «local_port» = e i; «remote_port» = f i; local = filled b l localAt (omega arith) g i; remote = filled b r remoteAt (omega arith) k i }
 
-pub state-read : (b d : List ℕ) (l : Line) (p q r : ℕ) → length b ≡ stateBytes → Octets b → l ≡ decodeLine b → d ≡ wordsAt slots b dropsAt → p ≡ get64 b sentAt → q ≡ get64 b seenAt → r ≡ get64 b acceptedAt
-    → (record { line = l; sent = p; seen = q; «send_id» = getD b sendIdAt 0; «ask_id» = getD b askIdAt 0; accepted = r; drops = d } ≡ decodeOf b)
-    × (encodeOf (record { line = l; sent = p; seen = q; «send_id» = getD b sendIdAt 0; «ask_id» = getD b askIdAt 0; accepted = r; drops = d }) ≡ b)
+pub state-read : (b d : List ℕ) (l : Connection) (p q r : ℕ) → length b ≡ stateBytes → Octets b → l ≡ decodeConnection b → d ≡ wordsAt slots b dropsAt → p ≡ get64 b sentAt → q ≡ get64 b seenAt → r ≡ get64 b acceptedAt
+    → (record { conn = l; sent = p; seen = q; «send_id» = getD b sendIdAt 0; «ask_id» = getD b askIdAt 0; accepted = r; drops = d } ≡ decodeOf b)
+    × (encodeOf (record { conn = l; sent = p; seen = q; «send_id» = getD b sendIdAt 0; «ask_id» = getD b askIdAt 0; accepted = r; drops = d }) ≡ b)
 unfolding decodeOf
 state-read b d l p q r h o e f g k m = (same, ap encodeOf same ∙ encode-decode b h o)
   where
-    same : record { line = l; sent = p; seen = q; «send_id» = getD b sendIdAt 0; «ask_id» = getD b askIdAt 0; accepted = r; drops = d } ≡ decodeOf b
-    same i = record { line = e i; sent = g i; seen = k i; «send_id» = getD b sendIdAt 0; «ask_id» = getD b askIdAt 0; accepted = m i; drops = f i }
+    same : record { conn = l; sent = p; seen = q; «send_id» = getD b sendIdAt 0; «ask_id» = getD b askIdAt 0; accepted = r; drops = d } ≡ decodeOf b
+    same i = record { conn = e i; sent = g i; seen = k i; «send_id» = getD b sendIdAt 0; «ask_id» = getD b askIdAt 0; accepted = m i; drops = f i }

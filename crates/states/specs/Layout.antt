@@ -5,7 +5,7 @@ use mathlib.Core.List.{List, [], _∷_, _++_}
 use lib.ListN.{getD, take, drop}
 use Rattle.octets.specs.Octets.{get16, get32, bytes16, bytes32, bytes64}
 use Rattle.keys.specs.declared.entry.Pair.{Pair}
-use Rattle.rules.specs.declared.Line.{Line}
+use Rattle.rules.specs.declared.Connection.{Connection}
 use Rattle.rules.specs.declared.State.{State}
 use Rattle.rules.specs.Connection.{slots}
 
@@ -83,13 +83,13 @@ decodePair b =
       remote = take 16 (drop remoteAt b);
     }
 
-unfoldable pub decodeLine : List ℕ → Line
-decodeLine b = record { stage = getD b stageAt 0; pair = decodePair b; isn = get32 b isnAt; «peer_isn» = get32 b peerIsnAt }
+unfoldable pub decodeConnection : List ℕ → Connection
+decodeConnection b = record { stage = getD b stageAt 0; pair = decodePair b; isn = get32 b isnAt; «peer_isn» = get32 b peerIsnAt }
 
 unfoldable pub decodeOf : List ℕ → State
 decodeOf b =
     record {
-      line = decodeLine b;
+      conn = decodeConnection b;
       sent = get64 b sentAt;
       seen = get64 b seenAt;
       «send_id» = getD b sendIdAt 0;
@@ -109,16 +109,16 @@ row at bytes = record { at = at; bytes = bytes }
 
 unfoldable pub rows : State → List Row
 rows s =
-    row familyAt (s .line .pair .family ∷ [])
-    ∷ row stageAt (s .line .stage ∷ [])
+    row familyAt (s .conn .pair .family ∷ [])
+    ∷ row stageAt (s .conn .stage ∷ [])
     ∷ row sendIdAt (s .«send_id» ∷ [])
     ∷ row askIdAt (s .«ask_id» ∷ [])
-    ∷ row localPortAt (bytes16 (s .line .pair .«local_port»))
-    ∷ row remotePortAt (bytes16 (s .line .pair .«remote_port»))
-    ∷ row isnAt (bytes32 (s .line .isn))
-    ∷ row peerIsnAt (bytes32 (s .line .«peer_isn»))
-    ∷ row localAt (s .line .pair .local)
-    ∷ row remoteAt (s .line .pair .remote)
+    ∷ row localPortAt (bytes16 (s .conn .pair .«local_port»))
+    ∷ row remotePortAt (bytes16 (s .conn .pair .«remote_port»))
+    ∷ row isnAt (bytes32 (s .conn .isn))
+    ∷ row peerIsnAt (bytes32 (s .conn .«peer_isn»))
+    ∷ row localAt (s .conn .pair .local)
+    ∷ row remoteAt (s .conn .pair .remote)
     ∷ row sentAt (bytes64 (s .sent))
     ∷ row seenAt (bytes64 (s .seen))
     ∷ row acceptedAt (bytes64 (s .accepted))

@@ -11,18 +11,18 @@ use Rattle.octets.specs.Octets.{get16, get32, bytes16, bytes32, bytes64}
 use Rattle.keys.specs.MatchLaws.{Octets}
 use Rattle.rules.specs.declared.State.{State}
 use Rattle.rules.specs.Connection.{slots}
-use Rattle.states.specs.Layout.{familyAt, stageAt, sendIdAt, askIdAt, localPortAt, remotePortAt, isnAt, peerIsnAt, localAt, remoteAt, sentAt, seenAt, acceptedAt, dropsAt, stateBytes, get64, wordsAt, wordBytes, decodePair, decodeLine, decodeOf, Row, rows, joined, encodeOf}
+use Rattle.states.specs.Layout.{familyAt, stageAt, sendIdAt, askIdAt, localPortAt, remotePortAt, isnAt, peerIsnAt, localAt, remoteAt, sentAt, seenAt, acceptedAt, dropsAt, stateBytes, get64, wordsAt, wordBytes, decodePair, decodeConnection, decodeOf, Row, rows, joined, encodeOf}
 use Rattle.states.specs.WordLaws.{back16, back32, back64, from16, from32, from64, forth16, forth32, forth64, length-words, words-back, words-from, words-forth}
 
 -- What every value of the type `State` has: its arrays are full, and each number is within its width.
 pub record Value (s : State) : Type 0 where
-  pub local : length (s .line .pair .local) ≡ 16
-  pub remote : length (s .line .pair .remote) ≡ 16
+  pub local : length (s .conn .pair .local) ≡ 16
+  pub remote : length (s .conn .pair .remote) ≡ 16
   pub counts : length (s .drops) ≡ slots
-  pub local-port : s .line .pair .«local_port» < 2 ^ 16
-  pub remote-port : s .line .pair .«remote_port» < 2 ^ 16
-  pub isn : s .line .isn < 2 ^ 32
-  pub peer-isn : s .line .«peer_isn» < 2 ^ 32
+  pub local-port : s .conn .pair .«local_port» < 2 ^ 16
+  pub remote-port : s .conn .pair .«remote_port» < 2 ^ 16
+  pub isn : s .conn .isn < 2 ^ 32
+  pub peer-isn : s .conn .«peer_isn» < 2 ^ 32
   pub sent : s .sent < 2 ^ 64
   pub seen : s .seen < 2 ^ 64
   pub accepted : s .accepted < 2 ^ 64
@@ -33,12 +33,12 @@ pub record Value (s : State) : Type 0 where
 -- as the parts that the code puts together: what stands before the addresses, both addresses, three numbers, the counts
 abbrev pub headOf : State → List ℕ
 headOf s =
-    s .line .pair .family
-    ∷ s .line .stage
+    s .conn .pair .family
+    ∷ s .conn .stage
     ∷ s .«send_id»
     ∷ s .«ask_id»
-    ∷ (bytes16 (s .line .pair .«local_port»)
-    ++ (bytes16 (s .line .pair .«remote_port») ++ (bytes32 (s .line .isn) ++ bytes32 (s .line .«peer_isn»))))
+    ∷ (bytes16 (s .conn .pair .«local_port»)
+    ++ (bytes16 (s .conn .pair .«remote_port») ++ (bytes32 (s .conn .isn) ++ bytes32 (s .conn .«peer_isn»))))
 
 abbrev pub numbersOf : State → List ℕ
 numbersOf s = s .sent ∷ s .seen ∷ s .accepted ∷ []
@@ -47,14 +47,14 @@ abbrev pub fromNumbers : State → List ℕ
 fromNumbers s = wordBytes (numbersOf s) ++ wordBytes (s .drops)
 
 abbrev pub fromRemote : State → List ℕ
-fromRemote s = s .line .pair .remote ++ fromNumbers s
+fromRemote s = s .conn .pair .remote ++ fromNumbers s
 
 abbrev pub fromLocal : State → List ℕ
-fromLocal s = s .line .pair .local ++ fromRemote s
+fromLocal s = s .conn .pair .local ++ fromRemote s
 
 pub parts : (s : State) → encodeOf s ≡ headOf s ++ fromLocal s
 unfolding encodeOf joined rows wordBytes
-parts s = ap (λ (l : List ℕ). headOf s ++ (s .line .pair .local ++ (s .line .pair .remote ++ (wordBytes (numbersOf s) ++ l)))) (append-nil (wordBytes (s .drops)))
+parts s = ap (λ (l : List ℕ). headOf s ++ (s .conn .pair .local ++ (s .conn .pair .remote ++ (wordBytes (numbersOf s) ++ l)))) (append-nil (wordBytes (s .drops)))
 
 -- each field begins where the one before ends, at the place that is named for it, and the last ends at the state's length
 abbrev pub Placed : ℕ → List Row → ℕ → Type 0
@@ -93,7 +93,7 @@ module _ (b : List ℕ) (whole : length b ≡ stateBytes) (o : Octets b) where
   eight at h = let d = length-drop at b in ap bytes64 (from64 b at) ∙ forth64 (drop at b) (omega arith) (behind at)
 
   pub encode-decode : encodeOf (decodeOf b) ≡ b
-  unfolding encodeOf joined rows decodeOf decodeLine decodePair
+  unfolding encodeOf joined rows decodeOf decodeConnection decodePair
   encode-decode =
       glue b _ _ familyAt 1 (byte familyAt (omega arith))
       (glue b _ _ stageAt 1 (byte stageAt (omega arith))
@@ -114,30 +114,30 @@ module _ (b : List ℕ) (whole : length b ≡ stateBytes) (o : Octets b) where
 
 module _ (s : State) (v : Value s) where
   remote-from : drop 16 (fromLocal s) ≡ fromRemote s
-  remote-from = drop-at (s .line .pair .local) (fromRemote s) 16 (v .local)
+  remote-from = drop-at (s .conn .pair .local) (fromRemote s) 16 (v .local)
 
   numbers-from : (k : ℕ) → drop (32 + k) (fromLocal s) ≡ drop k (fromNumbers s)
   numbers-from k =
       sym (drop-drop k 32 (fromLocal s))
-      ∙ ap (drop k) (sym (drop-drop 16 16 (fromLocal s)) ∙ ap (drop 16) remote-from ∙ drop-at (s .line .pair .remote) (fromNumbers s) 16 (v .remote))
+      ∙ ap (drop k) (sym (drop-drop 16 16 (fromLocal s)) ∙ ap (drop 16) remote-from ∙ drop-at (s .conn .pair .remote) (fromNumbers s) 16 (v .remote))
 
   read : decodeOf (headOf s ++ fromLocal s) ≡ s
-  unfolding decodeOf decodeLine decodePair wordBytes
+  unfolding decodeOf decodeConnection decodePair wordBytes
   read i =
       record {
-        line =
+        conn =
             record {
-              stage = s .line .stage;
+              stage = s .conn .stage;
               pair =
                   record {
-                    family = s .line .pair .family;
-                    «local_port» = back16 (s .line .pair .«local_port») (v .local-port) i;
-                    «remote_port» = back16 (s .line .pair .«remote_port») (v .remote-port) i;
-                    local = take-at (s .line .pair .local) (fromRemote s) 16 (v .local) i;
-                    remote = (ap (take 16) remote-from ∙ take-at (s .line .pair .remote) (fromNumbers s) 16 (v .remote)) i;
+                    family = s .conn .pair .family;
+                    «local_port» = back16 (s .conn .pair .«local_port») (v .local-port) i;
+                    «remote_port» = back16 (s .conn .pair .«remote_port») (v .remote-port) i;
+                    local = take-at (s .conn .pair .local) (fromRemote s) 16 (v .local) i;
+                    remote = (ap (take 16) remote-from ∙ take-at (s .conn .pair .remote) (fromNumbers s) 16 (v .remote)) i;
                   };
-              isn = back32 (s .line .isn) (v .isn) i;
-              «peer_isn» = back32 (s .line .«peer_isn») (v .peer-isn) i;
+              isn = back32 (s .conn .isn) (v .isn) i;
+              «peer_isn» = back32 (s .conn .«peer_isn») (v .peer-isn) i;
             };
         sent = (from64 (headOf s ++ fromLocal s) sentAt ∙ ap (λ (l : List ℕ). get64 l 0) (numbers-from 0) ∙ back64 (s .sent) (v .sent)) i;
         seen = (from64 (headOf s ++ fromLocal s) seenAt ∙ ap (λ (l : List ℕ). get64 l 0) (numbers-from 8) ∙ back64 (s .seen) (v .seen)) i;

@@ -4,7 +4,7 @@ ghost use mathlib.Core.Path.{_≡_};
 ghost use Rattle.rules.specs.Position.{position};
 ghost use Rattle.rules.specs.Connection.{placeOn, value, extensionOf};
 use crate::writers::is_open;
-use rules::Line;
+use rules::Connection;
 use rules::Place;
 
 // "Subtraction of sequence numbers wraps at 2^32": below 2^31 the number lies so far ahead of the reference, above it behind; at exactly
@@ -32,10 +32,10 @@ pub fn locate(reference: u64, s: u32) -> Place
 }
 
 // "A bare SYN and the SYN+ACK that opens have .. their own number as position; once open, every segment goes by its position."
-pub fn place_on(line: Line, reference: u64, number: u32) -> Place
-    ensures { λ r. ⌜ r ≡ placeOn line reference number ⌝ }
+pub fn place_on(conn: Connection, reference: u64, number: u32) -> Place
+    ensures { λ r. ⌜ r ≡ placeOn conn reference number ⌝ }
 {
-    if is_open(line) {
+    if is_open(conn) {
         return locate(reference, number);
     }
     Place::At(number as u64)

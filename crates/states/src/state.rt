@@ -7,10 +7,10 @@ ghost use lib.ListN.{length};
 ghost use lib.Seq.{paste};
 ghost use Rattle.rules.specs.Connection.{slots};
 ghost use Rattle.states.specs.LayoutLaws.{headOf};
-ghost use Rattle.states.specs.Layout.{dropsAt, stateBytes, get64, wordsAt, wordBytes, decodePair, decodeLine, decodeOf, encodeOf};
+ghost use Rattle.states.specs.Layout.{dropsAt, stateBytes, get64, wordsAt, wordBytes, decodePair, decodeConnection, decodeOf, encodeOf};
 use crate::writers::field_of;
 use keys::entry::Pair;
-use rules::Line;
+use rules::Connection;
 use rules::State;
 
 // Where each field stands.
@@ -59,15 +59,15 @@ fn words_at(out: &mut [u8], at: usize, words: &[u64])
 fn head(s: State) -> [u8; 16]
     ensures { λ r. ⌜ r ≡ headOf s ⌝ }
 {
-    let line = s.line;
-    let pair = line.pair;
+    let conn = s.conn;
+    let pair = conn.pair;
     let local_port = octets::bytes16(pair.local_port);
     let remote_port = octets::bytes16(pair.remote_port);
-    let isn = octets::bytes32(line.isn);
-    let peer_isn = octets::bytes32(line.peer_isn);
+    let isn = octets::bytes32(conn.isn);
+    let peer_isn = octets::bytes32(conn.peer_isn);
     [
         pair.family,
-        line.stage,
+        conn.stage,
         s.send_id,
         s.ask_id,
         local_port[0],
@@ -108,8 +108,8 @@ pub fn encode(s: State) -> [u8; 152]
     ensures bytes { λ r. ⌜ r ≡ encodeOf s ⌝ }
     ensures back { λ r. ⌜ decodeOf r ≡ s ⌝ }
 {
-    let line = s.line;
-    let pair = line.pair;
+    let conn = s.conn;
+    let pair = conn.pair;
     let local = pair.local;
     let remote = pair.remote;
     let numbers = [s.sent, s.seen, s.accepted];
@@ -140,12 +140,12 @@ fn pair_from(bytes: &[u8]) -> Pair
     }
 }
 
-fn line_from(bytes: &[u8]) -> Line
+fn conn_from(bytes: &[u8]) -> Connection
     requires { ⌜ length (now bytes) ≡ stateBytes ⌝ }
-    ensures { λ r. ⌜ r ≡ decodeLine (now (bytes .entry)) ⌝ }
+    ensures { λ r. ⌜ r ≡ decodeConnection (now (bytes .entry)) ⌝ }
 {
     let pair = pair_from(bytes);
-    Line {
+    Connection {
         stage: bytes[STAGE],
         pair,
         isn: octets::load32(bytes, ISN),
@@ -171,10 +171,10 @@ pub fn decode(bytes: &[u8]) -> State
     ensures state { λ r. ⌜ r ≡ decodeOf (now (bytes .entry)) ⌝ }
     ensures back { λ r. ⌜ encodeOf r ≡ now (bytes .entry) ⌝ }
 {
-    let line = line_from(bytes);
+    let conn = conn_from(bytes);
     let drops = drops_from(bytes);
     State {
-        line,
+        conn,
         sent: load64(bytes, SENT),
         seen: load64(bytes, SEEN),
         send_id: bytes[SEND_ID],

@@ -11,7 +11,7 @@ use crate::counts::bump;
 use crate::counts::count_drop;
 use crate::counts::larger;
 use keys::entry::Pair;
-use rules::Line;
+use rules::Connection;
 use rules::State;
 
 // An address in its field of sixteen bytes: IPv4 uses the first four.
@@ -58,24 +58,24 @@ pub fn is_address(address: &[u8], family: u8, field: [u8; 16]) -> bool
 }
 
 // Stage 1 is open, every other value opening.
-pub fn is_open(line: Line) -> bool
-    ensures { λ r. ⌜ r ≡ isOpen line ⌝ }
+pub fn is_open(conn: Connection) -> bool
+    ensures { λ r. ⌜ r ≡ isOpen conn ⌝ }
 {
-    line.stage == 1
+    conn.stage == 1
 }
 
 // "Opening sets each reference to that side's ISN"; of the counts, "All are 0 at opening; the segment that opens is not counted."
 pub fn opened(pair: Pair, isn: u32, peer_isn: u32, send_id: u8, ask_id: u8) -> State
     ensures { λ r. ⌜ r ≡ openedOf pair isn «peer_isn» «send_id» «ask_id» ⌝ }
 {
-    let line = Line {
+    let conn = Connection {
         stage: 1,
         pair,
         isn,
         peer_isn,
     };
     State {
-        line,
+        conn,
         sent: isn as u64,
         seen: peer_isn as u64,
         send_id,
@@ -90,7 +90,7 @@ pub fn opening(pair: Pair, isn: u32, send_id: u8, ask_id: u8) -> State
     ensures { λ r. ⌜ r ≡ openingOf pair isn «send_id» «ask_id» ⌝ }
 {
     let mut q = opened(pair, isn, 0, send_id, ask_id);
-    q.line.stage = 0;
+    q.conn.stage = 0;
     q
 }
 

@@ -15,7 +15,7 @@ use Rattle.keys.specs.Table.{Tables, checked, sendEntry, recvEntry, anyEntry}
 use Rattle.rules.specs.declared.Outcome.{Outcome}
 use Rattle.rules.specs.declared.Outcome.the-variants.{Good, Passed, Bad}
 use Rattle.rules.specs.declared.Verdict.{Verdict}
-use Rattle.rules.specs.declared.Line.{Line}
+use Rattle.rules.specs.declared.Connection.{Connection}
 use Rattle.rules.specs.declared.State.{State}
 use Rattle.rules.specs.NumberLaws.{eachGives, none-applied}
 use Rattle.rules.specs.GroupLaws.{first-clear, none-clear}
@@ -24,7 +24,7 @@ use Rattle.rules.specs.Segment.{keyId}
 use Rattle.rules.specs.Connection.{Arrival, sized, arrivalPair, available, nextKey, opened, empty}
 use Rattle.rules.specs.Calls.{refuse, synMissing, synUnknown, judgeGroups, check, synGroups, judgeSynTests, checkSyn, verdictOf, indexOf, afterJudging, judgedBy, judged, judgedSyn, openedBy, openedPassively}
 use Rattle.tcpao.specs.Arriving.{AtNumber, TakenBy}
-use Rattle.numbers.specs.GroupLaws.{yes, no, isFinal, Else, refusal-final}
+use Rattle.checks.specs.GroupLaws.{yes, no, isFinal, Else, refusal-final}
 
 -- the key rule
 
@@ -43,7 +43,7 @@ good-at : {x r y s : ℕ} → Good x r ≡ Good y s → x ≡ y
 good-at e = cc
 
 -- while opening, it stands at its own number
-pub at-number : (t : Tables) (l : Line) (reference : ℕ) (a : Arrival) {o : Outcome} → o ≡ check t l reference a → {n : ℕ} → n ≡ sequence (a .segment) → AtNumber l n o
+pub at-number : (t : Tables) (l : Connection) (reference : ℕ) (a : Arrival) {o : Outcome} → o ≡ check t l reference a → {n : ℕ} → n ≡ sequence (a .segment) → AtNumber l n o
 unfolding check
 at-number t l reference a e q x r g opening =
     let none = none-of t l reference a x r (sym e ∙ g) in
@@ -77,7 +77,7 @@ module _ (t : Tables) (a : Arrival) (strict : Bool) where
 
 -- what the calls return
 
-pub judged-is : (t : Tables) (a : Arrival) (q : State) {o : Outcome} {v : Verdict} {i : ℕ} {s : State} → o ≡ check t (q .line) (q .seen) a → v ≡ verdictOf o → i ≡ indexOf o
+pub judged-is : (t : Tables) (a : Arrival) (q : State) {o : Outcome} {v : Verdict} {i : ℕ} {s : State} → o ≡ check t (q .conn) (q .seen) a → v ≡ verdictOf o → i ≡ indexOf o
     → s ≡ afterJudging t q o → record { verdict = v; index = i; state = s } ≡ judged t a q
 unfolding judged
 judged-is t a q e ev ei es = (λ k. record { verdict = ev k; index = ei k; state = es k }) ∙ ap (judgedBy t q) e

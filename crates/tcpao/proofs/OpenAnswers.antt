@@ -19,7 +19,7 @@ use Rattle.rules.specs.declared.Settled.{Settled}
 use Rattle.rules.specs.Numbers.{test, first}
 use Rattle.rules.specs.Connection.{sized, pairOf, opening, empty}
 use Rattle.rules.specs.Calls.{refuse, unrefused, addressTests, tableTests, openTests, settledBy, openedWith, openedActively}
-use Rattle.numbers.specs.GroupLaws.{Else, passed, stop, pass}
+use Rattle.checks.specs.GroupLaws.{Else, passed, stop, pass}
 
 -- addresses that 19 lets by have at most 16 bytes
 pub small : (a b : List ℕ) {z : Outcome} {x r : ℕ} → z ≡ first (addressTests a b) unrefused → z ≡ Good x r → (length a ≤ 16) × (length b ≤ 16)

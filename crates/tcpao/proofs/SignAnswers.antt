@@ -26,7 +26,7 @@ use Rattle.tcpao.specs.SignedBytes.{Signable}
 module _ (t : Tables) (s out : List ℕ) (q : State) where
   -- what the code's tests come to, where f is the entry found
   abbrev tested : Found → Outcome
-  tested f = first (signTests t s (length out) q f) (Good (value (placeOn (q .line) (q .sent) (sequence s))) (q .«ask_id»))
+  tested f = first (signTests t s (length out) q f) (Good (value (placeOn (q .conn) (q .sent) (sequence s))) (q .«ask_id»))
 
   module _ {f : Found} {o : Outcome} (is : f ≡ outgoing t q) (e : o ≡ tested f) where
     checks : o ≡ checkSign t s (length out) q
@@ -50,7 +50,7 @@ module _ (t : Tables) (s out : List ℕ) (q : State) where
   can {x} {r} e =
       let g = signs-good t s out q x r e .0 in
       let n = none-applied isBad (signTests t s (length out) q (outgoing t q)) _ (rw (refusal-bad (checked t))) (ap isBad e) in
-      let m = valid-proper t (g .valid) (send-holder t (q .line .pair) (q .«send_id») (g .entry) .0 .place) .mac in
+      let m = valid-proper t (g .valid) (send-holder t (q .conn .pair) (q .«send_id») (g .entry) .0 .place) .mac in
       let a : addedBytes (outgoing t q) ≡ 4 + outgoing t q .entry .secret .«mac_bytes» = ap (λ (w : Bool). 4 + cond w (outgoing t q .entry .secret .«mac_bytes») (macBytes 1)) (g .entry) in
       record {
         low = g .fresh .low;

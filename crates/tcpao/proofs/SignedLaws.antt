@@ -99,13 +99,13 @@ module _ (s out : List ℕ) (secret : Secret) (can : Signable s out secret) {end
 
   pub writes : (x : ℕ) (q : State) (entry : Entry) (o : List ℕ) {extension : ℕ} {head tag c : List ℕ} → entry .secret ≡ secret → extension ≡ extensionOf x
       → head ≡ headBytes (q .«send_id») (q .«ask_id») (4 + n) (take end s)
-      → tag ≡ tagOf secret (leaving (q .line)) extension 20 (length s + (4 + n)) (head ++ (replicate n 0 ++ drop 20 (take end s))) (drop end s)
+      → tag ≡ tagOf secret (leaving (q .conn)) extension 20 (length s + (4 + n)) (head ++ (replicate n 0 ++ drop 20 (take end s))) (drop end s)
       → c ≡ written (head ++ (take n tag ++ drop 20 s)) o → c ≡ written (signedSegment entry q x s) o
   unfolding signedSegment
   writes x q entry o {extension} {head} {tag} {c} es ex eh et ec =
       let k = q .«send_id» in
       let r = q .«ask_id» in
-      let f = leaving (q .line) in
+      let f = leaving (q .conn) in
       let g : take end s ≡ take (headerEnd s) s = ap (λ (i : ℕ). take i s) e in
       let h : head ≡ headBytes k r (4 + n) (take (headerEnd s) s) = eh ∙ ap (headBytes k r (4 + n)) g in
       let t = et ∙ (λ i. tagOf secret f (ex i) 20 (length s + (4 + n)) (h i ++ (replicate n 0 ++ drop 20 (g i))) (drop (e i) s)) in

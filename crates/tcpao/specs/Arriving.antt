@@ -5,14 +5,14 @@ use mathlib.Core.Bool.{true, false}
 use Rattle.wire.specs.Header.{sequence}
 use Rattle.keys.specs.declared.entry.Ids.{Ids}
 use Rattle.keys.specs.Table.{Tables, recvEntry}
-use Rattle.rules.specs.declared.Line.{Line}
+use Rattle.rules.specs.declared.Connection.{Connection}
 use Rattle.rules.specs.declared.Outcome.{Outcome}
 use Rattle.rules.specs.declared.Outcome.the-variants.{Good}
 use Rattle.rules.specs.Segment.{keyId}
 use Rattle.rules.specs.Connection.{Arrival, sized, arrivalPair, isOpen}
 
 -- what is accepted while opening stands at its own number
-abbrev pub AtNumber : Line → ℕ → Outcome → Type 0
+abbrev pub AtNumber : Connection → ℕ → Outcome → Type 0
 AtNumber l number o = (x r : ℕ) → o ≡ Good x r → isOpen l ≡ false → x ≡ number
 
 -- a bare SYN that is accepted: of its addresses, its position, and the IDs of the entry that was found for it

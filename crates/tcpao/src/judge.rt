@@ -1,4 +1,4 @@
-// The calls that judge: document 01, "A connection's life" and "Numbers given back". `numbers::check` says which number or position; here the answer
+// The calls that judge: document 01, "A connection's life" and "Numbers given back". `checks::check` says which number or position; here the answer
 // and the new state are made of it. No call assumes anything; what a step assumes of the outcome is a fact of that check.
 ghost use mathlib.Core.Path.{_≡_};
 ghost use mathlib.Core.Bool.{false, cond};
@@ -7,13 +7,13 @@ ghost use Rattle.rules.specs.Segment.{keyId};
 ghost use Rattle.rules.specs.Connection.{arrivalPair, isOpen, nextKey, withDrop};
 ghost use Rattle.rules.specs.Calls.{verdictOf, indexOf, afterJudging, openedBy, judged, judgedSyn, openedPassively};
 ghost use Rattle.tcpao.specs.Arriving.{AtNumber, TakenBy};
+use checks::begun::finished;
+use checks::check::arrival_pair;
+use checks::check::begin_syn;
+use checks::check::check;
+use checks::check::check_syn;
 use keys::entry::Ids;
 use keys::entry::Pair;
-use numbers::begun::finished;
-use numbers::check::arrival_pair;
-use numbers::check::begin_syn;
-use numbers::check::check;
-use numbers::check::check_syn;
 use rules::Checked;
 use rules::Judged;
 use rules::Outcome;
@@ -65,24 +65,24 @@ fn next_key(table: &[u8], pair: Pair, rnext: u8, current: u8) -> u8
 
 // An accepted segment at position x, whose number is `number`: it opens, or is counted and moves the reference.
 fn accepted(table: &[u8], q: State, x: u64, rnext: u8, number: u32) -> State
-    requires { ⌜ (isOpen (q .line) ≡ false → x ≡ number) ⌝ }
+    requires { ⌜ (isOpen (q .conn) ≡ false → x ≡ number) ⌝ }
     ensures { λ r. ⌜ r ≡ afterJudging (now (table .entry)) q (Outcome.Good x rnext) ⌝ }
 {
-    let line = q.line;
-    let pair = line.pair;
+    let conn = q.conn;
+    let pair = conn.pair;
     let ask = q.ask_id;
     let key = next_key(table, pair, rnext, q.send_id);
-    if is_open(line) {
+    if is_open(conn) {
         return with_accepted(x, key, q);
     }
-    opened(pair, line.isn, number, key, ask)
+    opened(pair, conn.isn, number, key, ask)
 }
 
 // A drop is counted once open.
 fn dropped(n: u8, q: State) -> State
-    ensures { λ r. ⌜ r ≡ cond (isOpen (q .line)) (withDrop n q) q ⌝ }
+    ensures { λ r. ⌜ r ≡ cond (isOpen (q .conn)) (withDrop n q) q ⌝ }
 {
-    let held = q.line;
+    let held = q.conn;
     if is_open(held) {
         return with_drop(n, q);
     }
@@ -90,7 +90,7 @@ fn dropped(n: u8, q: State) -> State
 }
 
 fn after_judging(table: &[u8], q: State, number: u32, o: Outcome) -> State
-    requires { ⌜ AtNumber (q .line) number o ⌝ }
+    requires { ⌜ AtNumber (q .conn) number o ⌝ }
     ensures { λ r. ⌜ r ≡ afterJudging (now (table .entry)) q o ⌝ }
 {
     match o {
@@ -110,8 +110,8 @@ pub fn judge(
 ) -> Judged
     ensures { λ r. ⌜ r ≡ judged (now (table .entry)) (record { source = now (source .entry); destination = now (destination .entry); segment = now (segment .entry) }) state ⌝ }
 {
-    let line = state.line;
-    let o = check(table, source, destination, segment, line, state.seen);
+    let conn = state.conn;
+    let o = check(table, source, destination, segment, conn, state.seen);
     let verdict = verdict_of(o);
     let index = index_of(o);
     let next = after_judging(table, state, sequence(segment), o);

@@ -2,8 +2,8 @@
 // shares with the operator's call. Assumes nothing.
 ghost use mathlib.Core.Path.{_≡_};
 ghost use Rattle.rules.specs.Calls.{settledBy, openedActively};
-use numbers::faults::address_faults;
-use numbers::opening::key_faults;
+use checks::faults::address_faults;
+use checks::opening::key_faults;
 use rules::Done;
 use rules::Outcome;
 use rules::Settled;

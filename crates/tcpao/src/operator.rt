@@ -4,8 +4,8 @@ ghost use mathlib.Core.Path.{_≡_};
 ghost use Rattle.keys.specs.Table.{checked};
 ghost use Rattle.rules.specs.Calls.{asked};
 use crate::open::settled_by;
+use checks::opening::ask_faults;
 use keys::table::Loaded;
-use numbers::opening::ask_faults;
 use rules::Settled;
 use rules::State;
 use states::writers::with_asked;
@@ -20,6 +20,6 @@ pub fn check_table(table: &[u8]) -> Loaded
 pub fn ask(table: &[u8], recv_id: u8, state: State) -> Settled
     ensures { λ r. ⌜ r ≡ asked (now (table .entry)) «recv_id» state ⌝ }
 {
-    let outcome = ask_faults(table, recv_id, state.line);
+    let outcome = ask_faults(table, recv_id, state.conn);
     settled_by(outcome, state, with_asked(recv_id, state))
 }

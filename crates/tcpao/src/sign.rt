@@ -1,4 +1,4 @@
-// Signing: document 01, "A connection's life" and "What the MAC covers". The number is decided first (`numbers::signing`); only then is a byte of the
+// Signing: document 01, "A connection's life" and "What the MAC covers". The number is decided first (`checks::signing`); only then is a byte of the
 // output written, and only the signed length's. Assumes nothing at the call; the functions below it say what the tests left.
 ghost use mathlib.Core.Path.{_≡_};
 ghost use mathlib.Core.Bool.{cond};
@@ -9,14 +9,14 @@ ghost use Rattle.rules.specs.Connection.{isOpen, leaving};
 ghost use Rattle.rules.specs.Calls.{signedSegment, written, signed, output};
 ghost use Rattle.rules.specs.declared.Signing.the-variants as S;
 ghost use Rattle.traffic.specs.Filled.{filled};
-ghost use Rattle.traffic.specs.Way.{flowOf};
+ghost use Rattle.traffic.specs.Flow.{flowOf};
 ghost use Rattle.traffic.specs.TagLaws.{tagOf};
 ghost use Rattle.tcpao.specs.SignedBytes.{headBytes, Signable};
+use checks::signing::added_bytes;
+use checks::signing::check_sign;
 use keys::entry::Entry;
 use keys::entry::Secret;
-use numbers::signing::added_bytes;
-use numbers::signing::check_sign;
-use rules::Line;
+use rules::Connection;
 use rules::Outcome;
 use rules::Signed;
 use rules::Signing;
@@ -24,31 +24,31 @@ use rules::State;
 use states::position::extension_of;
 use states::writers::is_open;
 use states::writers::with_sent;
+use traffic::flow::Flow;
 use traffic::tag::segment_tag;
-use traffic::way::Way;
 
 // "For a bare SYN (SYN set, ACK clear) the destination ISN is zero", and while opening nothing else is signed.
-fn destination_isn(line: Line) -> u32
-    ensures { λ r. ⌜ r ≡ cond (isOpen line) (line .«peer_isn») 0 ⌝ }
+fn destination_isn(conn: Connection) -> u32
+    ensures { λ r. ⌜ r ≡ cond (isOpen conn) (conn .«peer_isn») 0 ⌝ }
 {
-    if is_open(line) { line.peer_isn } else { 0 }
+    if is_open(conn) { conn.peer_isn } else { 0 }
 }
 
-// The way of a segment that leaves: we are its source.
-fn leaving_way(line: Line) -> Way
-    ensures { λ r. ⌜ flowOf r ≡ leaving line ⌝ }
+// The flow of a segment that leaves: we are its source.
+fn leaving_flow(conn: Connection) -> Flow
+    ensures { λ r. ⌜ flowOf r ≡ leaving conn ⌝ }
 {
-    let pair = line.pair;
+    let pair = conn.pair;
     let source = pair.local;
     let destination = pair.remote;
-    Way {
+    Flow {
         family: pair.family,
         source,
         destination,
         source_port: pair.local_port,
         destination_port: pair.remote_port,
-        source_isn: line.isn,
-        destination_isn: destination_isn(line),
+        source_isn: conn.isn,
+        destination_isn: destination_isn(conn),
     }
 }
 
@@ -103,11 +103,11 @@ fn tag_of(
     end: usize,
     head: [u8; 24],
     secret: Secret,
-    line: Line,
+    conn: Connection,
     extension: u32,
 ) -> [u8; 20]
     requires { ⌜ (20 ≤ end) × (end ≤ length (now segment)) × (end + (4 + secret .«mac_bytes») ≤ 60) ⌝ }
-    ensures { λ r. ⌜ r ≡ tagOf secret (leaving line) extension 20 (length (now (segment .entry)) + (4 + secret .«mac_bytes»)) (head ++ (replicate (secret .«mac_bytes») 0 ++ drop 20 (take end (now (segment .entry))))) (drop end (now (segment .entry))) ⌝ }
+    ensures { λ r. ⌜ r ≡ tagOf secret (leaving conn) extension 20 (length (now (segment .entry)) + (4 + secret .«mac_bytes»)) (head ++ (replicate (secret .«mac_bytes») 0 ++ drop 20 (take end (now (segment .entry))))) (drop end (now (segment .entry))) ⌝ }
 {
     let n = secret.mac_bytes as usize;
     let h = blank_header(&segment[..end], head, n);
@@ -115,7 +115,7 @@ fn tag_of(
     let len = segment.len() + (4 + n);
     segment_tag(
         secret,
-        leaving_way(line),
+        leaving_flow(conn),
         extension,
         20,
         len,
@@ -143,7 +143,7 @@ fn write_signed(segment: &[u8], out: &mut [u8], entry: Entry, state: State, x: u
     let secret = entry.secret;
     let n = secret.mac_bytes;
     let head = head_of(&segment[..end], state.send_id, state.ask_id, 4 + n);
-    let tag = tag_of(segment, end, head, secret, state.line, extension_of(x));
+    let tag = tag_of(segment, end, head, secret, state.conn, extension_of(x));
     let m = n as usize;
     lay(segment, out, head, &tag[..m]);
 }
@@ -164,8 +164,8 @@ pub fn sign(table: &[u8], segment: &[u8], out: &mut [u8], state: State) -> Signe
     ensures answer { λ r. ⌜ r ≡ signed (now (table .entry)) (now (segment .entry)) (now (out .entry)) state ⌝ }
     ensures storage { λ _. ⌜ now (out .exit) ≡ output (now (table .entry)) (now (segment .entry)) (now (out .entry)) state ⌝ }
 {
-    let line = state.line;
-    let found = keys::table::find_send(table, line.pair, state.send_id);
+    let conn = state.conn;
+    let found = keys::table::find_send(table, conn.pair, state.send_id);
     match check_sign(table, segment, out.len(), state, found) {
         Outcome::Good(x, _) => {
             write_signed(segment, out, found.entry, state, x);

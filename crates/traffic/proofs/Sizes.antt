@@ -1,4 +1,4 @@
--- How much room the parts of a front need, for any way and any length; and the two pseudo-headers. Assumes nothing.
+-- How much room the parts of a front need, for any flow and any length; and the two pseudo-headers. Assumes nothing.
 use Prim.Native.Nat.{ℕ, _+_, _≤_}
 use mathlib.Core.Path.{_≡_, sym, ap, _∙_}
 use mathlib.Core.Bool.{Bool, true, false, cond}
@@ -13,12 +13,12 @@ use Rattle.keys.specs.Entry.{width}
 use Rattle.keys.specs.EntryLaws.{width-le}
 use Rattle.rules.specs.Mac.{context, pseudoHeader}
 use Rattle.traffic.specs.Assembled.{Pushed}
-use Rattle.traffic.specs.Way.{flowOf}
+use Rattle.traffic.specs.Flow.{flowOf}
 use Rattle.traffic.specs.declared.assembled.Assembled.{Assembled}
-use Rattle.traffic.specs.declared.way.Way.{Way}
+use Rattle.traffic.specs.declared.flow.Flow.{Flow}
 use Rattle.traffic.proofs.Zeros.{at-most}
 
-module _ (w : Way) where
+module _ (w : Flow) where
   abbrev pub addresses : List ℕ
   addresses = flowOf w .source ++ flowOf w .destination
 

@@ -1,6 +1,6 @@
 pub mod Filled
 pub mod Assembled
-pub mod Way
+pub mod Flow
 pub mod MacContext
 pub mod MacContextLaws
 pub mod TagLaws

@@ -1,13 +1,13 @@
 // Traffic keys: document 01, "Traffic keys"; RFC 5925 §5.2, RFC 5926 §3.1. The definition is `trafficKey` of the crate `rules`.
-// Every secret and every way has one.
+// Every secret and every flow has one.
 ghost use mathlib.Core.Path.{_≡_};
 ghost use Prim.Native.Nat.{_+_, _≤_, min};
 ghost use Rattle.rules.specs.Mac.{context, derivationInput, aesKey, derivationKey, applied, trafficKey};
 ghost use Rattle.traffic.specs.Assembled.{Pushed, none};
 ghost use Rattle.traffic.specs.Filled.{padded20};
-ghost use Rattle.traffic.specs.Way.{flowOf};
+ghost use Rattle.traffic.specs.Flow.{flowOf};
 use crate::assembled::Assembled;
-use crate::way::Way;
+use crate::flow::Flow;
 use keys::algorithm::HmacSha1_96;
 use keys::algorithm::output_bits;
 use keys::entry::Secret;
@@ -16,22 +16,22 @@ use keys::entry::Secret;
 const LABEL: [u8; 7] = *b"\x01TCP-AO";
 
 // "The context is source address, destination address, source port, destination port, source ISN, destination ISN"
-fn push_context(a: Assembled, way: Way) -> Assembled
+fn push_context(a: Assembled, flow: Flow) -> Assembled
     requires { ⌜ a .len + 44 ≤ 104 ⌝ }
-    ensures { λ r. ⌜ Pushed a (context (flowOf way)) r ⌝ }
+    ensures { λ r. ⌜ Pushed a (context (flowOf flow)) r ⌝ }
 {
-    crate::way::push_addresses(a, way)
-        .push16(way.source_port)
-        .push16(way.destination_port)
-        .push32(way.source_isn)
-        .push32(way.destination_isn)
+    crate::flow::push_addresses(a, flow)
+        .push16(flow.source_port)
+        .push16(flow.destination_port)
+        .push32(flow.source_isn)
+        .push32(flow.destination_isn)
 }
 
-fn derivation_input(bits: u16, way: Way) -> Assembled
-    ensures { λ r. ⌜ Pushed none (derivationInput bits (flowOf way)) r ⌝ }
+fn derivation_input(bits: u16, flow: Flow) -> Assembled
+    ensures { λ r. ⌜ Pushed none (derivationInput bits (flowOf flow)) r ⌝ }
 {
     let label = LABEL;
-    push_context(Assembled::new().push(&label), way).push16(bits)
+    push_context(Assembled::new().push(&label), flow).push16(bits)
 }
 
 // "AES-CMAC under the master key if that has 16 bytes; otherwise under AES-CMAC of the master key with an all-zero key"
@@ -65,10 +65,10 @@ fn key_bytes(len: u8) -> usize
 }
 
 // The traffic key; zeros stand behind one of algorithm 2.
-pub fn traffic_key(secret: Secret, way: Way) -> [u8; HmacSha1_96::TRAFFIC_KEY_BYTES]
-    ensures { λ r. ⌜ r ≡ padded20 (trafficKey secret (flowOf way)) ⌝ }
+pub fn traffic_key(secret: Secret, flow: Flow) -> [u8; HmacSha1_96::TRAFFIC_KEY_BYTES]
+    ensures { λ r. ⌜ r ≡ padded20 (trafficKey secret (flowOf flow)) ⌝ }
 {
-    let a = derivation_input(output_bits(secret.algorithm), way);
+    let a = derivation_input(output_bits(secret.algorithm), flow);
     let input = a.bytes;
     let end = a.len;
     let key = secret.key;

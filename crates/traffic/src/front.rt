@@ -9,9 +9,9 @@ ghost use Rattle.keys.specs.Entry.{allOptions};
 ghost use Rattle.rules.specs.Mac.{pseudoHeader, blank as blankOf, zeroed as zeroedOf, coveredHeader, front as frontOf};
 ghost use Rattle.traffic.specs.Assembled.{Pushed, none};
 ghost use Rattle.traffic.specs.Filled.{filled};
-ghost use Rattle.traffic.specs.Way.{flowOf};
+ghost use Rattle.traffic.specs.Flow.{flowOf};
 use crate::assembled::Assembled;
-use crate::way::Way;
+use crate::flow::Flow;
 use keys::entry::Secret;
 
 // RFC 9293 §3.1: zero, protocol 6, length
@@ -38,12 +38,12 @@ fn length_and_next_header(len: usize) -> [u8; 8]
 }
 
 // "the IP pseudo-header as for the checksum, with the whole segment's length"
-fn push_pseudo_header(a: Assembled, way: Way, len: usize) -> Assembled
+fn push_pseudo_header(a: Assembled, flow: Flow, len: usize) -> Assembled
     requires { ⌜ a .len + 40 ≤ 104 ⌝ }
-    ensures { λ r. ⌜ Pushed a (pseudoHeader (flowOf way) len) r ⌝ }
+    ensures { λ r. ⌜ Pushed a (pseudoHeader (flowOf flow) len) r ⌝ }
 {
-    let b = crate::way::push_addresses(a, way);
-    let w = keys::entry::width_of(way.family);
+    let b = crate::flow::push_addresses(a, flow);
+    let w = keys::entry::width_of(flow.family);
     if w == 4 {
         let n = protocol_and_length(len);
         return b.push(&n);
@@ -91,15 +91,15 @@ fn push_header(a: Assembled, secret: Secret, at: usize, header: &[u8]) -> Assemb
 // "In this order: the extension (4 bytes); the IP pseudo-header ..; the TCP header ..; the data", of a segment of len bytes
 pub fn front(
     secret: Secret,
-    way: Way,
+    flow: Flow,
     extension: u32,
     at: usize,
     len: usize,
     header: &[u8],
 ) -> Assembled
     requires { ⌜ (20 ≤ at) × (at + 4 + secret .«mac_bytes» ≤ length (now header)) × (length (now header) ≤ 60) ⌝ }
-    ensures { λ r. ⌜ Pushed none (frontOf secret (flowOf way) extension at len (now (header .entry))) r ⌝ }
+    ensures { λ r. ⌜ Pushed none (frontOf secret (flowOf flow) extension at len (now (header .entry))) r ⌝ }
 {
-    let a = push_pseudo_header(Assembled::new().push32(extension), way, len);
+    let a = push_pseudo_header(Assembled::new().push32(extension), flow, len);
     push_header(a, secret, at, header)
 }

@@ -8,24 +8,24 @@ ghost use lib.ListN.{length};
 ghost use Rattle.rules.specs.Mac.{applied, trafficKey, front as frontOf};
 ghost use Rattle.traffic.specs.MacContext.{macView, macStart, macAbsorb};
 ghost use Rattle.traffic.specs.Filled.{padded20};
-ghost use Rattle.traffic.specs.Way.{flowOf};
+ghost use Rattle.traffic.specs.Flow.{flowOf};
 use crate::context::MacContext;
-use crate::way::Way;
+use crate::flow::Flow;
 use keys::entry::Secret;
 
 pub fn begin(
     secret: Secret,
-    way: Way,
+    flow: Flow,
     extension: u32,
     at: usize,
     len: usize,
     header: &[u8],
 ) -> MacContext
     requires { ⌜ (20 ≤ at) × (at + 4 + secret .«mac_bytes» ≤ length (now header)) × (length (now header) ≤ 60) ⌝ }
-    ensures { λ r. ⌜ macView r ≡ macAbsorb (macStart (secret .algorithm) (padded20 (trafficKey secret (flowOf way)))) (frontOf secret (flowOf way) extension at len (now (header .entry))) ⌝ }
+    ensures { λ r. ⌜ macView r ≡ macAbsorb (macStart (secret .algorithm) (padded20 (trafficKey secret (flowOf flow)))) (frontOf secret (flowOf flow) extension at len (now (header .entry))) ⌝ }
 {
-    let key = crate::derive::traffic_key(secret, way);
-    let a = crate::front::front(secret, way, extension, at, len, header);
+    let key = crate::derive::traffic_key(secret, flow);
+    let a = crate::front::front(secret, flow, extension, at, len, header);
     let bytes = a.bytes;
     let end = a.len;
     MacContext::new(secret.algorithm, key).update(&bytes[..end])
@@ -33,7 +33,7 @@ pub fn begin(
 
 pub fn segment_tag(
     secret: Secret,
-    way: Way,
+    flow: Flow,
     extension: u32,
     at: usize,
     len: usize,
@@ -41,9 +41,9 @@ pub fn segment_tag(
     data: &[u8],
 ) -> [u8; 20]
     requires { ⌜ (20 ≤ at) × (at + 4 + secret .«mac_bytes» ≤ length (now header)) × (length (now header) ≤ 60) ⌝ }
-    ensures { λ r. ⌜ r ≡ padded20 (applied (secret .algorithm) (trafficKey secret (flowOf way)) (frontOf secret (flowOf way) extension at len (now (header .entry)) ++ now («data» .entry))) ⌝ }
+    ensures { λ r. ⌜ r ≡ padded20 (applied (secret .algorithm) (trafficKey secret (flowOf flow)) (frontOf secret (flowOf flow) extension at len (now (header .entry)) ++ now («data» .entry))) ⌝ }
 {
-    begin(secret, way, extension, at, len, header)
+    begin(secret, flow, extension, at, len, header)
         .update(data)
         .finish()
 }

@@ -8,7 +8,7 @@ returns : tie.Need-returns
 returns c =
     let b = c .before .before .before .before .before .before .before in
     state-read (b .before .args .bytes .now) _ _ _ _ _ (b .before .pre) (λ i. b .shared-slice-known .given i .fits)
-    (c .before .before .before .before .before .before .line-from .ensures) (c .before .before .before .before .before .drops-from .ensures)
+    (c .before .before .before .before .before .before .conn-from .ensures) (c .before .before .before .before .before .drops-from .ensures)
     (c .before .before .before .before .load64 .ensures) (c .before .before .before .load642 .ensures) (c .load643 .ensures)
 
 pub decode-spec : {M : Type 1} → statement M

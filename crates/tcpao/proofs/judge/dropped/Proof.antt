@@ -1,7 +1,7 @@
 -- By the stage.
 use mathlib.Core.Path.{refl, sym, _∙_}
 use borrow.Author.Needs.{needs}
-use Rattle.numbers.specs.GroupLaws.{yes, no}
+use Rattle.checks.specs.GroupLaws.{yes, no}
 use Rattle.tcpao.proofs.judge.dropped.Statement.{statement}
 use Rattle.tcpao.proofs.judge.dropped.Tie as tie
 

@@ -7,7 +7,7 @@ use Rattle.tcpao.proofs.judge.judge.Tie as tie
 after-judging-requires : tie.Need-after-judging-requires
 after-judging-requires c κs =
     let a = c .before .before .before .before .before .before .before .before .before .args in
-    at-number (a .table .now) (a .state .line) (a .state .seen) (record { source = a .source .now; destination = a .destination .now; segment = a .segment .now }) (c .before .before .before .check .ensures) (c .sequence .ensures)
+    at-number (a .table .now) (a .state .conn) (a .state .seen) (record { source = a .source .now; destination = a .destination .now; segment = a .segment .now }) (c .before .before .before .check .ensures) (c .sequence .ensures)
 
 returns : tie.Need-returns
 returns c =

@@ -1,6 +1,6 @@
 -- The answer and the state, from what judging found.
 use borrow.Author.Needs.{needs}
-use Rattle.numbers.specs.BeginLaws.{syn-ends, syn-ids, waits}
+use Rattle.checks.specs.BeginLaws.{syn-ends, syn-ids, waits}
 use Rattle.tcpao.proofs.Judging.{taken-by, passively-is}
 use Rattle.tcpao.proofs.judge.open_passive.Statement.{statement}
 use Rattle.tcpao.proofs.judge.open_passive.Tie as tie

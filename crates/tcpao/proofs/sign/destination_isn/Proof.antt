@@ -1,7 +1,7 @@
 -- By the stage.
 use borrow.Author.Needs.{needs}
 use mathlib.Core.Path.{refl, sym, _∙_}
-use Rattle.numbers.specs.GroupLaws.{yes, no}
+use Rattle.checks.specs.GroupLaws.{yes, no}
 use Rattle.tcpao.proofs.sign.destination_isn.Statement.{statement}
 use Rattle.tcpao.proofs.sign.destination_isn.Tie as tie
 

@@ -39,7 +39,7 @@ returns c =
     let b = c .before .before .before .before .before .before .before .before in
     let k : length (b .args .head) ≡ 24 = search needs in
     tag-is (b .args .secret) _ _ (b .args .extension) _ (b .args .segment .now) (b .args .head) (c .before .before .before .before .blank-header .result) (b .args .end)
-    (b .args .secret .«mac_bytes») (b .pre .0) (b .pre .1) k (c .before .before .before .leaving-way .ensures) (c .before .before .before .before .blank-header .ensures) (c .segment-tag .ensures)
+    (b .args .secret .«mac_bytes») (b .pre .0) (b .pre .1) k (c .before .before .before .leaving-flow .ensures) (c .before .before .before .before .blank-header .ensures) (c .segment-tag .ensures)
 
 pub tag-of-spec : {M : Type 1} → statement M
 tag-of-spec =

@@ -5,7 +5,7 @@ use native.Mathlib.Omega.{arith}
 use lib.ListN.{length, take}
 use lib.Seq.{length-take-le}
 use borrow.Author.Needs.{needs}
-use Rattle.traffic.specs.Way.{flowOf}
+use Rattle.traffic.specs.Flow.{flowOf}
 use Rattle.traffic.proofs.Assembly.{held, held-room}
 use Rattle.traffic.proofs.Cases.{derived-key}
 use Rattle.traffic.proofs.Zeros.{take-min}
@@ -43,7 +43,7 @@ returns c =
     let s = d .before .before in
     let a = s .args in
     let l : length (a .secret .key) ≡ 80 = key-room s in
-    derived-key (a .secret) (flowOf (a .way))
+    derived-key (a .secret) (flowOf (a .flow))
     (ap (λ (i : ℕ). take i (a .secret .key)) (n .key-bytes .ensures) ∙ take-min (a .secret .«key_len») 80 (a .secret .key) l)
     (d .before .output-bits .ensures .0) (held _ (d .derivation-input .ensures)) (c .derived .ensures)
 

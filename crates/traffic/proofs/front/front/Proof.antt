@@ -5,7 +5,7 @@ use native.Mathlib.Omega.{arith}
 use borrow.Author.Needs.{needs}
 use Rattle.octets.specs.Octets.{bytes32}
 use Rattle.rules.specs.Mac.{front, pseudoHeader}
-use Rattle.traffic.specs.Way.{flowOf}
+use Rattle.traffic.specs.Flow.{flowOf}
 use Rattle.traffic.specs.declared.assembled.Assembled.{Assembled}
 use Rattle.traffic.proofs.Assembly.{pushed-on, pushed-more}
 use Rattle.traffic.proofs.Sizes.{pseudo-pushed}
@@ -22,7 +22,7 @@ push-header-requires : tie.Need-push-header-requires
 push-header-requires c κs =
     let n = c .before .before in
     let s = n .before .before in
-    let h : c .push-pseudo-header .result .len ≤ c .before .push32 .result .len + 40 = pseudo-pushed (s .args .way) _ (c .push-pseudo-header .ensures) in (
+    let h : c .push-pseudo-header .result .len ≤ c .before .push32 .result .len + 40 = pseudo-pushed (s .args .flow) _ (c .push-pseudo-header .ensures) in (
       omega (arith, ap (λ (a : Assembled). a .len) (n .new .ensures), c .before .push32 .ensures .len),
       s .pre .0,
       s .pre .1,
@@ -36,9 +36,9 @@ returns c =
     let n = p .before .before in
     let a = n .before .before .args in
     let e = ap (λ (a : Assembled). a .len) (n .new .ensures) in
-    let h : p .push-pseudo-header .result .len ≤ p .before .push32 .result .len + 40 = pseudo-pushed (a .way) _ (p .push-pseudo-header .ensures) in
+    let h : p .push-pseudo-header .result .len ≤ p .before .push32 .result .len + 40 = pseudo-pushed (a .flow) _ (p .push-pseudo-header .ensures) in
     pushed-more _ _ (omega (arith, p .before .push32 .ensures .len))
-    (pushed-more (bytes32 (a .extension)) (pseudoHeader (flowOf (a .way)) (a .len)) (omega (arith, p .before .push32 .ensures .len)) (pushed-on (n .new .ensures) (p .before .push32 .ensures)) (p .push-pseudo-header .ensures))
+    (pushed-more (bytes32 (a .extension)) (pseudoHeader (flowOf (a .flow)) (a .len)) (omega (arith, p .before .push32 .ensures .len)) (pushed-on (n .new .ensures) (p .before .push32 .ensures)) (p .push-pseudo-header .ensures))
     (c .push-header .ensures)
 
 pub front-spec : {M : Type 1} → statement M

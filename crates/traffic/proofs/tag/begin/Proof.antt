@@ -7,7 +7,7 @@ use lib.ListN.{length}
 use lib.Seq.{length-take-le}
 use borrow.Author.Needs.{needs}
 use Rattle.rules.specs.Mac.{front}
-use Rattle.traffic.specs.Way.{flowOf}
+use Rattle.traffic.specs.Flow.{flowOf}
 use Rattle.traffic.proofs.Assembly.{held, held-room}
 use Rattle.traffic.proofs.Cases.{begun}
 use Rattle.traffic.proofs.tag.begin.Statement.{statement}
@@ -16,7 +16,7 @@ use Rattle.traffic.proofs.tag.begin.Tie as tie
 abbrev its-front : tie.Start → List ℕ
 its-front s =
     let a = s .args in
-    front (a .secret) (flowOf (a .way)) (a .extension) (a .at) (a .len) (a .header .now)
+    front (a .secret) (flowOf (a .flow)) (a .extension) (a .at) (a .len) (a .header .now)
 
 array-share-prefix-bytes : tie.Need-array-share-prefix-bytes
 array-share-prefix-bytes c =

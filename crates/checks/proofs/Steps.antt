@@ -1,0 +1,86 @@
+-- What the steps of a judging that has begun come to (src/begun.rt). Assumes nothing.
+use Prim.Native.Nat.{ℕ, _+_, _-_, _≤_}
+use mathlib.Core.Path.{_≡_, refl, sym, ap, _∙_}
+use mathlib.Core.Bool.{Bool, true, false, cond, not}
+use mathlib.Core.List.{List, _++_}
+use mathlib.Core.Logic.{inl, inr}
+use native.Mathlib.Omega.{arith}
+use lib.ListN.{length, take, drop, replicate, length-drop}
+use lib.Seq.{paste, take-length, take-at, length-take-le}
+use borrow.Author.Tests.{not-true, not-false}
+use Rattle.wire.specs.Bytes.{sameBytes}
+use Rattle.wire.specs.Header.{headerEnd, wellSized}
+use Rattle.wire.specs.declared.options.Occurrence.{Occurrence}
+use Rattle.keys.specs.declared.entry.Entry.{Entry}
+use Rattle.rules.specs.declared.Outcome.{Outcome}
+use Rattle.rules.specs.declared.Outcome.the-variants.{Good, Passed, Bad}
+use Rattle.rules.specs.Mac.{Flow, trafficKey, front}
+use Rattle.rules.specs.Segment.{ao, macIn}
+use Rattle.rules.specs.Connection.{extensionOf}
+use Rattle.rules.specs.Calls.{refuse}
+use Rattle.traffic.specs.Filled.{padded20}
+use Rattle.traffic.specs.MacContext.{MacView, macView, macStart, macAbsorb, macFinished}
+use Rattle.traffic.specs.declared.context.MacContext.{MacContext}
+use Rattle.checks.specs.GroupLaws.{Else}
+use Rattle.checks.specs.Begin.{Begins, Fed, agrees, ended}
+use Rattle.checks.specs.declared.begun.Begun.{Begun}
+use Rattle.checks.proofs.Keyed.{Lies, lies}
+
+-- bytes at the front of zeros
+pub front-of : (n : ℕ) (x : List ℕ) {r : List ℕ} → r ≡ paste (replicate n 0) 0 x (length x) → take (length x) r ≡ x
+front-of n x e =
+    ap (take (length x)) (e ∙ ap (λ (l : List ℕ). l ++ drop (0 + length x) (replicate n 0)) (take-length x)) ∙ take-at x (drop (0 + length x) (replicate n 0)) (length x) refl
+
+-- behind 28
+module _ (x rnext : ℕ) (e : Entry) (f : Flow) (s : List ℕ) {o : Occurrence} (is : o ≡ ao s) (formed : wellSized s ≡ true) (long : o .len ≡ 4 + e .secret .«mac_bytes»)
+    (short : e .secret .«mac_bytes» ≤ 16) {end ext n : ℕ} (m : MacContext) (k : List ℕ) where
+  pub ready-is : end ≡ headerEnd s → ext ≡ extensionOf x → n ≡ e .secret .«mac_bytes»
+      → macView m ≡ macAbsorb (macStart (e .secret .algorithm) (padded20 (trafficKey (e .secret) f))) (front (e .secret) f ext (20 + o .at) (length s) (take end s))
+      → take (length (take n (drop (20 + o .at + 4) s))) k ≡ take n (drop (20 + o .at + 4) s)
+      → Begins (Good x rnext) e f s (record { outcome = Good x rnext; ids = e .ids; mac = m; carried = k; «mac_bytes» = e .secret .«mac_bytes» })
+  ready-is ends extends counts macs carries =
+      record {
+        outcome = refl;
+        short = short;
+        ready = λ y r g.
+            let at : x ≡ y = cc in
+            record {
+              inside = lies s formed is .segment;
+              ids = refl;
+              bytes = refl;
+              carried = ap (λ (j : ℕ). take j k) (sym all) ∙ carries ∙ (λ i. take (cut i) (drop (20 + is i .at + 4) s));
+              mac = macs ∙ (λ i. macAbsorb (macStart (e .secret .algorithm) (padded20 (trafficKey (e .secret) f))) (front (e .secret) f ((extends ∙ ap extensionOf at) i) (20 + is i .at) (length s) (take (ends i) s)));
+            };
+      }
+    where
+      all : length (take n (drop (20 + o .at + 4) s)) ≡ e .secret .«mac_bytes»
+      all =
+          let l = lies s formed is in
+          length-take-le n (drop (20 + o .at + 4) s) (omega (arith, length-drop (20 + o .at + 4) s, l .header, l .segment, long, counts)) ∙ counts
+
+      cut : n ≡ ao s .len - 4
+      cut = omega (arith, counts, long, ap (λ (k : Occurrence). k .len) is)
+
+-- the end
+pub ended-else : (o : Outcome) (same : Bool) → Else o → o ≡ ended o same
+ended-else (Good x r) same (inl e) = let z : _≡_ {A = ℕ} 0 1 = e in absurd (omega arith)
+ended-else (Good x r) same (inr e) = let z : _≡_ {A = ℕ} 0 2 = e in absurd (omega arith)
+ended-else Passed same e = refl
+ended-else (Bad n i) same e = refl
+
+module _ (b : Begun) (v : MacView) {x r : ℕ} (g : b .outcome ≡ Good x r) {tag : List ℕ} (fin : tag ≡ macFinished v) {same : Bool}
+    (is : same ≡ sameBytes (take (b .«mac_bytes») (b .carried)) (take (b .«mac_bytes») tag)) where
+  agreed : same ≡ agrees b v
+  agreed = is ∙ ap (λ (t : List ℕ). sameBytes (take (b .«mac_bytes») (b .carried)) (take (b .«mac_bytes») t)) fin
+
+  pub end-29 : not same ≡ true → refuse 29 ≡ ended (b .outcome) (agrees b v)
+  end-29 h = sym (λ i. ended (g i) ((sym agreed ∙ not-true same h) i))
+
+  pub end-good : not same ≡ false → b .outcome ≡ ended (b .outcome) (agrees b v)
+  end-good h = g ∙ sym (λ i. ended (g i) ((sym agreed ∙ not-false same h) i))
+
+-- data, then the end
+pub fed-ends : (b d : Begun) {x y : List ℕ} → Fed b x d → x ≡ y → {r : Outcome} → r ≡ ended (d .outcome) (agrees d (macView (d .mac)))
+    → r ≡ ended (b .outcome) (agrees b (macAbsorb (macView (b .mac)) y))
+fed-ends b d f e q =
+    q ∙ (λ i. ended (f .outcome i) (sameBytes (take (f .bytes i) (f .carried i)) (take (f .bytes i) (macFinished ((f .mac ∙ ap (macAbsorb (macView (b .mac))) e) i)))))

@@ -1,0 +1,167 @@
+// Judging in three steps: begin, data, end. Begin (check.rt) tests all that needs no data and leaves the MAC as its front left it; data go into
+// it from where they lie, in as many pieces as they come; end compares: 29. Between them a value holds all that is needed, and no reference.
+ghost use mathlib.Core.Path.{_≡_};
+ghost use mathlib.Core.Bool.{true, false};
+ghost use Prim.Native.Nat.{ℕ, _+_, _≤_};
+ghost use lib.ListN.{length, take, drop};
+ghost use Rattle.wire.specs.Header.{headerEnd, wellSized};
+ghost use Rattle.rules.specs.Numbers.{first};
+ghost use Rattle.rules.specs.Segment.{ao};
+ghost use Rattle.rules.specs.Calls.{keyTests};
+ghost use Rattle.rules.specs.declared.Outcome.the-variants.{Good};
+ghost use Rattle.traffic.specs.Flow.{flowOf};
+ghost use Rattle.traffic.specs.MacContext.{macView, macAbsorb};
+ghost use Rattle.checks.specs.Groups.{goodAt};
+ghost use Rattle.checks.specs.GroupLaws.{isFinal};
+ghost use Rattle.checks.specs.Begin.{Begins, Nothing, Fed, agrees, ended};
+use keys::entry::Entry;
+use keys::entry::Ids;
+use keys::table::Found;
+use rules::Outcome;
+use rules::Place;
+use states::position::extension_of;
+use traffic::context::MacContext;
+use traffic::context::unused;
+use traffic::flow::Flow;
+use wire::bytes::byte_at;
+use wire::bytes::same_throughout;
+use wire::options::Occurrence;
+
+// The outcome of 10 to 28. Where it is Good, with position and RNextKeyID: the entry's IDs, the MAC after its front, and the MAC carried, of so
+// many bytes; else these mean nothing.
+pub struct Begun {
+    pub outcome: Outcome,
+    pub ids: Ids,
+    pub mac: MacContext,
+    pub carried: [u8; 16],
+    pub mac_bytes: u8,
+}
+
+// A number that was given.
+pub(crate) fn nothing(outcome: Outcome) -> Begun
+    ensures { λ r. ⌜ Nothing outcome r ⌝ }
+{
+    Begun {
+        outcome,
+        ids: Ids { send: 0, recv: 0 },
+        mac: unused(),
+        carried: [0u8; 16],
+        mac_bytes: 0,
+    }
+}
+
+// The MAC that a segment carries, in an array that has room for the longest.
+fn carried_mac(mac: &[u8]) -> [u8; 16]
+    requires { ⌜ length (now mac) ≤ 16 ⌝ }
+    ensures { λ r. ⌜ take (length (now (mac .entry))) r ≡ now (mac .entry) ⌝ }
+{
+    let mut m = [0u8; 16];
+    octets::copy_at(&mut m, 0, mac);
+    m
+}
+
+// Behind 28, at position x.
+fn ready(x: u64, rnext: u8, entry: Entry, flow: Flow, option: Occurrence, segment: &[u8]) -> Begun
+    requires { ⌜ (option ≡ ao (now segment)) × (wellSized (now segment) ≡ true) × (option .len ≡ 4 + entry .secret .«mac_bytes») × (entry .secret .«mac_bytes» ≤ 16) ⌝ }
+    ensures { λ r. ⌜ Begins (Good x rnext) entry (flowOf flow) (now (segment .entry)) r ⌝ }
+{
+    let ids = entry.ids;
+    let secret = entry.secret;
+    let end = wire::header::header_end(segment);
+    let n = secret.mac_bytes as usize;
+    let at = 20 + option.at;
+    let from = at + 4;
+    let carried = carried_mac(&segment[from..from + n]);
+    let extension = extension_of(x);
+    let mac = traffic::tag::begin(secret, flow, extension, at, segment.len(), &segment[..end]);
+    Begun {
+        outcome: Outcome::Good(x, rnext),
+        ids,
+        mac,
+        carried,
+        mac_bytes: secret.mac_bytes,
+    }
+}
+
+// 25 and 26, or what a bare SYN gets there; 27; 28. `option` is the segment's TCP-AO, `found` the entry for its KeyID.
+pub(crate) fn by_key(
+    missing: Outcome,
+    unknown: Outcome,
+    found: Found,
+    flow: Flow,
+    place: Place,
+    option: Occurrence,
+    segment: &[u8],
+) -> Begun
+    requires { ⌜ (option ≡ ao (now segment)) × (wellSized (now segment) ≡ true) × (found .entry .secret .«mac_bytes» ≤ 16) × (isFinal missing ≡ true) × (isFinal unknown ≡ true) ⌝ }
+    ensures { λ r. ⌜ Begins (first (keyTests missing unknown found place (now (segment .entry))) (goodAt place (now (segment .entry)))) (found .entry) (flowOf flow) (now (segment .entry)) r ⌝ }
+{
+    let entry = found.entry;
+    let secret = entry.secret;
+    let size = 4 + secret.mac_bytes as usize;
+    if option.count == 0 {
+        return nothing(missing);
+    }
+    if !found.there {
+        return nothing(unknown);
+    }
+    if option.len != size {
+        return nothing(Outcome::Bad(27, 0));
+    }
+    let Place::At(x) = place else {
+        return nothing(Outcome::Bad(28, 0));
+    };
+    let rnext = byte_at(segment, 20 + option.at + 3);
+    ready(x, rnext, entry, flow, option, segment)
+}
+
+impl Begun {
+    // The next piece of the data.
+    pub fn data(self, data: &[u8]) -> Self
+        ensures { λ r. ⌜ Fed self (now («data» .entry)) r ⌝ }
+    {
+        let outcome = self.outcome;
+        let ids = self.ids;
+        let mac = self.mac;
+        let carried = self.carried;
+        Begun {
+            outcome,
+            ids,
+            mac: mac.update(data),
+            carried,
+            mac_bytes: self.mac_bytes,
+        }
+    }
+
+    // 29: every byte is compared.
+    pub fn end(self) -> Outcome
+        requires { ⌜ self .«mac_bytes» ≤ 16 ⌝ }
+        ensures { λ r. ⌜ r ≡ ended (self .outcome) (agrees self (macView (self .mac))) ⌝ }
+    {
+        let outcome = self.outcome;
+        let Outcome::Good(_, _) = outcome else {
+            return outcome;
+        };
+        let mac = self.mac;
+        let carried = self.carried;
+        let n = self.mac_bytes as usize;
+        let tag = mac.finish();
+        if !same_throughout(&carried[..n], &tag[..n]) {
+            return Outcome::Bad(29, 0);
+        }
+        outcome
+    }
+}
+
+// Data and end, of a segment that is there whole.
+pub fn finished(begun: Begun, segment: &[u8]) -> Outcome
+    requires { ⌜ (begun .«mac_bytes» ≤ 16) × ((x r : ℕ) → begun .outcome ≡ Good x r → headerEnd (now segment) ≤ length (now segment)) ⌝ }
+    ensures { λ r. ⌜ r ≡ ended (begun .outcome) (agrees begun (macAbsorb (macView (begun .mac)) (drop (headerEnd (now (segment .entry))) (now (segment .entry))))) ⌝ }
+{
+    let outcome = begun.outcome;
+    let Outcome::Good(_, _) = outcome else {
+        return outcome;
+    };
+    let end = wire::header::header_end(segment);
+    begun.data(&segment[end..]).end()
+}

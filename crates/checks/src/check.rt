@@ -1,0 +1,229 @@
+// Which number an arriving segment gets, or its position: document 01, "Numbers given back", with a state and without one. Nothing here writes a
+// state. The two checks assume nothing. What a step assumes is what the tests before it left.
+ghost use mathlib.Core.Path.{_≡_};
+ghost use mathlib.Core.Bool.{true, false, cond};
+ghost use Rattle.wire.specs.Header.{sequence as sequenceOf, wellSized, headerOf};
+ghost use lib.ListN.{length};
+ghost use Rattle.keys.specs.Table.{checked, recvEntry};
+ghost use Rattle.rules.specs.Segment.{ao, keyId};
+ghost use Rattle.rules.specs.Connection.{sized, arrivalPair, isOpen};
+ghost use Rattle.rules.specs.Calls.{isRefused, synMissing, synUnknown, check as checkOf, checkSyn};
+ghost use Rattle.traffic.specs.Flow.{flowOf};
+ghost use Rattle.checks.specs.Groups.{arrivingOn};
+ghost use Rattle.checks.specs.Begin.{Judges, JudgesSyn, Keyed, KeyedSyn};
+use crate::begun::Begun;
+use crate::begun::by_key;
+use crate::begun::finished;
+use crate::begun::nothing;
+use crate::faults::early_faults;
+use crate::faults::early_syn_faults;
+use crate::faults::formed_faults;
+use crate::faults::formed_syn_faults;
+use crate::verify::carried;
+use crate::verify::key_id;
+use keys::entry::Pair;
+use keys::table::Found;
+use rules::Connection;
+use rules::Outcome;
+use rules::Place;
+use states::position::place_on;
+use states::writers::is_open;
+use states::writers::pair_of;
+use traffic::flow::Flow;
+use wire::header::Header;
+use wire::header::header_of;
+use wire::options::Occurrence;
+
+// The flow of what arrives on a pair: its source is our remote side.
+fn arriving_flow(pair: Pair, source_isn: u32, destination_isn: u32) -> Flow
+    ensures { λ r. ⌜ flowOf r ≡ arrivingOn pair «source_isn» «destination_isn» ⌝ }
+{
+    let source = pair.remote;
+    let destination = pair.local;
+    Flow {
+        family: pair.family,
+        source,
+        destination,
+        source_port: pair.remote_port,
+        destination_port: pair.local_port,
+        source_isn,
+        destination_isn,
+    }
+}
+
+// The ISN of whoever sent a segment: "its sequence number is the peer's ISN" of the SYN+ACK that opens.
+fn peer_isn(conn: Connection, number: u32) -> u32
+    ensures { λ r. ⌜ r ≡ cond (isOpen conn) (conn .«peer_isn») number ⌝ }
+{
+    if is_open(conn) {
+        return conn.peer_isn;
+    }
+    number
+}
+
+// How the table is looked up: the entry that matches the pair and has the segment's KeyID as its RecvID.
+fn entry_for(table: &[u8], pair: Pair, option: Occurrence, segment: &[u8]) -> Found
+    requires { ⌜ (option ≡ ao (now segment)) × (wellSized (now segment) ≡ true) ⌝ }
+    ensures { λ r. ⌜ r ≡ recvEntry (now (table .entry)) pair (keyId (now (segment .entry))) ⌝ }
+{
+    keys::table::find_recv(table, pair, key_id(option, segment))
+}
+
+// 25 to 28 with a state, on a table that is not refused.
+fn keyed(table: &[u8], segment: &[u8], header: Header, conn: Connection, reference: u64) -> Begun
+    requires { ⌜ (isRefused (checked (now table)) ≡ false) × (wellSized (now segment) ≡ true) × (header ≡ headerOf (length (now segment)) (now segment)) ⌝ }
+    ensures { λ r. ⌜ Keyed (now (table .entry)) conn reference (now (segment .entry)) r ⌝ }
+{
+    let pair = conn.pair;
+    let options = header.options;
+    let option = carried(options);
+    let found = entry_for(table, pair, option, segment);
+    let number = header.sequence;
+    let flow = arriving_flow(pair, peer_isn(conn, number), conn.isn);
+    let place = place_on(conn, reference, number);
+    by_key(
+        Outcome::Bad(25, 0),
+        Outcome::Bad(26, 0),
+        found,
+        flow,
+        place,
+        option,
+        segment,
+    )
+}
+
+// With a state, opening or open: all that needs no data.
+pub fn begin(
+    table: &[u8],
+    source: &[u8],
+    destination: &[u8],
+    segment: &[u8],
+    conn: Connection,
+    reference: u64,
+) -> Begun
+    ensures { λ r. ⌜ Judges (now (table .entry)) conn reference (record { source = now (source .entry); destination = now (destination .entry); segment = now (segment .entry) }) r ⌝ }
+{
+    let early = early_faults(table, source, destination, segment, conn);
+    let Outcome::Good(_, _) = early else {
+        return nothing(early);
+    };
+    let header = header_of(segment, segment.len());
+    let formed = formed_faults(conn, source, destination, header);
+    let Outcome::Good(_, _) = formed else {
+        return nothing(formed);
+    };
+    keyed(table, segment, header, conn, reference)
+}
+
+// The whole of it.
+pub fn check(
+    table: &[u8],
+    source: &[u8],
+    destination: &[u8],
+    segment: &[u8],
+    conn: Connection,
+    reference: u64,
+) -> Outcome
+    ensures { λ r. ⌜ r ≡ checkOf (now (table .entry)) conn reference (record { source = now (source .entry); destination = now (destination .entry); segment = now (segment .entry) }) ⌝ }
+{
+    let begun = begin(table, source, destination, segment, conn, reference);
+    finished(begun, segment)
+}
+
+// "Bare SYN without TCP-AO: 25 if any entry matches the pair, otherwise pass."
+fn syn_missing(table: &[u8], pair: Pair) -> Outcome
+    ensures { λ r. ⌜ r ≡ synMissing (now (table .entry)) pair ⌝ }
+{
+    if keys::table::any_match(table, pair) {
+        return Outcome::Bad(25, 0);
+    }
+    Outcome::Passed
+}
+
+// A bare SYN with an unknown KeyID: "a setting decides: pass (the RFC's first default) or drop 26".
+fn syn_unknown(strict: bool) -> Outcome
+    ensures { λ r. ⌜ r ≡ synUnknown strict ⌝ }
+{
+    if strict {
+        return Outcome::Bad(26, 0);
+    }
+    Outcome::Passed
+}
+
+// The pair of what arrives, as this end holds it.
+pub fn arrival_pair(source: &[u8], destination: &[u8], segment: &[u8]) -> Pair
+    requires { ⌜ sized (now source) (now destination) ≡ true ⌝ }
+    ensures { λ r. ⌜ r ≡ arrivalPair (record { source = now (source .entry); destination = now (destination .entry); segment = now (segment .entry) }) ⌝ }
+{
+    pair_of(
+        destination,
+        source,
+        wire::header::destination_port(segment),
+        wire::header::source_port(segment),
+    )
+}
+
+// "A bare SYN .. [has] extension 0 and [its] own number as position."
+fn own_place(number: u32) -> Place
+    ensures { λ r. ⌜ r ≡ Place.At number ⌝ }
+{
+    Place::At(number as u64)
+}
+
+// 25 to 28 of a bare SYN without a state. "For a bare SYN .. the destination ISN is zero."
+fn keyed_syn(table: &[u8], segment: &[u8], header: Header, pair: Pair, strict: bool) -> Begun
+    requires { ⌜ (isRefused (checked (now table)) ≡ false) × (wellSized (now segment) ≡ true) × (header ≡ headerOf (length (now segment)) (now segment)) ⌝ }
+    ensures { λ r. ⌜ KeyedSyn (now (table .entry)) pair strict (arrivingOn pair (sequenceOf (now (segment .entry))) 0) (now (segment .entry)) r ⌝ }
+{
+    let options = header.options;
+    let option = carried(options);
+    let found = entry_for(table, pair, option, segment);
+    let number = header.sequence;
+    let flow = arriving_flow(pair, number, 0);
+    by_key(
+        syn_missing(table, pair),
+        syn_unknown(strict),
+        found,
+        flow,
+        own_place(number),
+        option,
+        segment,
+    )
+}
+
+// A bare SYN, without a state: all that needs no data, with the IDs of the entry that was found.
+pub fn begin_syn(
+    table: &[u8],
+    source: &[u8],
+    destination: &[u8],
+    segment: &[u8],
+    strict: bool,
+) -> Begun
+    ensures { λ r. ⌜ JudgesSyn (now (table .entry)) (record { source = now (source .entry); destination = now (destination .entry); segment = now (segment .entry) }) strict r ⌝ }
+{
+    let early = early_syn_faults(table, source, destination, segment);
+    let Outcome::Good(_, _) = early else {
+        return nothing(early);
+    };
+    let header = header_of(segment, segment.len());
+    let formed = formed_syn_faults(header);
+    let Outcome::Good(_, _) = formed else {
+        return nothing(formed);
+    };
+    let pair = arrival_pair(source, destination, segment);
+    keyed_syn(table, segment, header, pair, strict)
+}
+
+// The whole of it.
+pub fn check_syn(
+    table: &[u8],
+    source: &[u8],
+    destination: &[u8],
+    segment: &[u8],
+    strict: bool,
+) -> Outcome
+    ensures { λ r. ⌜ r ≡ checkSyn (now (table .entry)) (record { source = now (source .entry); destination = now (destination .entry); segment = now (segment .entry) }) strict ⌝ }
+{
+    let begun = begin_syn(table, source, destination, segment, strict);
+    finished(begun, segment)
+}

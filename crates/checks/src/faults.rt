@@ -1,0 +1,256 @@
+// The tests that come before a key is looked at: document 01, "Numbers given back", 10 to 24. One function for each group of the crate `rules`;
+// where none of its tests applies, it gives Good(0, 0), of which nothing is made. Assumes nothing.
+ghost use mathlib.Core.Path.{_≡_};
+ghost use mathlib.Core.Bool.{not, _&&_};
+ghost use mathlib.Core.List.{_++_};
+ghost use Rattle.rules.specs.Numbers.{first};
+ghost use Rattle.rules.specs.Segment.{isBareSyn};
+ghost use Rattle.rules.specs.Calls.{unrefused, familyTests, addressTests, tableTests, inputTests, stateTests, lengthTests};
+ghost use Rattle.checks.specs.Groups.{countTests, optionLines, pairLines, stageLines, synLines, arrivalLines};
+use keys::entry::Pair;
+use keys::table::Loaded;
+use rules::Connection;
+use rules::Outcome;
+use states::writers::is_address;
+use states::writers::is_open;
+use wire::header::Header;
+use wire::options::Options;
+
+// 10 to 17, with the entry's index.
+pub fn table_faults(table: &[u8]) -> Outcome
+    ensures { λ r. ⌜ r ≡ first (tableTests (now (table .entry))) unrefused ⌝ }
+{
+    match keys::table::check(table) {
+        Loaded::Valid(_) => Outcome::Good(0, 0),
+        Loaded::Refused(n, i) => Outcome::Bad(n, i),
+    }
+}
+
+// 18: "state's family is neither IPv4 nor IPv6".
+pub fn family_faults(conn: Connection) -> Outcome
+    ensures { λ r. ⌜ r ≡ first (familyTests conn) unrefused ⌝ }
+{
+    let pair = conn.pair;
+    if pair.family == 4 {
+        return Outcome::Good(0, 0);
+    }
+    if pair.family == 6 {
+        return Outcome::Good(0, 0);
+    }
+    Outcome::Bad(18, 0)
+}
+
+// 19: "addresses not both 4 or both 16 bytes".
+pub fn address_faults(a: &[u8], b: &[u8]) -> Outcome
+    ensures { λ r. ⌜ r ≡ first (addressTests (now (a .entry)) (now (b .entry))) unrefused ⌝ }
+{
+    if a.len() == 4 {
+        if b.len() == 4 {
+            return Outcome::Good(0, 0);
+        }
+        return Outcome::Bad(19, 0);
+    }
+    if a.len() == 16 {
+        if b.len() == 16 {
+            return Outcome::Good(0, 0);
+        }
+        return Outcome::Bad(19, 0);
+    }
+    Outcome::Bad(19, 0)
+}
+
+// Without a state: 19, then the table's number.
+fn input_faults(table: &[u8], a: &[u8], b: &[u8]) -> Outcome
+    ensures { λ r. ⌜ r ≡ first (inputTests (now (table .entry)) (now (a .entry)) (now (b .entry))) unrefused ⌝ }
+{
+    let sizes = address_faults(a, b);
+    let loaded = table_faults(table);
+    let Outcome::Good(_, _) = sizes else {
+        return sizes;
+    };
+    loaded
+}
+
+// With a state: 18 before 19.
+fn state_faults(table: &[u8], source: &[u8], destination: &[u8], conn: Connection) -> Outcome
+    ensures { λ r. ⌜ r ≡ first (stateTests (now (table .entry)) (now (source .entry)) (now (destination .entry)) conn) unrefused ⌝ }
+{
+    let family = family_faults(conn);
+    let Outcome::Good(_, _) = family else {
+        return family;
+    };
+    input_faults(table, source, destination)
+}
+
+// 22: "two TCP-AO, or TCP-AO and MD5 together".
+fn option_faults(ao: usize, md5: usize) -> Outcome
+    ensures { λ r. ⌜ r ≡ first (countTests ao md5) unrefused ⌝ }
+{
+    if 1 < ao {
+        return Outcome::Bad(22, 0);
+    }
+    if ao == 0 {
+        return Outcome::Good(0, 0);
+    }
+    if md5 == 0 {
+        return Outcome::Good(0, 0);
+    }
+    Outcome::Bad(22, 0)
+}
+
+// 20: "bad length or offset".
+fn length_faults(segment: &[u8]) -> Outcome
+    ensures { λ r. ⌜ r ≡ first (lengthTests 20 (now (segment .entry))) unrefused ⌝ }
+{
+    if !wire::header::well_sized(segment) {
+        return Outcome::Bad(20, 0);
+    }
+    Outcome::Good(0, 0)
+}
+
+// 21: "malformed options"; 22.
+fn form_faults(options: Options) -> Outcome
+    ensures { λ r. ⌜ r ≡ first (optionLines options) unrefused ⌝ }
+{
+    match options {
+        Options::Malformed => Outcome::Bad(21, 0),
+        Options::Found(seen) => option_faults(seen.ao.count, seen.md5.count),
+    }
+}
+
+// 23: "pair is not the state's". The source of what arrives is our remote side.
+fn pair_faults(pair: Pair, source: &[u8], destination: &[u8], header: Header) -> Outcome
+    ensures { λ r. ⌜ r ≡ first (pairLines pair (now (source .entry)) (now (destination .entry)) header) unrefused ⌝ }
+{
+    let remote = pair.remote;
+    let local = pair.local;
+    if !is_address(source, pair.family, remote) {
+        return Outcome::Bad(23, 0);
+    }
+    if !is_address(destination, pair.family, local) {
+        return Outcome::Bad(23, 0);
+    }
+    if header.source_port != pair.remote_port {
+        return Outcome::Bad(23, 0);
+    }
+    if header.destination_port != pair.local_port {
+        return Outcome::Bad(23, 0);
+    }
+    Outcome::Good(0, 0)
+}
+
+// "a bare SYN (SYN set, ACK clear)"
+pub fn is_bare_syn(segment: &[u8]) -> bool
+    ensures { λ r. ⌜ r ≡ isBareSyn (now (segment .entry)) ⌝ }
+{
+    if wire::header::syn(segment) {
+        return !wire::header::ack(segment);
+    }
+    false
+}
+
+fn bare_syn(header: Header) -> bool
+    ensures { λ r. ⌜ r ≡ (header .syn && not (header .ack)) ⌝ }
+{
+    if header.syn {
+        return !header.ack;
+    }
+    false
+}
+
+fn syn_ack(header: Header) -> bool
+    ensures { λ r. ⌜ r ≡ (header .syn && header .ack) ⌝ }
+{
+    if header.syn {
+        return header.ack;
+    }
+    false
+}
+
+// 24: "wrong segment for the stage". Open: a bare SYN; opening: anything but SYN with ACK.
+fn stage_faults(conn: Connection, header: Header) -> Outcome
+    ensures { λ r. ⌜ r ≡ first (stageLines conn header) unrefused ⌝ }
+{
+    if is_open(conn) {
+        if bare_syn(header) {
+            return Outcome::Bad(24, 0);
+        }
+        return Outcome::Good(0, 0);
+    }
+    if syn_ack(header) {
+        return Outcome::Good(0, 0);
+    }
+    Outcome::Bad(24, 0)
+}
+
+// 24 without a state: anything but a bare SYN.
+fn syn_faults(header: Header) -> Outcome
+    ensures { λ r. ⌜ r ≡ first (synLines header) unrefused ⌝ }
+{
+    if bare_syn(header) {
+        return Outcome::Good(0, 0);
+    }
+    Outcome::Bad(24, 0)
+}
+
+// 23, then 24.
+fn arrival_faults(conn: Connection, source: &[u8], destination: &[u8], header: Header) -> Outcome
+    ensures { λ r. ⌜ r ≡ first (arrivalLines conn (now (source .entry)) (now (destination .entry)) header) unrefused ⌝ }
+{
+    let pair = pair_faults(conn.pair, source, destination, header);
+    let Outcome::Good(_, _) = pair else {
+        return pair;
+    };
+    stage_faults(conn, header)
+}
+
+// With a state, up to 20: the input, and the segment's size.
+pub fn early_faults(
+    table: &[u8],
+    source: &[u8],
+    destination: &[u8],
+    segment: &[u8],
+    conn: Connection,
+) -> Outcome
+    ensures { λ r. ⌜ r ≡ first (stateTests (now (table .entry)) (now (source .entry)) (now (destination .entry)) conn ++ lengthTests 20 (now (segment .entry))) unrefused ⌝ }
+{
+    let state = state_faults(table, source, destination, conn);
+    let Outcome::Good(_, _) = state else {
+        return state;
+    };
+    length_faults(segment)
+}
+
+// 21 to 24: form, pair and stage.
+pub fn formed_faults(conn: Connection, source: &[u8], destination: &[u8], header: Header) -> Outcome
+    ensures { λ r. ⌜ r ≡ first (optionLines (header .options) ++ arrivalLines conn (now (source .entry)) (now (destination .entry)) header) unrefused ⌝ }
+{
+    let options = header.options;
+    let form = form_faults(options);
+    let Outcome::Good(_, _) = form else {
+        return form;
+    };
+    arrival_faults(conn, source, destination, header)
+}
+
+// The same without a state.
+pub fn early_syn_faults(table: &[u8], source: &[u8], destination: &[u8], segment: &[u8]) -> Outcome
+    ensures { λ r. ⌜ r ≡ first (inputTests (now (table .entry)) (now (source .entry)) (now (destination .entry)) ++ lengthTests 20 (now (segment .entry))) unrefused ⌝ }
+{
+    let input = input_faults(table, source, destination);
+    let Outcome::Good(_, _) = input else {
+        return input;
+    };
+    length_faults(segment)
+}
+
+pub fn formed_syn_faults(header: Header) -> Outcome
+    ensures { λ r. ⌜ r ≡ first (optionLines (header .options) ++ synLines header) unrefused ⌝ }
+{
+    let options = header.options;
+    let form = form_faults(options);
+    let Outcome::Good(_, _) = form else {
+        return form;
+    };
+    syn_faults(header)
+}

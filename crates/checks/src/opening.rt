@@ -1,0 +1,37 @@
+// Which number an active opening or the operator's call gives: document 01, "Numbers given back", 10 to 18 and 35; an active
+// opening tests 19 before (`tcpao::open`). Assumes nothing.
+ghost use mathlib.Core.Path.{_≡_};
+ghost use mathlib.Core.Bool.{not};
+ghost use mathlib.Core.List.{[], _∷_, _++_};
+ghost use Rattle.rules.specs.Numbers.{test, first};
+ghost use Rattle.rules.specs.Calls.{refuse, tableTests, askTests, unrefused};
+use crate::faults::family_faults;
+use crate::faults::table_faults;
+use rules::Connection;
+use rules::Outcome;
+
+// 10 to 17, then 35, where no entry answers.
+pub fn key_faults(table: &[u8], there: bool) -> Outcome
+    ensures { λ r. ⌜ r ≡ first (tableTests (now (table .entry)) ++ (test (refuse 35) (not there) ∷ [])) unrefused ⌝ }
+{
+    let loaded = table_faults(table);
+    let Outcome::Good(_, _) = loaded else {
+        return loaded;
+    };
+    if there {
+        return Outcome::Good(0, 0);
+    }
+    Outcome::Bad(35, 0)
+}
+
+// Which number: 18, 10 to 17, then 35, "no entry matching the pair has .. the RecvID to ask".
+pub fn ask_faults(table: &[u8], recv_id: u8, conn: Connection) -> Outcome
+    ensures { λ r. ⌜ r ≡ first (askTests (now (table .entry)) «recv_id» conn) unrefused ⌝ }
+{
+    let family = family_faults(conn);
+    let Outcome::Good(_, _) = family else {
+        return family;
+    };
+    let found = keys::table::find_recv(table, conn.pair, recv_id);
+    key_faults(table, found.there)
+}

@@ -1,0 +1,16 @@
+-- What a value of the code's Flow means: a flow of the crate `rules`. Every value means one.
+use lib.ListN.{take}
+use Rattle.keys.specs.Entry.{width}
+use Rattle.rules.specs.Mac as rules
+use Rattle.traffic.specs.declared.flow.Flow.{Flow}
+
+abbrev pub flowOf : Flow → rules.Flow
+flowOf w =
+    record {
+      source = take (width (w .family)) (w .source);
+      destination = take (width (w .family)) (w .destination);
+      sourcePort = w .«source_port»;
+      destinationPort = w .«destination_port»;
+      sourceIsn = w .«source_isn»;
+      destinationIsn = w .«destination_isn»;
+    }
