@@ -4,7 +4,7 @@
 mod common;
 
 use common::*;
-use reference::{Fault, Rules};
+use faulty::Fault;
 
 struct Random(u64);
 
@@ -99,7 +99,7 @@ fn every_call_returns() {
     let mut random = Random(20_261_115);
     for round in 0..20_000 {
         let case = disturbed(&mut random, &cases[round % cases.len()]);
-        let outcome = run(RIGHT, &case);
+        let outcome = run(&case);
         let number = number(outcome.word);
         let allowed: Vec<u8> = match case.call {
             Call::CheckTable => vec![0],
@@ -127,6 +127,6 @@ fn every_call_returns() {
         }
 
         let fault = Fault::ALL[random.below(Fault::ALL.len())];
-        run(Rules::with(fault), &case);
+        run_with(fault, &case);
     }
 }

@@ -148,7 +148,7 @@ fn opening_from_any_state() {
 #[test]
 fn refused_openings_by_value() {
     let (a, b) = ends(&A4, &B4);
-    let (result, state) = calls::open_active(RIGHT, &a.table, &pair_of(&a), 7, 99);
+    let (result, state) = calls::open_active(&a.table, &pair_of(&a), 7, 99);
     assert_eq!(result, Err(Refusal::of(35)));
     assert_eq!(state, State::EMPTY);
 
@@ -157,7 +157,7 @@ fn refused_openings_by_value() {
         (Setting::Pass, Verdict::Pass),
         (Setting::Drop, Verdict::Drop(Refusal::of(26))),
     ] {
-        let opened = calls::open_passive(RIGHT, &b.table, &A4, &B4, &unknown, 7, setting);
+        let opened = calls::open_passive(&b.table, &A4, &B4, &unknown, 7, setting);
         assert_eq!(opened, (verdict, State::EMPTY));
     }
 }
@@ -173,7 +173,7 @@ fn signing_writes_its_length() {
     for spare in 0..40 {
         let mut state = a.state.clone();
         let mut out = vec![0xee; segment.len() + 16 + spare];
-        let word = c::tcpao_sign(RIGHT, &a.table, &segment, &mut out, &mut state);
+        let word = c::tcpao_sign(&a.table, &segment, &mut out, &mut state);
         assert_eq!(word, c::word(0, segment.len() as u32 + 16));
         let (signed, behind) = out.split_at(segment.len() + 16);
         assert!(behind.iter().all(|byte| *byte == 0xee));

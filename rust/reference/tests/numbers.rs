@@ -10,7 +10,7 @@ use std::collections::{BTreeMap, BTreeSet};
 #[test]
 fn each_case_gives_its_number() {
     for case in cases() {
-        let outcome = run(RIGHT, &case);
+        let outcome = run(&case);
         let call = case.call.name();
         let (number, value) = case.answer;
         let expected = (value as u64) << 32 | number as u64;
@@ -36,7 +36,7 @@ fn each_case_gives_its_number() {
 fn each_number_of_each_call_is_met() {
     let mut met: BTreeMap<&str, BTreeSet<u8>> = BTreeMap::new();
     for case in cases() {
-        let number = number(run(RIGHT, &case).word);
+        let number = number(run(&case).word);
         met.entry(case.call.name()).or_default().insert(number);
     }
     let tables: Vec<u8> = (10..=17).collect();
@@ -59,7 +59,7 @@ fn numbers_of_an_opening_connection() {
     let mut met = BTreeSet::new();
     for case in cases() {
         if case.call.name() == "judge" && case.state.len() == 152 && case.state[1] != 1 {
-            met.insert(number(run(RIGHT, &case).word));
+            met.insert(number(run(&case).word));
         }
     }
     for expected in (10..=17).chain(20..=27).chain([0, 29]) {

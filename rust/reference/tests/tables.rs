@@ -8,7 +8,7 @@ use reference::table::{self, Algorithm, Pair};
 
 fn number_of(keys: &[Key]) -> Option<(u8, u32)> {
     let bytes = table(keys);
-    table::read(RIGHT, &bytes)
+    table::read(&bytes)
         .err()
         .map(|refusal| (refusal.number, refusal.index))
 }
@@ -38,7 +38,7 @@ fn p10_to_p12() {
 #[test]
 fn bad_tables_are_refused() {
     for (name, bytes, number, index) in bad_tables() {
-        let refusal = table::read(RIGHT, &bytes).unwrap_err();
+        let refusal = table::read(&bytes).unwrap_err();
         assert_eq!((refusal.number, refusal.index), (number, index), "{name}");
     }
 }
@@ -50,7 +50,7 @@ fn cut_anywhere() {
     let bytes = table(&keys);
     assert_eq!(bytes.len(), 104 + 128);
     for length in 0..=bytes.len() {
-        let result = table::read(RIGHT, &bytes[..length]).map(|entries| entries.len());
+        let result = table::read(&bytes[..length]).map(|entries| entries.len());
         match length {
             0 => assert_eq!(result, Ok(0)),
             104 => assert_eq!(result, Ok(1)),
@@ -79,7 +79,7 @@ fn fields_stand_in_their_places() {
         key: (1..=80).collect(),
     };
     let bytes = key.bytes();
-    let entry = table::read(RIGHT, &bytes).unwrap()[0];
+    let entry = table::read(&bytes).unwrap()[0];
     assert!(!entry.covers_options);
     assert_eq!(entry.algorithm, Algorithm::AesCmac);
     assert_eq!((entry.send_id, entry.recv_id), (0x11, 0x22));
@@ -97,7 +97,7 @@ fn sixty_four_entries_are_taken() {
     let keys: Vec<Key> = (0..64).map(|i| key.clone().ids(i, 255 - i)).collect();
     assert_eq!(number_of(&keys), None);
     let bytes = table(&keys);
-    let entries = table::read(RIGHT, &bytes).unwrap();
+    let entries = table::read(&bytes).unwrap();
     let pair = Pair {
         local: &A6,
         remote: &B6,
@@ -105,13 +105,13 @@ fn sixty_four_entries_are_taken() {
         remote_port: 2,
     };
     for i in 0..64 {
-        let found = table::by_send_id(RIGHT, &entries, &pair, i).unwrap();
+        let found = table::by_send_id(&entries, &pair, i).unwrap();
         assert_eq!(found.recv_id, 255 - i);
-        let found = table::by_recv_id(RIGHT, &entries, &pair, 255 - i).unwrap();
+        let found = table::by_recv_id(&entries, &pair, 255 - i).unwrap();
         assert_eq!(found.send_id, i);
     }
-    assert_eq!(table::by_send_id(RIGHT, &entries, &pair, 64), None);
-    assert_eq!(table::by_recv_id(RIGHT, &entries, &pair, 64), None);
+    assert_eq!(table::by_send_id(&entries, &pair, 64), None);
+    assert_eq!(table::by_recv_id(&entries, &pair, 64), None);
 }
 
 /// Ports at the ends of a range, prefixes of every length, and the other family.
@@ -120,7 +120,7 @@ fn matching() {
     let mut key = Key::new(1, 2, &A4, &B4);
     key.local_ports = (100, 200);
     let bytes = key.bytes();
-    let entry = table::read(RIGHT, &bytes).unwrap()[0];
+    let entry = table::read(&bytes).unwrap()[0];
     for (port, matches) in [(99, false), (100, true), (200, true), (201, false)] {
         let pair = Pair {
             local: &A4,
@@ -128,7 +128,7 @@ fn matching() {
             local_port: port,
             remote_port: 0,
         };
-        assert_eq!(entry.matches(RIGHT, &pair), matches, "port {port}");
+        assert_eq!(entry.matches(&pair), matches, "port {port}");
     }
     let other_family = Pair {
         local: &A6,
@@ -136,7 +136,7 @@ fn matching() {
         local_port: 100,
         remote_port: 0,
     };
-    assert!(!entry.matches(RIGHT, &other_family));
+    assert!(!entry.matches(&other_family));
 
     for prefix in 0..=128u32 {
         let network = if prefix == 0 {
@@ -147,7 +147,7 @@ fn matching() {
         let mut key = Key::new(1, 2, &A6, &B6);
         key.remote = (network.to_be_bytes().to_vec(), prefix as u8);
         let bytes = key.bytes();
-        let entry = table::read(RIGHT, &bytes).unwrap()[0];
+        let entry = table::read(&bytes).unwrap()[0];
         for bit in 0..128 {
             let remote = (u128::MAX ^ 1 << (127 - bit)).to_be_bytes();
             let pair = Pair {
@@ -156,7 +156,7 @@ fn matching() {
                 local_port: 0,
                 remote_port: 0,
             };
-            assert_eq!(entry.matches(RIGHT, &pair), bit >= prefix);
+            assert_eq!(entry.matches(&pair), bit >= prefix);
         }
     }
 }
@@ -193,8 +193,8 @@ fn the_clash_is_exact() {
             keys.push(key);
         }
         let bytes: Vec<Vec<u8>> = keys.iter().map(Key::bytes).collect();
-        let one = table::read(RIGHT, &bytes[0]).unwrap()[0];
-        let other = table::read(RIGHT, &bytes[1]).unwrap()[0];
+        let one = table::read(&bytes[0]).unwrap()[0];
+        let other = table::read(&bytes[1]).unwrap()[0];
         let mut exists = false;
         for case in 0..256u16 {
             let pair = Pair {
@@ -203,7 +203,7 @@ fn the_clash_is_exact() {
                 local_port: case >> 4 & 3,
                 remote_port: case >> 6 & 3,
             };
-            exists |= one.matches(RIGHT, &pair) && other.matches(RIGHT, &pair);
+            exists |= one.matches(&pair) && other.matches(&pair);
         }
         let shared = one.send_id == other.send_id || one.recv_id == other.recv_id;
         let expected = (exists && shared).then_some((17, 1));

@@ -128,7 +128,7 @@ impl Packet {
 
     fn carrier(&self) -> WithAo<'_> {
         let header = self.header();
-        let options = read_options(RIGHT, &self.segment, &header).unwrap();
+        let options = read_options(&self.segment, &header).unwrap();
         WithAo {
             segment: &self.segment,
             header,
@@ -185,18 +185,18 @@ fn rfc_9235_keys_and_macs() {
     assert_eq!(packets.len(), 32);
     for packet in &packets {
         let bytes = packet.sender_key().bytes();
-        let entry = table::read(RIGHT, &bytes).unwrap()[0];
+        let entry = table::read(&bytes).unwrap()[0];
         let ends = packet.ends();
         let input = mac::traffic_key_input(entry.algorithm, &ends);
         assert_eq!(input.len(), if packet.source.len() == 4 { 29 } else { 53 });
         assert_eq!(
-            mac::traffic_key(RIGHT, entry.algorithm, entry.key, &ends),
+            mac::traffic_key(entry.algorithm, entry.key, &ends),
             packet.traffic_key,
             "{}",
             packet.section
         );
         assert_eq!(
-            mac::mac(RIGHT, &entry, &ends, &ends, 0, &packet.carrier()),
+            mac::mac(&entry, &ends, 0, &packet.carrier()),
             packet.mac(),
             "{}",
             packet.section

@@ -7,9 +7,7 @@ use reference::boundary as c;
 use reference::mac::{self, Ends};
 use reference::segment::{read_options, Header, WithAo};
 use reference::table::{self, Pair};
-use reference::{Rules, State};
-
-pub const RIGHT: Rules = Rules { fault: None };
+use reference::State;
 
 pub const FIN: u8 = 0x01;
 pub const SYN: u8 = 0x02;
@@ -189,16 +187,16 @@ impl Seg {
 /// Writes into a segment's first TCP-AO the MAC that the entry gives for these ends.
 pub fn seal(key: &Key, ends: &Ends, extension: u32, mut segment: Vec<u8>) -> Vec<u8> {
     let bytes = key.bytes();
-    let entry = table::read(RIGHT, &bytes).unwrap()[0];
+    let entry = table::read(&bytes).unwrap()[0];
     let header = Header::read(&segment).unwrap();
-    let ao = read_options(RIGHT, &segment, &header).unwrap().ao.unwrap();
+    let ao = read_options(&segment, &header).unwrap().ao.unwrap();
     let mac = {
         let carrier = WithAo {
             segment: &segment,
             header,
             ao,
         };
-        mac::mac(RIGHT, &entry, ends, ends, extension, &carrier)
+        mac::mac(&entry, ends, extension, &carrier)
     };
     segment[ao.at + 4..ao.at + 16].copy_from_slice(&mac);
     segment
@@ -251,7 +249,6 @@ impl End {
 
     pub fn open_active(&mut self, isn: u32, send_id: u8) -> u64 {
         c::tcpao_open_active(
-            RIGHT,
             &self.table,
             &self.address,
             &self.peer,
@@ -264,19 +261,11 @@ impl End {
     }
 
     pub fn judge_syn(&self, segment: &[u8], setting: u8) -> u64 {
-        c::tcpao_judge_syn(
-            RIGHT,
-            &self.table,
-            &self.peer,
-            &self.address,
-            segment,
-            setting,
-        )
+        c::tcpao_judge_syn(&self.table, &self.peer, &self.address, segment, setting)
     }
 
     pub fn open_passive(&mut self, segment: &[u8], isn: u32, setting: u8) -> u64 {
         c::tcpao_open_passive(
-            RIGHT,
             &self.table,
             &self.peer,
             &self.address,
@@ -289,7 +278,6 @@ impl End {
 
     pub fn judge(&mut self, segment: &[u8]) -> u64 {
         c::tcpao_judge(
-            RIGHT,
             &self.table,
             &self.peer,
             &self.address,
@@ -299,12 +287,12 @@ impl End {
     }
 
     pub fn ask(&mut self, recv_id: u8) -> u64 {
-        c::tcpao_ask(RIGHT, &self.table, recv_id, &mut self.state)
+        c::tcpao_ask(&self.table, recv_id, &mut self.state)
     }
 
     pub fn try_sign(&mut self, segment: &[u8]) -> Result<Vec<u8>, u64> {
         let mut out = vec![0xee; segment.len() + 16];
-        let word = c::tcpao_sign(RIGHT, &self.table, segment, &mut out, &mut self.state);
+        let word = c::tcpao_sign(&self.table, segment, &mut out, &mut self.state);
         if number(word) == 0 {
             assert_eq!(value(word) as usize, out.len());
             Ok(out)
@@ -436,62 +424,81 @@ pub struct Outcome {
     pub out: Vec<u8>,
 }
 
-pub fn run(rules: Rules, case: &Case) -> Outcome {
-    let mut state = case.state.clone();
-    let mut out = vec![];
-    let word = match &case.call {
-        Call::CheckTable => c::tcpao_check_table(rules, &case.table),
-        Call::OpenActive {
-            local,
-            remote,
-            ports,
-            isn,
-            send_id,
-        } => c::tcpao_open_active(
-            rules,
-            &case.table,
-            local,
-            remote,
-            ports.0,
-            ports.1,
-            *isn,
-            *send_id,
-            &mut state,
-        ),
-        Call::JudgeSyn {
-            source,
-            destination,
-            segment,
-            setting,
-        } => c::tcpao_judge_syn(rules, &case.table, source, destination, segment, *setting),
-        Call::OpenPassive {
-            source,
-            destination,
-            segment,
-            isn,
-            setting,
-        } => c::tcpao_open_passive(
-            rules,
-            &case.table,
-            source,
-            destination,
-            segment,
-            *isn,
-            *setting,
-            &mut state,
-        ),
-        Call::Judge {
-            source,
-            destination,
-            segment,
-        } => c::tcpao_judge(rules, &case.table, source, destination, segment, &mut state),
-        Call::Sign { segment, room } => {
-            out = vec![0xee; *room];
-            c::tcpao_sign(rules, &case.table, segment, &mut out, &mut state)
+/// The call on whichever side has these functions.
+macro_rules! by {
+    ($name:ident, $c:path) => {
+        fn $name(case: &Case) -> Outcome {
+            use $c as c;
+            let mut state = case.state.clone();
+            let mut out = vec![];
+            let word = match &case.call {
+                Call::CheckTable => c::tcpao_check_table(&case.table),
+                Call::OpenActive {
+                    local,
+                    remote,
+                    ports,
+                    isn,
+                    send_id,
+                } => c::tcpao_open_active(
+                    &case.table,
+                    local,
+                    remote,
+                    ports.0,
+                    ports.1,
+                    *isn,
+                    *send_id,
+                    &mut state,
+                ),
+                Call::JudgeSyn {
+                    source,
+                    destination,
+                    segment,
+                    setting,
+                } => c::tcpao_judge_syn(&case.table, source, destination, segment, *setting),
+                Call::OpenPassive {
+                    source,
+                    destination,
+                    segment,
+                    isn,
+                    setting,
+                } => c::tcpao_open_passive(
+                    &case.table,
+                    source,
+                    destination,
+                    segment,
+                    *isn,
+                    *setting,
+                    &mut state,
+                ),
+                Call::Judge {
+                    source,
+                    destination,
+                    segment,
+                } => c::tcpao_judge(&case.table, source, destination, segment, &mut state),
+                Call::Sign { segment, room } => {
+                    out = vec![0xee; *room];
+                    c::tcpao_sign(&case.table, segment, &mut out, &mut state)
+                }
+                Call::Ask { recv_id } => c::tcpao_ask(&case.table, *recv_id, &mut state),
+            };
+            Outcome { word, state, out }
         }
-        Call::Ask { recv_id } => c::tcpao_ask(rules, &case.table, *recv_id, &mut state),
     };
-    Outcome { word, state, out }
+}
+
+by!(by_reference, reference::boundary);
+by!(by_faulty, faulty::boundary);
+
+pub fn run(case: &Case) -> Outcome {
+    by_reference(case)
+}
+
+pub fn run_unplanted(case: &Case) -> Outcome {
+    by_faulty(case)
+}
+
+pub fn run_with(fault: faulty::Fault, case: &Case) -> Outcome {
+    faulty::with(fault, || by_faulty(case))
 }
 
 /// The ends of a segment that B sends to A in the connection of [`opened`].
