@@ -119,6 +119,7 @@ impl Outcome {
 }
 
 /// The calls over slices, on whichever side.
+#[allow(clippy::type_complexity)] // the boundary's own arguments
 #[derive(Clone, Copy, Debug)]
 pub struct Boundary {
     pub check_table: fn(table: &[u8]) -> u64,

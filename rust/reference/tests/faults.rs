@@ -9,13 +9,13 @@ use faulty::Fault;
 #[test]
 fn each_planted_fault_shows() {
     let cases = cases();
-    let right: Vec<Outcome> = cases.iter().map(|case| run(case)).collect();
+    let right: Vec<Outcome> = cases.iter().map(run).collect();
     for fault in Fault::ALL {
         let seen: Vec<String> = cases
             .iter()
             .zip(&right)
             .filter(|(case, outcome)| run_with(fault, case) != **outcome)
-            .map(|(case, _)| format!("{}: {}", case.call.name(), case.name))
+            .map(|(case, _)| format!("{}: {}", case.call.function.name(), case.name))
             .collect();
         assert!(!seen.is_empty(), "{fault:?} shows nowhere");
         println!("{fault:?} shows in {} cases, first {}", seen.len(), seen[0]);
