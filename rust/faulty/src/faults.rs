@@ -709,7 +709,7 @@ pub const FAULTS: &[Planted] = &[
     Planted {
         name: "RefusedOpeningEmptiesBuffer",
         does: "A refused active opening writes the empty state.",
-        breaks: "\"A call that is refused, or only passes a SYN, leaves every buffer as it was\"",
+        breaks: "\"A call that is refused leaves every buffer as it was\"",
         file: "boundary.rs",
         function: "fn tcpao_open_active(",
         edits: &[Instead("result.is_ok()", "true")],
@@ -717,7 +717,7 @@ pub const FAULTS: &[Planted] = &[
     Planted {
         name: "PassedOpeningEmptiesBuffer",
         does: "A passive opening that only passes writes the empty state.",
-        breaks: "\"A call that is refused, or only passes a SYN, leaves every buffer as it was\"",
+        breaks: "\"before Ticket 2 the bytes stay\", where a SYN is only passed",
         file: "boundary.rs",
         function: "fn tcpao_open_passive(",
         edits: &[Instead(

@@ -1,9 +1,9 @@
 //! What tests, benchmark and comparison share.
 //!
 //! It knows the bytes that go over the boundary ([`entry`], [`segment`], [`state`]) and the shapes of
-//! the calls ([`calls`], [`pointers`]), but neither the archive nor the reference: whoever makes a
-//! call says on which side. It was written from document 01 and the boundary page, and takes nothing
-//! from the wrapper, whose own writers and readers it is used to test.
+//! the calls ([`calls`], [`pointers`]), but neither the archive nor the wrapper nor the reference:
+//! whoever makes a call says on which side. What a builder is not told has a default, so that a field
+//! that comes to an entry, a segment or a call is added in one place.
 
 pub mod bytes;
 pub mod calls;

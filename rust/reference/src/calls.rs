@@ -375,8 +375,8 @@ pub fn sign(table: &[u8], segment: &[u8], room: usize, state: &State) -> Result<
     }
 
     // 35: "no entry matching the pair has the outgoing SendID (opening, signing)".
-    let outgoing = state.outgoing_send_id;
-    let entry = by_send_id(&entries, &pair, outgoing).ok_or(Refusal::of(35))?;
+    let key_id = state.outgoing_send_id;
+    let entry = by_send_id(&entries, &pair, key_id).ok_or(Refusal::of(35))?;
 
     // 36: "no position, or a SYN (bare or with ACK) whose position is not our ISN". "A bare SYN and
     // the SYN+ACK that opens have extension 0 and their own number as position; once open, every
@@ -396,7 +396,6 @@ pub fn sign(table: &[u8], segment: &[u8], room: usize, state: &State) -> Result<
     }
 
     // The signed segment, first with a MAC of zeros.
-    let key_id = outgoing;
     let rnext_key_id = state.asked_recv_id;
     let mut signed = Vec::with_capacity(signed_bytes);
     signed.extend_from_slice(&segment[..20]);

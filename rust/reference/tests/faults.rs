@@ -22,12 +22,16 @@ fn each_planted_fault_shows() {
     }
 }
 
-/// The list has each fault once.
+/// The list has each fault once, with what it does and the sentence it breaks.
 #[test]
 fn the_list_is_whole() {
     for (index, fault) in Fault::ALL.iter().enumerate() {
         let same = |other: &Fault| other.name() == fault.name();
         assert_eq!(Fault::ALL.iter().position(same), Some(index));
+        assert!(
+            !fault.does().is_empty() && fault.breaks().contains('"'),
+            "{fault:?}"
+        );
     }
 }
 
