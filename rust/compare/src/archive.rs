@@ -1,9 +1,9 @@
 //! The call by the proved archive.
 
-use kit::pointers::{self, Buffers, Header};
+use kit::pointers::{Buffer, Buffers, Calls};
 use kit::{calls_of, Call, Outcome};
 
-const ARCHIVE: Header = calls_of!(Header, embankery::raw::c);
+const ARCHIVE: Calls = calls_of!(Calls, embankery::raw::c);
 
 /// What stands before, between and behind the buffers, and must stay.
 const CANARY: [u8; 32] = [0xa5; 32];
@@ -54,7 +54,7 @@ pub fn by_archive(call: &Call) -> Outcome {
     let mut lent = Lent::new([table, source, destination, segment, out, state]);
     let memory = lent.memory.as_mut_ptr();
     // A start lies within the memory, which is neither moved nor used otherwise until the call ends.
-    let lend = |index: usize, part: &[u8]| pointers::Lent {
+    let lend = |index: usize, part: &[u8]| Buffer {
         at: unsafe { memory.add(lent.starts[index]) },
         length: part.len(),
     };

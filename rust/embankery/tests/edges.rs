@@ -6,12 +6,12 @@ mod common;
 use common::{kinds, octets, segment, Ends, FIRST_KIND, IDS, ISNS, PORTS};
 use embankery::raw::{self, c};
 use embankery::{Refusal, Verdict};
-use kit::pointers::{Buffers, Header, Lent};
+use kit::pointers::{Buffer, Buffers, Calls};
 use kit::segment::{ACK, SYN};
 use kit::Function::{Ask, CheckTable, Judge, JudgeSyn, OpenActive, OpenPassive, Sign};
 use kit::{calls_of, word, Bytes, Call, Function, State};
 
-const ARCHIVE: Header = calls_of!(Header, c);
+const ARCHIVE: Calls = calls_of!(Calls, c);
 
 /// A buffer inside a longer one, to see that nothing around it is written.
 struct Guarded {
@@ -104,15 +104,15 @@ impl Given {
         }
     }
 
-    fn lent(&self, bytes: &[u8]) -> Lent {
-        Lent {
+    fn lent(&self, bytes: &[u8]) -> Buffer {
+        Buffer {
             at: self.ptr(bytes).cast_mut(),
             length: bytes.len(),
         }
     }
 
-    fn lent_mut(&self, bytes: &mut [u8]) -> Lent {
-        Lent {
+    fn lent_mut(&self, bytes: &mut [u8]) -> Buffer {
+        Buffer {
             at: self.ptr_mut(bytes),
             length: bytes.len(),
         }

@@ -156,7 +156,7 @@ pub struct Boundary {
 }
 
 /// The calls of a module that has them under their names in C, as a [`Boundary`] or as a
-/// [`Header`](crate::pointers::Header).
+/// [`Calls`](crate::pointers::Calls).
 #[macro_export]
 macro_rules! calls_of {
     ($kind:ident, $($module:ident)::+) => {

@@ -4,7 +4,7 @@ use crate::calls::{Call, Function};
 
 /// A buffer that is lent, possibly for writing.
 #[derive(Clone, Copy)]
-pub struct Lent {
+pub struct Buffer {
     pub at: *mut u8,
     pub length: usize,
 }
@@ -12,12 +12,12 @@ pub struct Lent {
 /// The buffers of a call.
 #[derive(Clone, Copy)]
 pub struct Buffers {
-    pub table: Lent,
-    pub source: Lent,
-    pub destination: Lent,
-    pub segment: Lent,
-    pub out: Lent,
-    pub state: Lent,
+    pub table: Buffer,
+    pub source: Buffer,
+    pub destination: Buffer,
+    pub segment: Buffer,
+    pub out: Buffer,
+    pub state: Buffer,
 }
 
 type In = *const u8;
@@ -25,7 +25,7 @@ type Out = *mut u8;
 type N = usize;
 
 /// The calls as the header declares them: each pointer before its length.
-pub struct Header {
+pub struct Calls {
     pub check_table: unsafe extern "C" fn(In, N) -> u64,
     pub open_active: unsafe extern "C" fn(In, N, In, N, In, N, u16, u16, u32, u8, Out, N) -> u64,
     pub judge_syn: unsafe extern "C" fn(In, N, In, N, In, N, In, N, u8) -> u64,
@@ -35,7 +35,7 @@ pub struct Header {
     pub ask: unsafe extern "C" fn(In, N, u8, Out, N) -> u64,
 }
 
-impl Header {
+impl Calls {
     /// Makes a call on these buffers; of `call` only the numbers are taken.
     ///
     /// # Safety
@@ -44,12 +44,12 @@ impl Header {
     /// and overlap nothing.
     pub unsafe fn make(&self, call: &Call, buffers: &Buffers) -> u64 {
         let Buffers {
-            table: Lent { at: t, length: tn },
-            source: Lent { at: s, length: sn },
-            destination: Lent { at: d, length: dn },
-            segment: Lent { at: g, length: gn },
-            out: Lent { at: o, length: on },
-            state: Lent { at: w, length: wn },
+            table: Buffer { at: t, length: tn },
+            source: Buffer { at: s, length: sn },
+            destination: Buffer { at: d, length: dn },
+            segment: Buffer { at: g, length: gn },
+            out: Buffer { at: o, length: on },
+            state: Buffer { at: w, length: wn },
         } = *buffers;
         let (isn, byte) = (call.isn, call.byte);
         let (local, remote) = (call.local_port, call.remote_port);
