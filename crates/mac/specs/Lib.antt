@@ -1,5 +1,6 @@
 pub mod Blocks
 pub mod BlocksLaws
+pub mod ScheduleLaws
 pub mod Sha1
 pub mod Sha1Laws
 pub mod Hmac
