@@ -51,7 +51,10 @@ fn layers(all: &[Crate], order: &BTreeMap<String, usize>) -> String {
 }
 
 fn uses(all: &[Crate]) -> String {
-    let mut text = String::from("The crate of a row uses that of a column: c by its code, d only by definitions that it cites, p only in proofs.\n\n");
+    let mut text = String::from(
+        "The crate of a row uses that of a column: c by its code, d only by definitions that it cites, \
+         p only in proofs.\n\n",
+    );
     let columns: String = (1..=all.len()).map(|n| format!("{n:>3}")).collect();
     text += &format!("{:<16}{columns}\n", "");
     for (row, one) in all.iter().enumerate() {

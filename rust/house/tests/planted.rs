@@ -50,12 +50,15 @@ fn claims_of_what_is_not_there() {
             "| `tcpao::judge::judged` | |",
             "`tcpao::judge::judged` is not in src/",
         ),
-        ("| | mac/rotation, rotations |", "no edit mac/rotations"),
+        (
+            "| | mac/sbox_entry, sbox_entries |",
+            "no edit mac/sbox_entries",
+        ),
         (
             "| | columns/always_wrong; mac/* |",
             "no edit columns/always_wrong",
         ),
-        ("| | macs/rotation |", "no edit macs/rotation"),
+        ("| | macs/sbox_entry |", "no edit macs/sbox_entry"),
         (
             "| `rust/compare/tests/agreement.rs`: `mains` | |",
             "`mains` is not declared",
@@ -65,14 +68,14 @@ fn claims_of_what_is_not_there() {
     for (cells, words) in wrong {
         finds(claims::check, &row(cells), words);
     }
-    let right = "| `Sha1.antt`: `sha1`; `sha1::sha1`; `Sha1Context::new`, `update` | mac/rotation, rcon; vectors: x; mac/* |";
+    let right = "| `Sha1.antt`: `sha1`; `sha1::sha1`; `Sha1Context::new`, `update` | mac/sbox_entry; vectors: x; mac/* |";
     assert!(claims::check(&row(right)).faults.is_empty());
 }
 
 #[test]
 fn claims_of_what_was_taken_away() {
-    let tree = Tree::read().without("crates/mac/must-fail/rotation.edit");
-    finds(claims::check, &tree, "no edit mac/rotation");
+    let tree = Tree::read().without("crates/mac/must-fail/sbox_entry.edit");
+    finds(claims::check, &tree, "no edit mac/sbox_entry");
     let tree = changed("crates/mac/src/sha1.rt", "pub fn sha1(", "pub fn sha2(");
     finds(claims::check, &tree, "`sha1::sha1` is not in src/");
 }
