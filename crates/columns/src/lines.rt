@@ -1,5 +1,5 @@
 // A text in lines, and a line in columns with one space between: what the vector files are made of.
-// Assumes nothing.
+// `find` asks that its place lies in the text, and a private step that its end does; the others assume nothing.
 ghost use mathlib.Core.Path.{_≡_};
 ghost use Prim.Native.Nat.{_+_, _≤_, min};
 ghost use lib.Dec.{eqb};

@@ -1,6 +1,6 @@
--- What the calls on a connection answer, and what they leave in the buffers lent to them: BOUNDARY.md, "The calls" and "The state". What the calls
--- do is defined in Calls.antt of `rules`, and a state's bytes in Layout.antt of `states`; here are the rules of the boundary alone.
--- Assumes nothing.
+-- What the calls on a connection answer, and what they leave in the buffers lent to them: docs/BOUNDARY.md, "The calls" and "The
+-- state". What the calls do is defined in Calls.antt of `rules`, and a state's bytes in Layout.antt of `states`; here are the rules of
+-- the boundary alone. Assumes nothing.
 use Prim.Native.Nat.{ℕ}
 use mathlib.Core.Bool.{Bool, true, false, cond, not}
 use mathlib.Core.List.{List}

@@ -1,4 +1,4 @@
--- What the four calls on messages give and write: BOUNDARY.md, "The calls", its last paragraph. Assumes nothing.
+-- What the four calls on messages give and write: docs/BOUNDARY.md, "The calls", its last paragraph. Assumes nothing.
 use Prim.Native.Nat.{ℕ}
 use mathlib.Core.Bool.{Bool, cond, _&&_}
 use mathlib.Core.List.{List, _++_}

@@ -1,4 +1,4 @@
-// A connection's state as bytes and back: BOUNDARY.md, "The state".
+// A connection's state as bytes and back: docs/BOUNDARY.md, "The state".
 // Every value of the type is a state, and so is every string of 152 bytes; `decode` assumes that it gets so many.
 ghost use mathlib.Core.Path.{_≡_};
 ghost use mathlib.Core.List.{_++_};
