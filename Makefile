@@ -14,7 +14,7 @@ SHELL := bash
 MAKEFLAGS += --no-print-directory
 .NOTPARALLEL:
 .DELETE_ON_ERROR:
-.PHONY: all proved archive demonstration test guard house gate expected bench soak clean
+.PHONY: all proved archive demonstration test guard house expected bench soak clean
 
 ARCHIVE := target/staticlib/libembankery.a
 SOURCES := crates.txt $(shell find crates -name '*.rt' -o -name '*.antt')
@@ -44,10 +44,6 @@ TIME ?= 60
 soak: archive
 	cd rust && cargo run --offline --locked --release --quiet --package compare -- $(TIME) $(if $(SEED),--seed $(SEED))
 
-# The gate, in an environment of its own (.ci/run), whoever calls it.
-test:
-	@.ci/run
-
 # A second: what would make the gate say more than it did.
 guard:
 	@.ci/guard
@@ -61,9 +57,14 @@ TESTS := rust/target/tests.log
 run_tests = mkdir -p rust/target; (cd rust && cargo test --offline --locked) | tee $(TESTS)
 compare_tests = .ci/count $(TESTS) | diff - .ci/expected
 
+# The gate runs in an environment of its own: called from elsewhere, make test has .ci/run make one and call it again.
+ifndef GATE
+test:
+	@.ci/run
+else
 # The cheap checks come first. rt ci's last line, its verdict, is held back until the tests on the archive have
 # passed too; if anything fails on the way, it is not printed as a line at all. It counts crates and edits.
-gate: guard house
+test: guard house
 	@verdict=$$(mktemp); trap 'rm -f "$$verdict"' EXIT; \
 	failed() { echo "make test: FAILED$$*"; exit 1; }; \
 	rt ci | awk -v keep="$$verdict" 'NR > 1 { print last; fflush() } { last = $$0 } END { print last > keep }' \
@@ -75,6 +76,7 @@ gate: guard house
 	$(run_tests) || failed " in the Rust tests"; \
 	$(compare_tests) || failed ": what the tests say (<) is not what .ci/expected has (>)"; \
 	cat "$$verdict"
+endif
 
 # After a change of the number of edits or tests: runs the tests and writes their numbers. Look at the difference.
 expected: archive
