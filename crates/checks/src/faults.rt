@@ -1,5 +1,5 @@
-// The tests that come before a key is looked at: document 01, "Numbers given back", 10 to 24. One function for each group of the crate `rules`;
-// where none of its tests applies, it gives Good(0, 0), of which nothing is made. Assumes nothing.
+// The tests that come before a key is looked at: document 01, "Numbers given back", 10 to 24. One function for each group of the crate
+// `rules`; where none of its tests applies, it gives Good(0, 0), of which nothing is made. Assumes nothing.
 ghost use mathlib.Core.Path.{_≡_};
 ghost use mathlib.Core.Bool.{not, _&&_};
 ghost use mathlib.Core.List.{_++_};
@@ -212,7 +212,9 @@ pub fn early_faults(
     segment: &[u8],
     conn: Connection,
 ) -> Outcome
-    ensures { λ r. ⌜ r ≡ first (stateTests (now (table .entry)) (now (source .entry)) (now (destination .entry)) conn ++ lengthTests 20 (now (segment .entry))) unrefused ⌝ }
+    ensures { λ r. ⌜ r
+        ≡ first (stateTests (now (table .entry)) (now (source .entry)) (now (destination .entry)) conn
+        ++ lengthTests 20 (now (segment .entry))) unrefused ⌝ }
 {
     let state = state_faults(table, source, destination, conn);
     let Outcome::Good(_, _) = state else {
@@ -223,7 +225,8 @@ pub fn early_faults(
 
 // 21 to 24: form, pair and stage.
 pub fn formed_faults(conn: Connection, source: &[u8], destination: &[u8], header: Header) -> Outcome
-    ensures { λ r. ⌜ r ≡ first (optionLines (header .options) ++ arrivalLines conn (now (source .entry)) (now (destination .entry)) header) unrefused ⌝ }
+    ensures { λ r. ⌜ r
+        ≡ first (optionLines (header .options) ++ arrivalLines conn (now (source .entry)) (now (destination .entry)) header) unrefused ⌝ }
 {
     let options = header.options;
     let form = form_faults(options);
@@ -235,7 +238,9 @@ pub fn formed_faults(conn: Connection, source: &[u8], destination: &[u8], header
 
 // The same without a state.
 pub fn early_syn_faults(table: &[u8], source: &[u8], destination: &[u8], segment: &[u8]) -> Outcome
-    ensures { λ r. ⌜ r ≡ first (inputTests (now (table .entry)) (now (source .entry)) (now (destination .entry)) ++ lengthTests 20 (now (segment .entry))) unrefused ⌝ }
+    ensures { λ r. ⌜ r
+        ≡ first (inputTests (now (table .entry)) (now (source .entry)) (now (destination .entry))
+        ++ lengthTests 20 (now (segment .entry))) unrefused ⌝ }
 {
     let input = input_faults(table, source, destination);
     let Outcome::Good(_, _) = input else {

@@ -17,6 +17,10 @@ isDigit c = within 48 57 c || within 97 102 c
 unfoldable pub digit : ℕ → ℕ
 digit c = cond (within 48 57 c) (c - 48) (cond (within 97 102 c) (c - 87) 0)
 
+-- the value of a column that is one digit; 0 for any other
+abbrev pub figure : List ℕ → ℕ
+figure t = cond (eqb (length t) 1) (digit (getD t 0 0)) 0
+
 -- every byte of a text is a digit
 unfoldable pub allDigits : List ℕ → Bool
 allDigits [] = true

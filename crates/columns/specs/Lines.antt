@@ -1,8 +1,8 @@
 -- A text in lines, and a line in columns with one space between. Assumes nothing.
 use Prim.Native.Nat.{ℕ, zero, suc}
-use mathlib.Core.Bool.{cond}
+use mathlib.Core.Bool.{Bool, false, cond}
 use mathlib.Core.List.{List, [], _∷_}
-use lib.ListN.{take, drop}
+use lib.ListN.{length, getD, take, drop}
 use lib.Dec.{eqb}
 
 -- how many bytes stand before the first b, or in all where there is none
@@ -18,3 +18,7 @@ lineAt at s = take (before 10 (drop at s)) (drop at s)
 unfoldable pub column : ℕ → List ℕ → List ℕ
 column zero s = take (before 32 s) s
 column (suc k) s = column k (drop (suc (before 32 s)) s)
+
+-- a line that begins with '#'
+abbrev pub isRemark : List ℕ → Bool
+isRemark l = cond (eqb (length l) 0) false (eqb (getD l 0 0) 35)

@@ -2,10 +2,12 @@
 // Assumes nothing.
 ghost use mathlib.Core.Path.{_≡_};
 ghost use Prim.Native.Nat.{_+_, _*_, _/_, _≤_, _<_};
-ghost use lib.ListN.{length};
+ghost use lib.ListN.{length, replicate};
 ghost use lib.Seq.{paste};
 ghost use Rattle.io.specs.Counts.{Counts};
-ghost use Rattle.columns.specs.Hex.{within as withinOf, isDigit, digit as digitOf, allDigits, bytes, spells as spellsOf, fits as fitsOf, count, filled};
+ghost use Rattle.octets.specs.Octets.{get32};
+ghost use Rattle.columns.specs.Hex.{within as withinOf, isDigit, digit as digitOf, figure as figureOf, allDigits};
+ghost use Rattle.columns.specs.Hex.{bytes, spells as spellsOf, fits as fitsOf, count, filled};
 
 fn within(low: u8, high: u8, c: u8) -> bool
     ensures { λ r. ⌜ r ≡ withinOf low high c ⌝ }
@@ -115,24 +117,28 @@ pub fn read(text: &[u8], out: &mut [u8]) -> usize
 }
 
 // Sixteen bytes by value; what the column lacks of them is 0.
-pub fn sixteen(text: &[u8]) -> [u8; 16] {
+pub fn sixteen(text: &[u8]) -> [u8; 16]
+    ensures { λ r. ⌜ r ≡ filled (now (text .entry)) (replicate 16 0) ⌝ }
+{
     let mut b = [0u8; 16];
     read(text, &mut b);
     b
 }
 
-// Whether a column is one digit.
-pub fn is_figure(text: &[u8]) -> bool {
-    text.len() == 1 && is_digit(text[0])
-}
-
 // One digit's value; 0 for any other column.
-pub fn figure(text: &[u8]) -> u8 {
-    if text.len() == 1 { digit(text[0]) } else { 0 }
+pub fn figure(text: &[u8]) -> u8
+    ensures { λ r. ⌜ r ≡ figureOf (now (text .entry)) ⌝ }
+{
+    if text.len() == 1 {
+        return digit(text[0]);
+    }
+    0
 }
 
 // Four bytes as a number, the highest first; what the column lacks of them is 0.
-pub fn word(text: &[u8]) -> u32 {
+pub fn word(text: &[u8]) -> u32
+    ensures { λ r. ⌜ r ≡ get32 (filled (now (text .entry)) (replicate 4 0)) 0 ⌝ }
+{
     let mut b = [0u8; 4];
     read(text, &mut b);
     octets::be32(b[0], b[1], b[2], b[3])

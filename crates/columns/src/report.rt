@@ -1,5 +1,7 @@
 // What is printed of a line, and the count of what came out as expected. Assumes nothing.
 ghost use mathlib.Core.Path.{_≡_};
+ghost use mathlib.Core.Bool.{false, cond};
+ghost use Prim.Native.Nat.{_+_, _%_, _^_};
 ghost use Rattle.wire.specs.Bytes.{sameBytes};
 use libc::STDOUT_FILENO;
 use wire::bytes::same;
@@ -11,11 +13,15 @@ pub struct Tally {
 }
 
 impl Tally {
-    pub fn new() -> Self {
+    pub fn new() -> Self
+        ensures { λ r. ⌜ r ≡ record { ok = 0; all = 0 } ⌝ }
+    {
         Tally { ok: 0, all: 0 }
     }
 
-    pub fn counted(self, ok: bool) -> Self {
+    pub fn counted(self, ok: bool) -> Self
+        ensures { λ r. ⌜ r ≡ record { ok = (self .ok + cond ok 1 0) % 2 ^ 64; all = (self .all + 1) % 2 ^ 64 } ⌝ }
+    {
         let n = ok as u64;
         Tally {
             ok: std::num::wrapping_add_u64(self.ok, n),
@@ -48,7 +54,10 @@ pub fn place(file: &[u8], line: u64) {
     text(b" ");
 }
 
-pub fn unreadable(line: &[u8]) -> bool {
+// A line that was not expected: it counts as one that came out otherwise.
+pub fn unreadable(line: &[u8]) -> bool
+    ensures { λ r. ⌜ r ≡ false ⌝ }
+{
     text(b"CANNOT BE READ: ");
     text(line);
     text(b"\n");

@@ -1,96 +1,35 @@
-// The MAC library for C: docs/BOUNDARY.md, "The calls". Each call gives how many bytes it wrote at the front
-// of out: 20, 20, 16, 16. Where out is shorter, or an AES key or block has not 16 bytes, it gives 0 and
-// writes nothing. Assumes nothing.
+// The MAC library for C: docs/BOUNDARY.md, "The calls". The calls are those of the crate `digests`. Assumes nothing.
 ghost use mathlib.Core.Path.{_≡_};
-ghost use Prim.Native.Nat.{_≤_};
-ghost use mathlib.Core.List.{_++_};
-ghost use lib.ListN.{length, drop};
-ghost use Rattle.mac.specs.Sha1.{sha1};
-ghost use Rattle.mac.specs.Hmac.{hmacSha1};
-ghost use Rattle.mac.specs.Aes.{keyExpansion, cipher};
-ghost use Rattle.mac.specs.Cmac.{cmac};
-ghost use Rattle.embankery.specs.Macs.{room, canTag, canEncrypt, given, written};
+ghost use Rattle.digests.specs.Digests.{gives, sha1Into, hmacSha1Into, aes128Into, cmacInto};
 
 // SHA-1 of the message.
 #[no_mangle]
 pub extern "C" fn mac_sha1(message: &[u8], out: &mut [u8]) -> u64
-    ensures answer { λ r. ⌜ r ≡ given (room 20 (now (out .entry))) 20 ⌝ }
-    ensures bytes { λ _. ⌜ now (out .exit) ≡ written (room 20 (now (out .entry))) (sha1 (now (message .entry))) (now (out .entry)) ⌝ }
+    ensures { λ r. ⌜ gives r (now (out .exit)) ≡ sha1Into (now (message .entry)) (now (out .entry)) ⌝ }
 {
-    if out.len() < 20 {
-        return 0;
-    }
-    let d = mac::sha1::sha1(message);
-    front(out, &d);
-    20
+    digests::sha1(message, out)
 }
 
 // HMAC-SHA-1 of the message under a key of any length.
 #[no_mangle]
 pub extern "C" fn mac_hmac_sha1(key: &[u8], message: &[u8], out: &mut [u8]) -> u64
-    ensures answer { λ r. ⌜ r ≡ given (room 20 (now (out .entry))) 20 ⌝ }
-    ensures bytes { λ _. ⌜ now (out .exit) ≡ written (room 20 (now (out .entry))) (hmacSha1 (now (key .entry)) (now (message .entry))) (now (out .entry)) ⌝ }
+    ensures { λ r. ⌜ gives r (now (out .exit)) ≡ hmacSha1Into (now (key .entry)) (now (message .entry)) (now (out .entry)) ⌝ }
 {
-    if out.len() < 20 {
-        return 0;
-    }
-    let d = mac::hmac::hmac_sha1(key, message);
-    front(out, &d);
-    20
+    digests::hmac_sha1(key, message, out)
 }
 
 // One block encrypted by AES-128.
 #[no_mangle]
 pub extern "C" fn mac_aes128(key: &[u8], block: &[u8], out: &mut [u8]) -> u64
-    ensures answer { λ r. ⌜ r ≡ given (canEncrypt (now (key .entry)) (now (block .entry)) (now (out .entry))) 16 ⌝ }
-    ensures bytes { λ _. ⌜ now (out .exit) ≡ written (canEncrypt (now (key .entry)) (now (block .entry)) (now (out .entry))) (cipher (keyExpansion (now (key .entry))) (now (block .entry))) (now (out .entry)) ⌝ }
+    ensures { λ r. ⌜ gives r (now (out .exit)) ≡ aes128Into (now (key .entry)) (now (block .entry)) (now (out .entry)) ⌝ }
 {
-    if key.len() != 16 {
-        return 0;
-    }
-    if block.len() != 16 {
-        return 0;
-    }
-    if out.len() < 16 {
-        return 0;
-    }
-    let keys = mac::aes::expand_key(whole(key));
-    let d = mac::aes::encrypt(keys, whole(block));
-    front(out, &d);
-    16
+    digests::aes128(key, block, out)
 }
 
 // AES-CMAC of the message.
 #[no_mangle]
 pub extern "C" fn mac_aes128_cmac(key: &[u8], message: &[u8], out: &mut [u8]) -> u64
-    ensures answer { λ r. ⌜ r ≡ given (canTag (now (key .entry)) (now (out .entry))) 16 ⌝ }
-    ensures bytes { λ _. ⌜ now (out .exit) ≡ written (canTag (now (key .entry)) (now (out .entry))) (cmac (now (key .entry)) (now (message .entry))) (now (out .entry)) ⌝ }
+    ensures { λ r. ⌜ gives r (now (out .exit)) ≡ cmacInto (now (key .entry)) (now (message .entry)) (now (out .entry)) ⌝ }
 {
-    if key.len() != 16 {
-        return 0;
-    }
-    if out.len() < 16 {
-        return 0;
-    }
-    let d = mac::cmac::cmac(whole(key), message);
-    front(out, &d);
-    16
-}
-
-// Puts d at the front of out.
-fn front(out: &mut [u8], d: &[u8])
-    requires { ⌜ length (now d) ≤ length (now out) ⌝ }
-    ensures { λ _. ⌜ now (out .exit) ≡ now (d .entry) ++ drop (length (now (d .entry))) (now (out .entry)) ⌝ }
-{
-    octets::copy_at(out, 0, d);
-}
-
-// Sixteen bytes by value.
-fn whole(s: &[u8]) -> [u8; 16]
-    requires { ⌜ length (now s) ≡ 16 ⌝ }
-    ensures { λ r. ⌜ r ≡ now (s .entry) ⌝ }
-{
-    let mut b = [0u8; 16];
-    octets::copy_at(&mut b, 0, s);
-    b
+    digests::aes128_cmac(key, message, out)
 }

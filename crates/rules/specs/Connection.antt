@@ -45,6 +45,9 @@ pub record Arrival : Type 0 where
   pub destination : List ℕ
   pub segment : List ℕ
 
+abbrev pub arrivalOf : (source destination segment : List ℕ) → Arrival
+arrivalOf source destination segment = record { source = source; destination = destination; segment = segment }
+
 -- the pair of an arrival as we hold it: its source is our remote side
 abbrev pub arrivalPair : Arrival → Pair
 arrivalPair a = pairOf (a .destination) (a .source) (destinationPort (a .segment)) (sourcePort (a .segment))

@@ -5,6 +5,7 @@ pub mod Segment
 pub mod Connection
 pub mod Calls
 pub mod Answers
+pub mod AnswerLaws
 pub mod Ends
 pub mod Demand3
 pub mod History

@@ -9,7 +9,9 @@ use Rattle.rules.specs.declared.Place.{Place}
 use Rattle.rules.specs.declared.Place.the-variants.{At, Nowhere}
 use Rattle.rules.specs.Connection.{located, value, bump, slots, slot, countAt, countDrop}
 use Rattle.rules.specs.CountLaws.{slot-below}
+use Rattle.rules.specs.Answers.{placeAnswer, positionNumber}
 use Rattle.rules.specs.Position.{wrappingDifference, position}
+use Rattle.rules.specs.PositionLaws.{place-answer}
 
 -- d is the wrapping difference of s and the reference
 module _ (reference s d : ℕ) (q : wrappingDifference s reference ≡ d) where
@@ -46,3 +48,7 @@ count-is n i v ds p q e = ap (set ds i) e ∙ ap (λ (x : Place). countAt x ds) 
 pub uncounted-is : (n : ℕ) (ds : List ℕ) {r : Place} → r ≡ slot n → r ≡ Nowhere → ds ≡ countDrop n ds
 unfolding countDrop
 uncounted-is n ds p q = ap (λ (x : Place). countAt x ds) (sym q ∙ p)
+
+-- what a position answers
+pub numbered : (reference s : ℕ) {r : Place} → r ≡ position reference s → (r ≡ position reference s) × ((n : ℕ) → placeAnswer n r ≡ positionNumber n reference s)
+numbered reference s e = (e, λ n. ap (placeAnswer n) e ∙ place-answer n (position reference s))

@@ -2,7 +2,9 @@
 -- Fields that later requests add come behind these, and counts behind the counts: what stands here keeps its place.
 use Prim.Native.Nat.{ℕ, zero, suc, _+_, _*_, _^_}
 use mathlib.Core.List.{List, [], _∷_, _++_}
-use lib.ListN.{getD, take, drop}
+use mathlib.Core.Bool.{Bool}
+use lib.ListN.{length, getD, take, drop}
+use lib.Dec.{eqb}
 use Rattle.octets.specs.Octets.{get16, get32, bytes16, bytes32, bytes64}
 use Rattle.keys.specs.declared.entry.Pair.{Pair}
 use Rattle.rules.specs.declared.Connection.{Connection}
@@ -55,6 +57,10 @@ dropsAt = 72
 
 abbrev pub stateBytes : ℕ
 stateBytes = dropsAt + 8 * slots
+
+-- whether a buffer has a state's length
+abbrev pub isState : List ℕ → Bool
+isState b = eqb (length b) stateBytes
 
 -- Numbers of eight bytes.
 

@@ -1,6 +1,8 @@
 // The position of a sequence number: document 01, "Positions". The wrapping difference of two 32-bit numbers decides it.
 // Assumes nothing.
 ghost use mathlib.Core.Path.{_≡_};
+ghost use Prim.Native.Nat.{ℕ};
+ghost use Rattle.rules.specs.Answers.{placeAnswer, positionNumber};
 ghost use Rattle.rules.specs.Position.{position};
 ghost use Rattle.rules.specs.Connection.{placeOn, value, extensionOf};
 use crate::writers::is_open;
@@ -10,7 +12,8 @@ use rules::Place;
 // "Subtraction of sequence numbers wraps at 2^32": below 2^31 the number lies so far ahead of the reference, above it behind; at exactly
 // 2^31, and where X would be below 0 or not below 2^64, there is no position.
 pub fn locate(reference: u64, s: u32) -> Place
-    ensures { λ r. ⌜ r ≡ position reference s ⌝ }
+    ensures place { λ r. ⌜ r ≡ position reference s ⌝ }
+    ensures number { λ r. ⌜ ((n : ℕ) → placeAnswer n r ≡ positionNumber n reference s) ⌝ }
 {
     let low = (reference % 4294967296) as u32;
     let difference = std::num::wrapping_sub_u32(s, low);

@@ -3,3 +3,4 @@ pub mod Judging
 pub mod OpenAnswers
 pub mod SignedLaws
 pub mod SignAnswers
+pub mod Numbered

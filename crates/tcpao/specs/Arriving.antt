@@ -6,10 +6,12 @@ use Rattle.wire.specs.Header.{sequence}
 use Rattle.keys.specs.declared.entry.Ids.{Ids}
 use Rattle.keys.specs.Table.{Tables, recvEntry}
 use Rattle.rules.specs.declared.Connection.{Connection}
+use Rattle.rules.specs.declared.State.{State}
 use Rattle.rules.specs.declared.Outcome.{Outcome}
 use Rattle.rules.specs.declared.Outcome.the-variants.{Good}
 use Rattle.rules.specs.Segment.{keyId}
 use Rattle.rules.specs.Connection.{Arrival, sized, arrivalPair, isOpen}
+use Rattle.rules.specs.Calls.{openedBy}
 
 -- what is accepted while opening stands at its own number
 abbrev pub AtNumber : Connection → ℕ → Outcome → Type 0
@@ -23,3 +25,7 @@ pub record Taken (t : Tables) (a : Arrival) (ids : Ids) (x : ℕ) : Type 0 where
 
 abbrev pub TakenBy : Tables → Arrival → Ids → Outcome → Type 0
 TakenBy t a ids o = (x r : ℕ) → o ≡ Good x r → Taken t a ids x
+
+-- the state that an outcome of its judging opens with
+abbrev pub openedFrom : Tables → Arrival → ℕ → Outcome → State
+openedFrom t a isn o = openedBy t (arrivalPair a) isn (recvEntry t (arrivalPair a) (keyId (a .segment)) .entry) o

@@ -1,12 +1,11 @@
-// The calls that judge: document 01, "A connection's life" and "Numbers given back". `checks::check` says which number or position; here the answer
-// and the new state are made of it. No call assumes anything; what a step assumes of the outcome is a fact of that check.
+// The calls that judge: document 01, "A connection's life" and "Numbers given back". `checks::check` says which number or position; here
+// the answer and the new state are made of it. No call assumes anything; what a step assumes of the outcome is a fact of that check.
 ghost use mathlib.Core.Path.{_≡_};
 ghost use mathlib.Core.Bool.{false, cond};
-ghost use Rattle.keys.specs.Table.{recvEntry};
-ghost use Rattle.rules.specs.Segment.{keyId};
-ghost use Rattle.rules.specs.Connection.{arrivalPair, isOpen, nextKey, withDrop};
-ghost use Rattle.rules.specs.Calls.{verdictOf, indexOf, afterJudging, openedBy, judged, judgedSyn, openedPassively};
-ghost use Rattle.tcpao.specs.Arriving.{AtNumber, TakenBy};
+ghost use Rattle.rules.specs.Answers.{verdictAnswer, judgedNumber, synNumber};
+ghost use Rattle.rules.specs.Connection.{arrivalOf, isOpen, nextKey, withDrop};
+ghost use Rattle.rules.specs.Calls.{verdictOf, indexOf, afterJudging, judged, judgedSyn, openedPassively};
+ghost use Rattle.tcpao.specs.Arriving.{AtNumber, TakenBy, openedFrom};
 use checks::begun::finished;
 use checks::check::arrival_pair;
 use checks::check::begin_syn;
@@ -108,7 +107,10 @@ pub fn judge(
     segment: &[u8],
     state: State,
 ) -> Judged
-    ensures { λ r. ⌜ r ≡ judged (now (table .entry)) (record { source = now (source .entry); destination = now (destination .entry); segment = now (segment .entry) }) state ⌝ }
+    ensures answer { λ r. ⌜ r
+        ≡ judged (now (table .entry)) (arrivalOf (now (source .entry)) (now (destination .entry)) (now (segment .entry))) state ⌝ }
+    ensures number { λ r. ⌜ verdictAnswer (r .verdict) (r .index)
+        ≡ judgedNumber (now (table .entry)) (arrivalOf (now (source .entry)) (now (destination .entry)) (now (segment .entry))) state ⌝ }
 {
     let conn = state.conn;
     let o = check(table, source, destination, segment, conn, state.seen);
@@ -130,7 +132,10 @@ pub fn judge_syn(
     segment: &[u8],
     strict: bool,
 ) -> Checked
-    ensures { λ r. ⌜ r ≡ judgedSyn (now (table .entry)) (record { source = now (source .entry); destination = now (destination .entry); segment = now (segment .entry) }) strict ⌝ }
+    ensures answer { λ r. ⌜ r
+        ≡ judgedSyn (now (table .entry)) (arrivalOf (now (source .entry)) (now (destination .entry)) (now (segment .entry))) strict ⌝ }
+    ensures number { λ r. ⌜ verdictAnswer (r .verdict) (r .index)
+        ≡ synNumber (now (table .entry)) (arrivalOf (now (source .entry)) (now (destination .entry)) (now (segment .entry))) strict ⌝ }
 {
     let o = check_syn(table, source, destination, segment, strict);
     let verdict = verdict_of(o);
@@ -148,8 +153,9 @@ fn opened_by(
     ids: Ids,
     o: Outcome,
 ) -> State
-    requires { ⌜ TakenBy (now table) (record { source = now source; destination = now destination; segment = now segment }) ids o ⌝ }
-    ensures { λ r. ⌜ r ≡ openedBy (now (table .entry)) (arrivalPair (record { source = now (source .entry); destination = now (destination .entry); segment = now (segment .entry) })) isn (recvEntry (now (table .entry)) (arrivalPair (record { source = now (source .entry); destination = now (destination .entry); segment = now (segment .entry) })) (keyId (now (segment .entry))) .entry) o ⌝ }
+    requires { ⌜ TakenBy (now table) (arrivalOf (now source) (now destination) (now segment)) ids o ⌝ }
+    ensures { λ r. ⌜ r
+        ≡ openedFrom (now (table .entry)) (arrivalOf (now (source .entry)) (now (destination .entry)) (now (segment .entry))) isn o ⌝ }
 {
     let Outcome::Good(_, rnext) = o else {
         return empty();
@@ -168,7 +174,11 @@ pub fn open_passive(
     isn: u32,
     strict: bool,
 ) -> Judged
-    ensures { λ r. ⌜ r ≡ openedPassively (now (table .entry)) (record { source = now (source .entry); destination = now (destination .entry); segment = now (segment .entry) }) isn strict ⌝ }
+    ensures answer { λ r. ⌜ r
+        ≡ openedPassively (now (table .entry))
+        (arrivalOf (now (source .entry)) (now (destination .entry)) (now (segment .entry))) isn strict ⌝ }
+    ensures number { λ r. ⌜ verdictAnswer (r .verdict) (r .index)
+        ≡ synNumber (now (table .entry)) (arrivalOf (now (source .entry)) (now (destination .entry)) (now (segment .entry))) strict ⌝ }
 {
     let begun = begin_syn(table, source, destination, segment, strict);
     let ids = begun.ids;

@@ -1,6 +1,7 @@
-// Active opening: document 01, "A connection's life", "Active opening names a SendID; its entry must match the pair." Also the answer, which it
-// shares with the operator's call. Assumes nothing.
+// Active opening: document 01, "A connection's life", "Active opening names a SendID; its entry must match the pair." Also the answer,
+// which it shares with the operator's call. Assumes nothing.
 ghost use mathlib.Core.Path.{_≡_};
+ghost use Rattle.rules.specs.Answers.{doneAnswer, openedNumber};
 ghost use Rattle.rules.specs.Calls.{settledBy, openedActively};
 use checks::faults::address_faults;
 use checks::opening::key_faults;
@@ -45,7 +46,10 @@ pub fn open_active(
     isn: u32,
     send_id: u8,
 ) -> Settled
-    ensures { λ r. ⌜ r ≡ openedActively (now (table .entry)) (now (local .entry)) (now (remote .entry)) «local_port» «remote_port» isn «send_id» ⌝ }
+    ensures answer { λ r. ⌜ r
+        ≡ openedActively (now (table .entry)) (now (local .entry)) (now (remote .entry)) «local_port» «remote_port» isn «send_id» ⌝ }
+    ensures number { λ r. ⌜ doneAnswer (r .answer) (r .index)
+        ≡ openedNumber (now (table .entry)) (now (local .entry)) (now (remote .entry)) «local_port» «remote_port» «send_id» ⌝ }
 {
     let none = empty();
     let sizes = address_faults(local, remote);

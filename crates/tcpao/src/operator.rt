@@ -2,6 +2,7 @@
 // "A connection's life", "An operator call sets the RecvID asked of the peer; nothing else does." Assumes nothing.
 ghost use mathlib.Core.Path.{_≡_};
 ghost use Rattle.keys.specs.Table.{checked};
+ghost use Rattle.rules.specs.Answers.{tableAnswer, doneAnswer, tableNumber, askedNumber};
 ghost use Rattle.rules.specs.Calls.{asked};
 use crate::open::settled_by;
 use checks::opening::ask_faults;
@@ -12,13 +13,15 @@ use states::writers::with_asked;
 
 // 10 to 17 with the entry's index, or how many entries there are.
 pub fn check_table(table: &[u8]) -> Loaded
-    ensures { λ r. ⌜ r ≡ checked (now (table .entry)) ⌝ }
+    ensures answer { λ r. ⌜ r ≡ checked (now (table .entry)) ⌝ }
+    ensures number { λ r. ⌜ tableAnswer r ≡ tableNumber (now (table .entry)) ⌝ }
 {
     keys::table::check(table)
 }
 
 pub fn ask(table: &[u8], recv_id: u8, state: State) -> Settled
-    ensures { λ r. ⌜ r ≡ asked (now (table .entry)) «recv_id» state ⌝ }
+    ensures answer { λ r. ⌜ r ≡ asked (now (table .entry)) «recv_id» state ⌝ }
+    ensures number { λ r. ⌜ doneAnswer (r .answer) (r .index) ≡ askedNumber (now (table .entry)) «recv_id» (state .conn) ⌝ }
 {
     let outcome = ask_faults(table, recv_id, state.conn);
     settled_by(outcome, state, with_asked(recv_id, state))

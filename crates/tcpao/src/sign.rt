@@ -6,6 +6,7 @@ ghost use mathlib.Core.List.{_++_};
 ghost use Prim.Native.Nat.{_+_, _*_, _/_, _≤_, _<_};
 ghost use lib.ListN.{length, getD, take, drop, replicate};
 ghost use Rattle.rules.specs.Connection.{isOpen, leaving};
+ghost use Rattle.rules.specs.Answers.{signingAnswer, signedNumber};
 ghost use Rattle.rules.specs.Calls.{signedSegment, written, signed, output};
 ghost use Rattle.rules.specs.declared.Signing.the-variants as S;
 ghost use Rattle.traffic.specs.Filled.{filled};
@@ -163,6 +164,8 @@ fn refused(n: u8, i: usize, state: State) -> Signed
 pub fn sign(table: &[u8], segment: &[u8], out: &mut [u8], state: State) -> Signed
     ensures answer { λ r. ⌜ r ≡ signed (now (table .entry)) (now (segment .entry)) (now (out .entry)) state ⌝ }
     ensures storage { λ _. ⌜ now (out .exit) ≡ output (now (table .entry)) (now (segment .entry)) (now (out .entry)) state ⌝ }
+    ensures number { λ r. ⌜ signingAnswer (r .answer) (r .index)
+        ≡ signedNumber (now (table .entry)) (now (segment .entry)) (now (out .entry)) state ⌝ }
 {
     let conn = state.conn;
     let found = keys::table::find_send(table, conn.pair, state.send_id);

@@ -10,5 +10,5 @@ place-on-spec =
     (tie.spec
     (λ c κs. search needs)
     (λ c κs. search needs)
-    (λ c. rw (sym (c .before .before .is-open .ensures) ∙ c .before .if1 .taken) (c .locate .ensures))
+    (λ c. rw (sym (c .before .before .is-open .ensures) ∙ c .before .if1 .taken) (c .locate .ensures .0))
     (λ c. rw (sym (c .before .is-open .ensures) ∙ c .if1 .left)))

@@ -1,7 +1,9 @@
 -- The answer and the state, from what judging found.
 use borrow.Author.Needs.{needs}
+use Rattle.rules.specs.Connection.{arrivalOf}
 use Rattle.checks.specs.BeginLaws.{syn-ends, syn-ids, waits}
 use Rattle.tcpao.proofs.Judging.{taken-by, passively-is}
+use Rattle.tcpao.proofs.Numbered.{passively-numbered}
 use Rattle.tcpao.proofs.judge.open_passive.Statement.{statement}
 use Rattle.tcpao.proofs.judge.open_passive.Tie as tie
 
@@ -11,15 +13,21 @@ finished-requires c κs = (c .before .begin-syn .ensures .short, waits (c .befor
 opened-by-requires : tie.Need-opened-by-requires
 opened-by-requires c κs =
     let a = c .before .before .before .before .before .before .before .before .before .args in
+    let t = a .table .now in
+    let s = arrivalOf (a .source .now) (a .destination .now) (a .segment .now) in
     let b = c .before .before .before .before .begin-syn in
     let f = c .before .before .finished .ensures in
-    taken-by (a .table .now) (record { source = a .source .now; destination = a .destination .now; segment = a .segment .now }) (a .strict) (syn-ends (a .table .now) (record { source = a .source .now; destination = a .destination .now; segment = a .segment .now }) (a .strict) (b .result) (b .ensures) f) (λ x r g. syn-ids (a .table .now) (record { source = a .source .now; destination = a .destination .now; segment = a .segment .now }) (a .strict) (b .result) (b .ensures) f g)
+    taken-by t s (a .strict) (syn-ends t s (a .strict) (b .result) (b .ensures) f) (λ x r g. syn-ids t s (a .strict) (b .result) (b .ensures) f g)
 
 returns : tie.Need-returns
 returns c =
     let a = c .before .before .before .before .before .before .before .before .before .before .args in
+    let t = a .table .now in
+    let s = arrivalOf (a .source .now) (a .destination .now) (a .segment .now) in
     let b = c .before .before .before .before .before .begin-syn in
-    passively-is (a .table .now) (record { source = a .source .now; destination = a .destination .now; segment = a .segment .now }) (a .isn) (a .strict) (syn-ends (a .table .now) (record { source = a .source .now; destination = a .destination .now; segment = a .segment .now }) (a .strict) (b .result) (b .ensures) (c .before .before .before .finished .ensures)) (c .before .before .verdict-of .ensures) (c .before .index-of .ensures) (c .opened-by .ensures)
+    passively-numbered t s (a .isn) (a .strict)
+    (passively-is t s (a .isn) (a .strict) (syn-ends t s (a .strict) (b .result) (b .ensures) (c .before .before .before .finished .ensures))
+    (c .before .before .verdict-of .ensures) (c .before .index-of .ensures) (c .opened-by .ensures))
 
 pub open-passive-spec : {M : Type 1} → statement M
 open-passive-spec = tie.close (tie.spec (λ c κs. search needs) finished-requires (λ c κs. search needs) (λ c κs. search needs) opened-by-requires returns)

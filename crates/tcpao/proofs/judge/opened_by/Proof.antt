@@ -2,7 +2,7 @@
 use borrow.Author.Needs.{needs}
 use Rattle.keys.specs.Table.{recvEntry}
 use Rattle.rules.specs.Segment.{keyId}
-use Rattle.rules.specs.Connection.{arrivalPair}
+use Rattle.rules.specs.Connection.{arrivalOf, arrivalPair}
 use Rattle.tcpao.proofs.Judging.{not-opened, opened-is}
 use Rattle.tcpao.proofs.judge.opened_by.Statement.{statement}
 use Rattle.tcpao.proofs.judge.opened_by.Tie as tie
@@ -10,7 +10,8 @@ use Rattle.tcpao.proofs.judge.opened_by.Tie as tie
 returns : tie.Need-returns
 returns c =
     let a = c .before .before .before .before .before .before .args in
-    not-opened (a .table .now) (arrivalPair (record { source = a .source .now; destination = a .destination .now; segment = a .segment .now })) (a .isn) (recvEntry (a .table .now) (arrivalPair (record { source = a .source .now; destination = a .destination .now; segment = a .segment .now })) (keyId (a .segment .now)) .entry) (a .o) (c .before .match .keys2) (c .empty .ensures)
+    let p = arrivalPair (arrivalOf (a .source .now) (a .destination .now) (a .segment .now)) in
+    not-opened (a .table .now) p (a .isn) (recvEntry (a .table .now) p (keyId (a .segment .now)) .entry) (a .o) (c .before .match .keys2) (c .empty .ensures)
 
 arrival-pair-requires : tie.Need-arrival-pair-requires
 arrival-pair-requires c κs = c .before .before .before .before .before .before .before .pre _ _ (c .before .o .given .1) .addresses
@@ -18,8 +19,10 @@ arrival-pair-requires c κs = c .before .before .before .before .before .before 
 returns-2 : tie.Need-returns-2
 returns-2 c =
     let a = c .before .before .before .before .before .before .before .before .before .before .before .args in
-    let taken = c .before .before .before .before .before .before .before .before .before .before .before .pre _ _ (c .before .before .before .before .before .o .given .1) in
-    opened-is (a .table .now) (record { source = a .source .now; destination = a .destination .now; segment = a .segment .now }) (a .isn) (c .before .before .before .before .before .o .given .1) (c .before .sequence .ensures) (taken .position) (c .before .before .before .arrival-pair .ensures) (taken .found) (c .before .before .next-key .ensures) (c .opened .ensures)
+    let good = c .before .before .before .before .before .o .given .1 in
+    let taken = c .before .before .before .before .before .before .before .before .before .before .before .pre _ _ good in
+    opened-is (a .table .now) (arrivalOf (a .source .now) (a .destination .now) (a .segment .now)) (a .isn) good (c .before .sequence .ensures) (taken .position)
+    (c .before .before .before .arrival-pair .ensures) (taken .found) (c .before .before .next-key .ensures) (c .opened .ensures)
 
 pub opened-by-spec : {M : Type 1} → statement M
 opened-by-spec = tie.close (tie.spec (λ c. search needs) (λ c κs. search needs) returns arrival-pair-requires (λ c κs. search needs) (λ c κs. search needs) (λ c κs. search needs) returns-2)

@@ -2,14 +2,16 @@
 use borrow.Author.Needs.{needs}
 use mathlib.Core.Path.{_∙_}
 use Rattle.rules.specs.Calls.{settledBy, asked}
+use Rattle.tcpao.proofs.Numbered.{asked-numbered}
 use Rattle.tcpao.proofs.operator.ask.Statement.{statement}
 use Rattle.tcpao.proofs.operator.ask.Tie as tie
 
 returns : tie.Need-returns
 unfolding asked
 returns c =
-    c .settled-by .ensures
-    ∙ (λ i. settledBy (c .before .before .ask-faults .ensures i) (c .before .before .before .before .args .state) (c .before .with-asked .ensures i))
+    let a = c .before .before .before .before .args in
+    asked-numbered (a .table .now) (a .recv-id) (a .state)
+    (c .settled-by .ensures ∙ (λ i. settledBy (c .before .before .ask-faults .ensures i) (a .state) (c .before .with-asked .ensures i)))
 
 pub ask-spec : {M : Type 1} → statement M
 ask-spec = tie.close (tie.spec (λ c κs. search needs) (λ c κs. search needs) (λ c κs. search needs) returns)

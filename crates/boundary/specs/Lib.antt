@@ -1,0 +1,4 @@
+pub mod Word
+pub mod Exports
+pub mod Numbers
+pub mod Unchanged

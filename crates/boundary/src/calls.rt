@@ -1,0 +1,165 @@
+// The calls on a key table and on a connection: docs/BOUNDARY.md, "The calls" and "The state". Each turns the lent bytes into a state, makes the
+// call of the crate `tcpao`, and turns the state back. Assumes nothing.
+ghost use mathlib.Core.Path.{_≡_};
+ghost use Rattle.boundary.specs.Exports.{accepts as acceptsOf, opens as opensOf, answers, leaves, writes};
+ghost use Rattle.boundary.specs.Exports.{checkTableExport, openActiveExport, judgeSynExport, openPassiveExport};
+ghost use Rattle.boundary.specs.Exports.{judgeExport, signExport, askExport};
+use crate::answer::of_done;
+use crate::answer::of_signing;
+use crate::answer::of_table;
+use crate::answer::of_verdict;
+use crate::answer::word;
+use rules::Done;
+use rules::Verdict;
+use states::buffer::is_state;
+use states::buffer::put;
+use states::buffer::put_where;
+use states::state::decode;
+
+// The number for a state buffer of another length.
+const WRONG_STATE: u8 = 18;
+
+// Whether a passive opening opened, and an active one.
+fn accepts(verdict: Verdict) -> bool
+    ensures { λ r. ⌜ r ≡ acceptsOf verdict ⌝ }
+{
+    match verdict {
+        Verdict::Accept(_) => true,
+        Verdict::Pass => false,
+        Verdict::Drop(_) => false,
+    }
+}
+
+fn opens(answer: Done) -> bool
+    ensures { λ r. ⌜ r ≡ opensOf answer ⌝ }
+{
+    match answer {
+        Done::Done => true,
+        Done::Refused(_) => false,
+    }
+}
+
+// How many entries, or 10 to 17 with the entry's index.
+pub fn check_table(table: &[u8]) -> u64
+    ensures { λ r. ⌜ answers r ≡ checkTableExport (now (table .entry)) ⌝ }
+{
+    of_table(tcpao::operator::check_table(table))
+}
+
+// Opens actively; the state is written only where that is done.
+pub fn open_active(
+    table: &[u8],
+    local: &[u8],
+    remote: &[u8],
+    local_port: u16,
+    remote_port: u16,
+    isn: u32,
+    send_id: u8,
+    state: &mut [u8],
+) -> u64
+    ensures { λ r. ⌜ leaves r (now (state .exit))
+        ≡ openActiveExport (now (table .entry)) (now (local .entry)) (now (remote .entry)) «local_port» «remote_port» isn «send_id»
+        (now (state .entry)) ⌝ }
+{
+    if !is_state(state) {
+        return word(WRONG_STATE, 0);
+    }
+    let r = tcpao::open::open_active(table, local, remote, local_port, remote_port, isn, send_id);
+    let answer = r.answer;
+    let opening = r.state;
+    put_where(state, opens(answer), opening);
+    of_done(answer, r.index)
+}
+
+// A bare SYN, without a state.
+pub fn judge_syn(
+    table: &[u8],
+    source: &[u8],
+    destination: &[u8],
+    segment: &[u8],
+    setting: u8,
+) -> u64
+    ensures { λ r. ⌜ answers r
+        ≡ judgeSynExport (now (table .entry)) (now (source .entry)) (now (destination .entry)) (now (segment .entry)) setting ⌝ }
+{
+    let r = tcpao::judge::judge_syn(table, source, destination, segment, setting != 0);
+    let verdict = r.verdict;
+    of_verdict(verdict, r.index)
+}
+
+// Judges the bare SYN again and, only on accept, opens and writes the state.
+pub fn open_passive(
+    table: &[u8],
+    source: &[u8],
+    destination: &[u8],
+    segment: &[u8],
+    isn: u32,
+    setting: u8,
+    state: &mut [u8],
+) -> u64
+    ensures { λ r. ⌜ leaves r (now (state .exit))
+        ≡ openPassiveExport (now (table .entry)) (now (source .entry)) (now (destination .entry)) (now (segment .entry)) isn setting
+        (now (state .entry)) ⌝ }
+{
+    if !is_state(state) {
+        return word(WRONG_STATE, 0);
+    }
+    let r = tcpao::judge::open_passive(table, source, destination, segment, isn, setting != 0);
+    let verdict = r.verdict;
+    let opened = r.state;
+    put_where(state, accepts(verdict), opened);
+    of_verdict(verdict, r.index)
+}
+
+// Judges an arriving segment on a connection, opening or open.
+pub fn judge(
+    table: &[u8],
+    source: &[u8],
+    destination: &[u8],
+    segment: &[u8],
+    state: &mut [u8],
+) -> u64
+    ensures { λ r. ⌜ leaves r (now (state .exit))
+        ≡ judgeExport (now (table .entry)) (now (source .entry)) (now (destination .entry)) (now (segment .entry)) (now (state .entry)) ⌝ }
+{
+    if !is_state(state) {
+        return word(WRONG_STATE, 0);
+    }
+    let held = decode(state);
+    let r = tcpao::judge::judge(table, source, destination, segment, held);
+    let verdict = r.verdict;
+    let judged = r.state;
+    put(state, judged);
+    of_verdict(verdict, r.index)
+}
+
+// Signs a segment into `out`; only the signed length's bytes of it are written.
+pub fn sign(table: &[u8], segment: &[u8], out: &mut [u8], state: &mut [u8]) -> u64
+    ensures { λ r. ⌜ writes r (now (state .exit)) (now (out .exit))
+        ≡ signExport (now (table .entry)) (now (segment .entry)) (now (out .entry)) (now (state .entry)) ⌝ }
+{
+    if !is_state(state) {
+        return word(WRONG_STATE, 0);
+    }
+    let held = decode(state);
+    let r = tcpao::sign::sign(table, segment, out, held);
+    let answer = r.answer;
+    let signed = r.state;
+    put(state, signed);
+    of_signing(answer, r.index)
+}
+
+// Sets the RecvID asked of the peer.
+pub fn ask(table: &[u8], recv_id: u8, state: &mut [u8]) -> u64
+    ensures { λ r. ⌜ leaves r (now (state .exit)) ≡ askExport (now (table .entry)) «recv_id» (now (state .entry)) ⌝ }
+{
+    if !is_state(state) {
+        return word(WRONG_STATE, 0);
+    }
+    let held = decode(state);
+    let r = tcpao::operator::ask(table, recv_id, held);
+    let answer = r.answer;
+    let asked = r.state;
+    put(state, asked);
+    of_done(answer, r.index)
+}

@@ -1,5 +1,0 @@
-pub mod Macs
-pub mod Word
-pub mod Exports
-pub mod Numbers
-pub mod Unchanged

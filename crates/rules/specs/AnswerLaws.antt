@@ -1,0 +1,101 @@
+-- Every call gives the number and the value that Answers.antt names for it: the first number of its tests that applies, or 0 (1 on pass) and its value.
+-- Assumes nothing.
+use Prim.Native.Nat.{ℕ, _+_}
+use mathlib.Core.Path.{_≡_, refl, sym, ap}
+use mathlib.Core.Bool.{Bool, true, false}
+use mathlib.Core.List.{List}
+use native.Mathlib.Omega.{arith}
+use lib.ListN.{length}
+use Rattle.keys.specs.declared.entry.Pair.{Pair}
+use Rattle.keys.specs.declared.table.Loaded.{Loaded}
+use Rattle.keys.specs.declared.table.Loaded.the-variants.{Valid, Refused}
+use Rattle.keys.specs.Entry.{entries}
+use Rattle.keys.specs.Table.{Tables, checked, sendEntry}
+use Rattle.keys.specs.SearchLaws.{valid-count}
+use Rattle.rules.specs.declared.Outcome.{Outcome}
+use Rattle.rules.specs.declared.Outcome.the-variants.{Good, Passed, Bad}
+use Rattle.rules.specs.declared.State.{State}
+use Rattle.rules.specs.declared.Settled.{Settled}
+use Rattle.rules.specs.Numbers.{first}
+use Rattle.rules.specs.NumberLaws.{first-passes}
+use Rattle.rules.specs.Connection.{Arrival, pairOf, extensionOf, empty, opening, withAsked}
+use Rattle.rules.specs.Calls.{refusal, verdictOf, indexOf, check, judged, checkSyn, judgedSyn, openedPassively, unrefused, settledBy, openTests, openedWith, openedActively, askTests, asked, outgoing, addedBytes, signTests, checkSign, signedBy, signed}
+use Rattle.rules.specs.Answers.{Answer, answer, outcomeAnswer, verdictAnswer, signingAnswer, doneAnswer, tableAnswer, tableNumber, judgedNumber, synNumber, openedNumber, askedNumber, signedNumber}
+
+-- Judging.
+
+verdict-number : (o : Outcome) → verdictAnswer (verdictOf o) (indexOf o) ≡ outcomeAnswer extensionOf o
+unfolding verdictAnswer outcomeAnswer
+verdict-number (Good x r) = refl
+verdict-number Passed = refl
+verdict-number (Bad n i) = refl
+
+pub judged-number : (t : Tables) (a : Arrival) (q : State) → verdictAnswer (judged t a q .verdict) (judged t a q .index) ≡ judgedNumber t a q
+unfolding judged
+judged-number t a q = verdict-number (check t (q .conn) (q .seen) a)
+
+pub syn-number : (t : Tables) (a : Arrival) (strict : Bool) → verdictAnswer (judgedSyn t a strict .verdict) (judgedSyn t a strict .index) ≡ synNumber t a strict
+unfolding judgedSyn
+syn-number t a strict = verdict-number (checkSyn t a strict)
+
+pub passively-number : (t : Tables) (a : Arrival) (isn : ℕ) (strict : Bool)
+    → verdictAnswer (openedPassively t a isn strict .verdict) (openedPassively t a isn strict .index) ≡ synNumber t a strict
+unfolding openedPassively
+passively-number t a isn strict = verdict-number (checkSyn t a strict)
+
+-- The other calls: none of their tests gives pass.
+
+abbrev notPassed : Outcome → Bool
+notPassed (Good x r) = true
+notPassed Passed = false
+notPassed (Bad n i) = true
+
+refusal-not : (o : Loaded) → notPassed (refusal o) ≡ true
+refusal-not (Valid n) = refl
+refusal-not (Refused n i) = refl
+
+abbrev doneOf : Settled → Answer
+doneOf s = doneAnswer (s .answer) (s .index)
+
+settled-number : (o : Outcome) (old new : State) → notPassed o ≡ true → doneOf (settledBy o old new) ≡ outcomeAnswer (λ x. 0) o
+unfolding doneAnswer outcomeAnswer
+settled-number (Good x r) old new e = refl
+settled-number Passed old new e = let z : _≡_ {A = ℕ} 0 1 = cc in absurd (omega arith)
+settled-number (Bad n i) old new e = refl
+
+pub opened-number : (t : Tables) (local remote : List ℕ) (localPort remotePort isn sendId : ℕ)
+    → doneOf (openedActively t local remote localPort remotePort isn sendId) ≡ openedNumber t local remote localPort remotePort sendId
+unfolding openedActively
+opened-number t local remote localPort remotePort isn sendId = go (pairOf local remote localPort remotePort)
+  where
+    go : (p : Pair) → doneOf (openedWith t local remote p isn sendId) ≡ outcomeAnswer (λ x. 0) (first (openTests t local remote (sendEntry t p sendId)) unrefused)
+    go p =
+        let l = openTests t local remote (sendEntry t p sendId) in
+        settled-number (first l unrefused) empty (opening p isn sendId (sendEntry t p sendId .entry .ids .recv))
+        (first-passes notPassed l unrefused (rw (refusal-not (checked t))) refl)
+
+pub asked-number : (t : Tables) (id : ℕ) (q : State) → doneOf (asked t id q) ≡ askedNumber t id (q .conn)
+unfolding asked
+asked-number t id q =
+    let l = askTests t id (q .conn) in
+    settled-number (first l unrefused) q (withAsked id q) (first-passes notPassed l unrefused (rw (refusal-not (checked t))) refl)
+
+pub signed-number : (t : Tables) (s out : List ℕ) (q : State) → signingAnswer (signed t s out q .answer) (signed t s out q .index) ≡ signedNumber t s out q
+unfolding signed checkSign signingAnswer outcomeAnswer
+signed-number t s out q =
+    go (checkSign t s (length out) q) (first-passes notPassed (signTests t s (length out) q (outgoing t q)) _ (rw (refusal-not (checked t))) refl)
+  where
+    go : (o : Outcome) → notPassed o ≡ true
+        → signingAnswer (signedBy q s (outgoing t q) o .answer) (signedBy q s (outgoing t q) o .index) ≡ outcomeAnswer (λ x. length s + addedBytes (outgoing t q)) o
+    go (Good x r) e = refl
+    go Passed e = let z : _≡_ {A = ℕ} 0 1 = cc in absurd (omega arith)
+    go (Bad n i) e = refl
+
+-- A table.
+pub table-number : (t : Tables) → tableAnswer (checked t) ≡ tableNumber t
+unfolding tableAnswer outcomeAnswer
+table-number t = go (checked t) refl
+  where
+    go : (o : Loaded) → checked t ≡ o → tableAnswer (checked t) ≡ tableNumber t
+    go (Valid n) e = rw e (ap (answer 0) (valid-count t (n, e) .0))
+    go (Refused n i) e = rw e refl

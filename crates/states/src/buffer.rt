@@ -1,0 +1,36 @@
+// A state in the bytes that are lent for it: docs/BOUNDARY.md, "The state". What is written assumes of the bytes that they have a state's length.
+ghost use mathlib.Core.Path.{_≡_};
+ghost use mathlib.Core.Bool.{cond};
+ghost use lib.ListN.{length};
+ghost use Rattle.states.specs.Layout.{isState, stateBytes, encodeOf};
+use crate::state::encode;
+use rules::State;
+
+const STATE_BYTES: usize = 152;
+
+// Whether a buffer has a state's length.
+pub fn is_state(bytes: &[u8]) -> bool
+    ensures { λ r. ⌜ r ≡ isState (now (bytes .entry)) ⌝ }
+{
+    bytes.len() == STATE_BYTES
+}
+
+// Writes a state into the bytes lent for it.
+pub fn put(bytes: &mut [u8], q: State)
+    requires { ⌜ length (now bytes) ≡ stateBytes ⌝ }
+    ensures { λ _. ⌜ now (bytes .exit) ≡ encodeOf q ⌝ }
+{
+    let encoded = encode(q);
+    octets::copy_at(bytes, 0, &encoded);
+}
+
+// The same where an opening opened; else the bytes stay.
+pub fn put_where(bytes: &mut [u8], opened: bool, q: State)
+    requires { ⌜ length (now bytes) ≡ stateBytes ⌝ }
+    ensures { λ _. ⌜ now (bytes .exit) ≡ cond opened (encodeOf q) (now (bytes .entry)) ⌝ }
+{
+    if !opened {
+        return;
+    }
+    put(bytes, q);
+}
