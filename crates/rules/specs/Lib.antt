@@ -8,6 +8,7 @@ pub mod Answers
 pub mod Ends
 pub mod Demand3
 pub mod History
+pub mod Kept
 pub mod NumberLaws
 pub mod GroupLaws
 pub mod PositionLaws
@@ -23,6 +24,7 @@ pub mod AcceptedLaws
 pub mod Demand2
 pub mod OrderLaws
 pub mod HistoryLaws
+pub mod KeptLaws
 pub mod Refusals
 pub mod GivenNumbers
 pub mod Examples
