@@ -17,7 +17,7 @@ use Rattle.rules.specs.declared.Outcome.the-variants.{Good, Passed, Bad}
 use Rattle.rules.specs.declared.Connection.{Connection}
 use Rattle.rules.specs.declared.State.{State}
 use Rattle.rules.specs.Position.{position, wrappingDifference}
-use Rattle.rules.specs.Numbers.{first}
+use Rattle.octets.specs.Tests.{first}
 use Rattle.rules.specs.Segment.{rnextKeyId}
 use Rattle.rules.specs.Connection.{Arrival, isOpen, placeOn, value, withAsked}
 use Rattle.rules.specs.Calls.{judgeGroups, check, judged, afterJudging, askTests, unrefused, settledBy, asked, checkSign, signed, signedBy, outgoing}

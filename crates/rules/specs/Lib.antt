@@ -1,4 +1,3 @@
-pub mod Numbers
 pub mod Position
 pub mod Mac
 pub mod Segment
@@ -9,7 +8,6 @@ pub mod Ends
 pub mod Demand3
 pub mod History
 pub mod Kept
-pub mod NumberLaws
 pub mod GroupLaws
 pub mod PositionLaws
 pub mod MacLaws

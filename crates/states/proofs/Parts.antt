@@ -8,7 +8,7 @@ use lib.ListN.{length, getD, set, take, drop, replicate, length-append, length-t
 use lib.Seq.{paste, take-at, drop-at, take-paste, drop-paste, take-length, take-add, take-all, take-suc-set, drop-drop}
 use Rattle.octets.specs.Octets.{get16, bytes16, bytes32, bytes64}
 use Rattle.keys.specs.Entry.{padded}
-use Rattle.keys.specs.MatchLaws.{Octets}
+use Rattle.octets.specs.Each.{Octets}
 use Rattle.rules.specs.Connection.{slots}
 use Rattle.rules.specs.declared.Connection.{Connection}
 use Rattle.rules.specs.declared.State.{State}
