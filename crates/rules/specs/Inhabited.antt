@@ -23,7 +23,7 @@ use Rattle.rules.specs.declared.Signing.the-variants as S
 use Rattle.rules.specs.Mac.{segmentMac}
 use Rattle.rules.specs.MacLaws.{length-mac}
 use Rattle.rules.specs.RoundTrip.{Fresh, length-signed}
-use Rattle.rules.specs.Connection.{leaving, extensionOf}
+use Rattle.rules.specs.Connection.{leaving, extensionOf, slots}
 use Rattle.rules.specs.Segment.{signedWith}
 use Rattle.rules.specs.Calls.{outgoing, addedBytes, checkSign, signedSegment, written, signedBy, outputBy, signed, output}
 use Rattle.rules.specs.Ends.{rechecked, SignedAt, TrueSegment, Verifies}
@@ -59,7 +59,7 @@ peer =
       «send_id» = 84;
       «ask_id» = 61;
       accepted = 0;
-      drops = replicate 10 0;
+      drops = replicate slots 0;
     }
 
 -- sequence number 16, ACK, four options of kind 1, three bytes of data
