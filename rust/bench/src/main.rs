@@ -20,6 +20,7 @@ fn count(n: usize) -> usize {
 fn main() -> ExitCode {
     let outcomes = [
         messages::run(),
+        messages::by_tables(),
         calls::against_reference(),
         calls::against_macs(),
         tables::against_hmac(),

@@ -1,4 +1,4 @@
-//! SHA-1, HMAC-SHA-1 and AES-CMAC against plain Rust of the same shape.
+//! SHA-1, HMAC-SHA-1 and AES-CMAC against plain Rust of the same shape, and AES-CMAC against T-tables.
 
 use crate::timing::{Limit, Outcome, Table};
 use crate::{count, SIZES};
@@ -6,6 +6,8 @@ use bench::{aes128_cmac, hmac_sha1, sha1, Bytes};
 use std::hint::black_box;
 
 const ROUNDS: usize = 201;
+/// The limit by T-tables is close: more rounds, so that both minima are found.
+const TABLE_ROUNDS: usize = 1_001;
 
 type Call = fn(&[u8; 16], &[u8], &mut [u8; 20]);
 
@@ -45,6 +47,14 @@ const PAIRS: [Pair; 3] = [
     },
 ];
 
+/// AES-CMAC once more, by four T-tables in Rust.
+const BY_TABLES: Pair = Pair {
+    plain: |key, message, out| {
+        out[..16].copy_from_slice(&plain::aes_tables::cmac(key, message));
+    },
+    ..PAIRS[2]
+};
+
 /// Both forms must give the same before their times mean anything.
 fn compare() -> usize {
     let mut bytes = Bytes(7);
@@ -52,7 +62,7 @@ fn compare() -> usize {
     for n in (0..=2_000).chain(SIZES) {
         let key: [u8; 16] = bytes.take(16).try_into().unwrap();
         let message = bytes.take(n);
-        for pair in &PAIRS {
+        for pair in PAIRS.iter().chain([&BY_TABLES]) {
             let (mut ours, mut plain) = ([0; 20], [0; 20]);
             (pair.ours)(&key, &message, &mut ours);
             (pair.plain)(&key, &message, &mut plain);
@@ -61,6 +71,20 @@ fn compare() -> usize {
         inputs += 1;
     }
     inputs
+}
+
+/// Times both forms on a message of n bytes.
+fn row(table: &mut Table, pair: &Pair, n: usize, limited: bool, bytes: &mut Bytes) {
+    let key: [u8; 16] = bytes.take(16).try_into().unwrap();
+    let message = bytes.take(n);
+    let (mut a, mut b) = ([0; 20], [0; 20]);
+    table.row(
+        &format!("{:<12} {n:>6}", pair.name),
+        limited,
+        count(n),
+        &mut || (pair.ours)(black_box(&key), black_box(&message), black_box(&mut a)),
+        &mut || (pair.plain)(black_box(&key), black_box(&message), black_box(&mut b)),
+    );
 }
 
 pub fn run() -> Outcome {
@@ -80,17 +104,28 @@ pub fn run() -> Outcome {
     let mut bytes = Bytes(11);
     for pair in &PAIRS {
         for n in SIZES {
-            let key: [u8; 16] = bytes.take(16).try_into().unwrap();
-            let message = bytes.take(n);
-            let (mut a, mut b) = ([0; 20], [0; 20]);
-            table.row(
-                &format!("{:<12} {n:>6}", pair.name),
-                pair.limited,
-                count(n),
-                &mut || (pair.ours)(black_box(&key), black_box(&message), black_box(&mut a)),
-                &mut || (pair.plain)(black_box(&key), black_box(&message), black_box(&mut b)),
-            );
+            row(&mut table, pair, n, pair.limited, &mut bytes);
         }
+    }
+    table.end()
+}
+
+/// A short message is mostly the key's expansion and has no limit.
+pub fn by_tables() -> Outcome {
+    let mut table = Table::new(
+        "AES-CMAC against plain Rust with four T-tables (1,400 bytes and more have the limit).",
+        "function, bytes",
+        "T-tables",
+        TABLE_ROUNDS,
+        Limit {
+            rows: "AES-CMAC of 1,400 bytes and more by T-tables in Rust",
+            ratio: 1.15,
+            wanted: true,
+        },
+    );
+    let mut bytes = Bytes(13);
+    for n in SIZES {
+        row(&mut table, &BY_TABLES, n, n >= 1_400, &mut bytes);
     }
     table.end()
 }
