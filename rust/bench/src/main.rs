@@ -18,10 +18,11 @@ fn count(n: usize) -> usize {
 }
 
 fn main() -> ExitCode {
-    let [hashes, cmac] = messages::run();
+    let [hashes, cmac, by_tables] = messages::run();
     let outcomes = [
         hashes,
         cmac,
+        by_tables,
         calls::against_reference(),
         calls::against_macs(),
         tables::against_hmac(),

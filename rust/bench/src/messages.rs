@@ -1,4 +1,4 @@
-//! SHA-1, HMAC-SHA-1 and AES-CMAC against plain Rust.
+//! SHA-1, HMAC-SHA-1 and AES-CMAC against plain Rust, and AES-CMAC against T-tables.
 
 use crate::timing::{Limit, Outcome, Table};
 use crate::{count, SIZES};
@@ -6,6 +6,8 @@ use bench::{aes128_cmac, hmac_sha1, sha1, Bytes};
 use std::hint::black_box;
 
 const ROUNDS: usize = 201;
+/// The limit by T-tables is close: more rounds, so that both minima are found.
+const TABLE_ROUNDS: usize = 1_001;
 
 type Call = fn(&[u8; 16], &[u8], &mut [u8; 20]);
 
@@ -16,7 +18,7 @@ struct Pair {
     plain: Call,
 }
 
-const PAIRS: [Pair; 3] = [
+const HASHES: [Pair; 2] = [
     Pair {
         name: "SHA-1",
         ours: |_, message, out| {
@@ -31,14 +33,23 @@ const PAIRS: [Pair; 3] = [
         },
         plain: |key, message, out| *out = plain::hmac::hmac_sha1(key, message),
     },
-    Pair {
-        name: "AES-CMAC",
-        ours: |key, message, out| {
-            aes128_cmac(key, message, out);
-        },
-        plain: |key, message, out| out[..16].copy_from_slice(&plain::cmac::cmac(key, message)),
-    },
 ];
+
+const CMAC: Pair = Pair {
+    name: "AES-CMAC",
+    ours: |key, message, out| {
+        aes128_cmac(key, message, out);
+    },
+    plain: |key, message, out| out[..16].copy_from_slice(&plain::cmac::cmac(key, message)),
+};
+
+/// AES-CMAC once more, by four T-tables in Rust.
+const BY_TABLES: Pair = Pair {
+    plain: |key, message, out| {
+        out[..16].copy_from_slice(&plain::aes_tables::cmac(key, message));
+    },
+    ..CMAC
+};
 
 /// Both forms must give the same before their times mean anything.
 fn compare() -> usize {
@@ -47,7 +58,7 @@ fn compare() -> usize {
     for n in (0..=2_000).chain(SIZES) {
         let key: [u8; 16] = bytes.take(16).try_into().unwrap();
         let message = bytes.take(n);
-        for pair in &PAIRS {
+        for pair in HASHES.iter().chain([&CMAC, &BY_TABLES]) {
             let (mut ours, mut plain) = ([0; 20], [0; 20]);
             (pair.ours)(&key, &message, &mut ours);
             (pair.plain)(&key, &message, &mut plain);
@@ -58,34 +69,8 @@ fn compare() -> usize {
     inputs
 }
 
-pub fn run() -> [Outcome; 2] {
-    let inputs = compare();
-    println!("{inputs} messages give the same by the archive and by plain Rust.");
-    let (hashes, cmac) = PAIRS.split_at(2);
-    [
-        measure(
-            "SHA-1 and HMAC-SHA-1 against plain Rust with eighty words of the schedule (rust/plain).",
-            hashes,
-            Limit {
-                rows: "SHA-1 and HMAC-SHA-1 by plain Rust; asked at most 2 on 1,400 bytes, ours",
-                ratio: 1.0,
-                wanted: true,
-            },
-        ),
-        measure(
-            "AES-CMAC against plain Rust of the same shape (rust/plain).",
-            cmac,
-            Limit {
-                rows: "AES-CMAC by plain Rust",
-                ratio: 1.25,
-                wanted: true,
-            },
-        ),
-    ]
-}
-
-fn measure(title: &str, pairs: &[Pair], limit: Limit) -> Outcome {
-    let mut table = Table::new(title, "function, bytes", "plain", ROUNDS, limit);
+/// Times both forms of each on messages of all sizes; those of `limited` bytes and more have the limit.
+fn measure(mut table: Table, pairs: &[Pair], limited: usize) -> Outcome {
     let mut bytes = Bytes(11);
     for pair in pairs {
         for n in SIZES {
@@ -94,7 +79,7 @@ fn measure(title: &str, pairs: &[Pair], limit: Limit) -> Outcome {
             let (mut a, mut b) = ([0; 20], [0; 20]);
             table.row(
                 &format!("{:<12} {n:>6}", pair.name),
-                true,
+                limited <= n,
                 count(n),
                 &mut || (pair.ours)(black_box(&key), black_box(&message), black_box(&mut a)),
                 &mut || (pair.plain)(black_box(&key), black_box(&message), black_box(&mut b)),
@@ -102,4 +87,46 @@ fn measure(title: &str, pairs: &[Pair], limit: Limit) -> Outcome {
         }
     }
     table.end()
+}
+
+fn hashes() -> Outcome {
+    let limit = Limit {
+        rows: "SHA-1 and HMAC-SHA-1 by plain Rust; asked at most 2 on 1,400 bytes, ours",
+        ratio: 1.0,
+        wanted: true,
+    };
+    let title =
+        "SHA-1 and HMAC-SHA-1 against plain Rust with eighty words of the schedule (rust/plain).";
+    let table = Table::new(title, "function, bytes", "plain", ROUNDS, limit);
+    measure(table, &HASHES, 0)
+}
+
+fn cmac() -> Outcome {
+    let limit = Limit {
+        rows: "AES-CMAC by plain Rust",
+        ratio: 1.25,
+        wanted: true,
+    };
+    let title = "AES-CMAC against plain Rust that goes by the S-box (rust/plain).";
+    let table = Table::new(title, "function, bytes", "plain", ROUNDS, limit);
+    measure(table, &[CMAC], 0)
+}
+
+/// A short message is mostly the key's expansion and has no limit.
+fn cmac_by_tables() -> Outcome {
+    let limit = Limit {
+        rows: "AES-CMAC of 1,400 bytes and more by T-tables in Rust",
+        ratio: 1.15,
+        wanted: true,
+    };
+    let title =
+        "AES-CMAC against plain Rust with four T-tables (1,400 bytes and more have the limit).";
+    let table = Table::new(title, "function, bytes", "T-tables", TABLE_ROUNDS, limit);
+    measure(table, &[BY_TABLES], 1_400)
+}
+
+pub fn run() -> [Outcome; 3] {
+    let inputs = compare();
+    println!("{inputs} messages give the same by the archive and by plain Rust.");
+    [hashes(), cmac(), cmac_by_tables()]
 }

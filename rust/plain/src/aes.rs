@@ -22,11 +22,11 @@ const SBOX: [u8; 256] = [
 
 pub type RoundKeys = [[u8; 16]; 11];
 
-fn xtime(x: u8) -> u8 {
+pub(crate) const fn xtime(x: u8) -> u8 {
     (x << 1) ^ ((x >> 7) * 0x1b)
 }
 
-fn sub(x: u8) -> u8 {
+pub(crate) const fn sub(x: u8) -> u8 {
     SBOX[x as usize]
 }
 

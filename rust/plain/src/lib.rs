@@ -1,8 +1,10 @@
 //! SHA-1 (FIPS 180-4), HMAC-SHA-1 (RFC 2104), AES-128 encryption (FIPS 197) and AES-CMAC (RFC 4493)
-//! in straightforward Rust: no intrinsics, no tables but the S-box. Written from the standards, to
-//! compare the proved library with: its results in the tests, its speed in `make bench`.
+//! in straightforward Rust: no intrinsics, no tables but the S-box. `aes_tables` has AES once more, by
+//! four T-tables. Written from the standards, to compare the proved library with: its results in the
+//! tests, its speed in `make bench`.
 
 pub mod aes;
+pub mod aes_tables;
 pub mod cmac;
 pub mod hmac;
 pub mod sha1;

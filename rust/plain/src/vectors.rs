@@ -1,6 +1,6 @@
 //! The published vectors, from the same files that the program `vectors` reads.
 
-use crate::{aes, cmac, hmac, sha1};
+use crate::{aes, aes_tables, cmac, hmac, sha1};
 
 fn file(text: &'static str) -> impl Iterator<Item = Vec<&'static str>> {
     text.lines()
@@ -54,6 +54,8 @@ fn fips197() {
     for c in vectors!("fips197") {
         let keys = aes::expand_key(&block(c[0]));
         assert_eq!(aes::encrypt(&keys, &block(c[1])), block(c[2]), "{c:?}");
+        let keys = aes_tables::expand_key(&block(c[0]));
+        assert_eq!(aes_tables::encrypt(&keys, &block(c[1])), block(c[2]));
         lines += 1;
     }
     assert_eq!(lines, 2);
@@ -77,15 +79,20 @@ fn rfc2202() {
 fn rfc4493() {
     let mut lines = 0;
     let mut key = [0; 16];
+    let subkeys = |key: [u8; 16]| {
+        let keys = aes::expand_key(&key);
+        cmac::subkeys(|block| aes::encrypt(&keys, block))
+    };
     for c in vectors!("rfc4493") {
         match c[0] {
             "key" => key = block(c[1]),
-            "k1" => assert_eq!(cmac::subkeys(&aes::expand_key(&key)).0, block(c[1])),
-            "k2" => assert_eq!(cmac::subkeys(&aes::expand_key(&key)).1, block(c[1])),
+            "k1" => assert_eq!(subkeys(key).0, block(c[1])),
+            "k2" => assert_eq!(subkeys(key).1, block(c[1])),
             n => {
                 let message = hex(c[1]);
                 assert_eq!(n.parse(), Ok(message.len()));
                 assert_eq!(cmac::cmac(&key, &message), block(c[2]), "{c:?}");
+                assert_eq!(aes_tables::cmac(&key, &message), block(c[2]), "{c:?}");
             }
         }
         lines += 1;
@@ -100,5 +107,23 @@ fn pieces() {
         let mut context = sha1::Sha1::new();
         message.chunks(size).for_each(|piece| context.update(piece));
         assert_eq!(context.finish(), sha1::sha1(&message));
+    }
+}
+
+/// By T-tables and by the S-box: the same, under a thousand keys, and for every length to 300.
+#[test]
+fn tables() {
+    let (mut key, mut block) = ([0; 16], [0; 16]);
+    for n in 0..1000 {
+        let keys = aes::expand_key(&key);
+        let want = aes::encrypt(&keys, &block);
+        assert_eq!(
+            aes_tables::encrypt(&aes_tables::expand_key(&key), &block),
+            want
+        );
+        let message = want.repeat(20);
+        let message = &message[..n % 301];
+        assert_eq!(aes_tables::cmac(&key, message), cmac::cmac(&key, message));
+        (key, block) = (want, key);
     }
 }
