@@ -82,6 +82,7 @@ numbersOf (openActively t local remote localPort remotePort isn sendId) = openNu
 
 -- The key table.
 
+-- one of them, or 0, which is given where no test applies
 abbrev orNone : ℕ → Bool
 orNone n = among n (0 ∷ tableNumbers)
 
