@@ -1,5 +1,5 @@
--- What a call's answer and a lent buffer come to, by the length of the state buffer b. The call below returns a value of the type J: `of` is its
--- answer, `bytes` what it leaves in the state buffer. Assumes nothing.
+-- What a call's answer and a lent buffer come to, by the length of the state buffer b. The call below returns a value of the type J: `of`
+-- is its answer, `bytes` what it leaves in the state buffer. Assumes nothing.
 use Prim.Native.Nat.{ℕ}
 use mathlib.Core.Path.{_≡_, refl, sym, ap, _∙_}
 use mathlib.Core.Bool.{Bool, true, false, not}
@@ -31,7 +31,8 @@ module _ {J : Type 0} (of : J → Answer) (bytes : J → List ℕ) (b : List ℕ
   unfolding answered
   refused r h e = (rw (ne-eqb _ _ h) e, unchanged b (bytes k) b h)
 
-  pub done : (j : J) (r : ℕ) (x : List ℕ) → length b ≡ stateBytes → j ≡ k → r ≡ word (of j) → x ≡ bytes j → (r ≡ answered b (of k)) × (x ≡ changed b (bytes k) b)
+  pub done : (j : J) (r : ℕ) (x : List ℕ) → length b ≡ stateBytes → j ≡ k → r ≡ word (of j) → x ≡ bytes j
+      → (r ≡ answered b (of k)) × (x ≡ changed b (bytes k) b)
   unfolding answered
   done j r x h p e q = (rw (eq-eqb _ _ h) (e ∙ ap (λ (i : J). word (of i)) p), q ∙ (ap bytes p ∙ made b (bytes k) b h))
 

@@ -1,6 +1,6 @@
--- What the calls on a key table and on a connection answer, and what they leave in the buffers lent to them: docs/BOUNDARY.md, "The calls" and "The
--- state". What the calls do is defined in Calls.antt of `rules`, and a state's bytes in Layout.antt of `states`; here are the rules of the boundary
--- alone, and then each export, one definition. Assumes nothing.
+-- What the calls on a key table and on a connection answer, and what they leave in the buffers lent to them: docs/BOUNDARY.md, "The calls" and
+-- "The state". What the calls do is defined in Calls.antt of `rules`, and a state's bytes in Layout.antt of `states`; here are the rules of
+-- the boundary alone, and then each export, one definition. Assumes nothing.
 use Prim.Native.Nat.{ℕ}
 use mathlib.Core.Bool.{Bool, true, false, cond, not}
 use mathlib.Core.List.{List, []}
@@ -32,8 +32,9 @@ changed b x y = cond (isState b) x y
 abbrev pub stateAfter : List ℕ → State → List ℕ
 stateAfter b q = changed b (encodeOf q) b
 
--- (boundary) "A call that is refused, or only passes a SYN, leaves every buffer as it was": an opening writes its state only where it opened.
--- The other calls write the state back that they return; Unchanged.antt proves that a refusal then leaves every byte, but for the count
+-- (boundary) "A call that is refused, or only passes a SYN, leaves every buffer as it was": an opening writes its state only where it
+-- opened. The other calls write the state back that they return; Unchanged.antt proves that a refusal then leaves every byte, but for the
+-- count
 abbrev pub stateWhere : List ℕ → Bool → State → List ℕ
 stateWhere b opened q = changed b (cond opened (encodeOf q) b) b
 

@@ -1,6 +1,6 @@
--- docs/BOUNDARY.md, "The answer", of every call: the number fits its eight bits, an index and a signed length their thirty-two, and the
--- value is 0 beside every number but 0 and 10 to 17; the number is 0 exactly on accept or done, and 1 exactly on pass. (That an
--- extension fits is known by its type, and by the contract, since the answer is a u64.) Assumes nothing.
+-- docs/BOUNDARY.md, "The answer", of every call: the number fits its eight bits, an index and a signed length their thirty-two, and the value is
+-- 0 beside every number but 0 and 10 to 17; the number is 0 exactly on accept or done, and 1 exactly on pass. (That an extension fits is
+-- known by its type, and by the contract, since the answer is a u64.) Assumes nothing.
 use Prim.Native.Nat.{ℕ, _^_, _%_, _≤_, _<_}
 use mathlib.Core.Path.{_≡_, refl, subst, subst⁻¹}
 use mathlib.Core.Bool.{Bool, true, false, cond, not, _&&_, _||_}
@@ -28,11 +28,14 @@ use Rattle.octets.specs.Tests.{Test, first}
 use Rattle.octets.specs.TestLaws.{eachGives, first-passes}
 use Rattle.rules.specs.Answers.{Answer, answer, tableAnswer, verdictAnswer, signingAnswer, doneAnswer}
 use Rattle.rules.specs.Connection.{Arrival, arrivalPair, pairOf, empty}
-use Rattle.rules.specs.Calls.{refuse, isRefused, refusal, verdictOf, indexOf, judgeTests, check, judged, judgeSynTests, checkSyn, judgedSyn, openedPassively, unrefused, settledBy, openTests, openedWith, openedActively, askTests, asked, outgoing, signTests, checkSign, signed}
+use Rattle.rules.specs.Calls.{refuse, isRefused, refusal, verdictOf, indexOf, judgeTests, check, judged, judgeSynTests, checkSyn, judgedSyn}
+use Rattle.rules.specs.Calls.{openedPassively, unrefused, settledBy, openTests, openedWith, openedActively, askTests, asked}
+use Rattle.rules.specs.Calls.{outgoing, signTests, checkSign, signed}
 use Rattle.rules.specs.SigningLaws.{signs-good}
 use Rattle.rules.specs.History.{judge, sign, ask}
 use Rattle.rules.specs.Refusals.{Request, on, judgeSyn, openPassively, openActively, byVerdict, bySigning}
-use Rattle.rules.specs.GivenNumbers.{among, among-every, tableNumbers, Within, checked-within, isPass, refused-bounds, table-bounds, judge-never-passes}
+use Rattle.rules.specs.GivenNumbers.{among, among-every, tableNumbers, Within, checked-within, isPass, refused-bounds, table-bounds}
+use Rattle.rules.specs.GivenNumbers.{judge-never-passes}
 use Rattle.boundary.specs.Word.{word, Reads, reads, ofJudged, ofChecked, ofSigned, ofSettled}
 use Rattle.states.specs.Layout.{isState}
 use Rattle.boundary.specs.Exports.{answered, accepts, opens}
@@ -67,7 +70,9 @@ pub record Fits (a : Answer) : Type 0 where
 loaded-fits : (o : Loaded) → Within K.maxEntries o → Fits (tableAnswer o)
 unfolding tableAnswer
 loaded-fits (Valid n) w = record { number = omega arith; value = omega arith; together = refl }
-loaded-fits (Refused n i) w = let k = table-number n (w .0) in record { number = number-below n k; value = omega (arith, w .1); together = either (eqb n 0) (eqb i 0) _ k }
+loaded-fits (Refused n i) w =
+    let k = table-number n (w .0) in
+    record { number = number-below n k; value = omega (arith, w .1); together = either (eqb n 0) (eqb i 0) _ k }
 
 pub table-fits : (t : K.Tables) → Fits (tableAnswer (K.checked t))
 table-fits t = loaded-fits (K.checked t) (checked-within t)
@@ -99,7 +104,8 @@ check-fits t l reference a = first-passes fits (judgeTests t l reference a) _ (r
 checkSyn-fits : (t : K.Tables) (a : Arrival) (strict : Bool) → fits (checkSyn t a strict) ≡ true
 unfolding checkSyn
 checkSyn-fits t a strict =
-    first-passes fits (judgeSynTests t a strict) _ (rw (refusal-fits t, refused-fits (K.anyEntry t (arrivalPair a)) 25 refl, refused-fits strict 26 refl)) refl
+    first-passes fits (judgeSynTests t a strict) _
+    (rw (refusal-fits t, refused-fits (K.anyEntry t (arrivalPair a)) 25 refl, refused-fits strict 26 refl)) refl
 
 settled-fits : (l : List (Test Outcome)) → eachGives fits l ≡ true → fits (first l unrefused) ≡ true
 settled-fits l e = first-passes fits l unrefused e refl
@@ -136,7 +142,8 @@ pub judgedSyn-fits : (t : K.Tables) (a : Arrival) (strict : Bool) → Verdicts (
 unfolding judgedSyn
 judgedSyn-fits t a strict = verdicts (checkSyn t a strict) (checkSyn-fits t a strict)
 
-pub opened-fits : (t : K.Tables) (a : Arrival) (isn : ℕ) (strict : Bool) → Verdicts (openedPassively t a isn strict .verdict) (openedPassively t a isn strict .index)
+pub opened-fits : (t : K.Tables) (a : Arrival) (isn : ℕ) (strict : Bool)
+    → Verdicts (openedPassively t a isn strict .verdict) (openedPassively t a isn strict .index)
 unfolding openedPassively
 opened-fits t a isn strict = verdicts (checkSyn t a strict) (checkSyn-fits t a strict)
 
@@ -151,12 +158,15 @@ pub asked-fits : (t : K.Tables) (id : ℕ) (q : State) → Fits (ofSettled (aske
 unfolding asked
 asked-fits t id q = settles (first (askTests t id (q .conn)) unrefused) q _ (settled-fits (askTests t id (q .conn)) (rw (refusal-fits t)))
 
-pub active-fits : (t : K.Tables) (local remote : List ℕ) (localPort remotePort isn sendId : ℕ) → Fits (ofSettled (openedActively t local remote localPort remotePort isn sendId))
+pub active-fits : (t : K.Tables) (local remote : List ℕ) (localPort remotePort isn sendId : ℕ)
+    → Fits (ofSettled (openedActively t local remote localPort remotePort isn sendId))
 unfolding openedActively
 active-fits t local remote localPort remotePort isn sendId = go (pairOf local remote localPort remotePort)
   where
     go : (p : Pair) → Fits (ofSettled (openedWith t local remote p isn sendId))
-    go p = settles (first (openTests t local remote (K.sendEntry t p sendId)) unrefused) empty _ (settled-fits (openTests t local remote (K.sendEntry t p sendId)) (rw (refusal-fits t)))
+    go p =
+        let l = openTests t local remote (K.sendEntry t p sendId) in
+        settles (first l unrefused) empty _ (settled-fits l (rw (refusal-fits t)))
 
 -- "of `sign` the signed length"
 pub signed-fits : (t : K.Tables) (s out : List ℕ) (q : State) → Fits (ofSigned (signed t s out q))
@@ -164,12 +174,15 @@ unfolding signed signingAnswer
 signed-fits t s out q = go (checkSign t s (length out) q) refl (checkSign-fits t s (length out) q)
   where
     go : (o : Outcome) → checkSign t s (length out) q ≡ o → fits (checkSign t s (length out) q) ≡ true → Fits (ofSigned (signed t s out q))
-    go (Good x r) f e = let w = signs-good t s out q x r f .0 .whole in rw f (record { number = omega arith; value = omega arith; together = refl })
+    go (Good x r) f e =
+        let w = signs-good t s out q x r f .0 .whole in
+        rw f (record { number = omega arith; value = omega arith; together = refl })
     go Passed f e = rw f (record { number = omega arith; value = omega arith; together = refl })
     go (Bad n i) f e = let b = bad n i (rw f at e) in rw f (record { number = b .0; value = b .1; together = b .2 })
 
 -- so what C reads in the answer of a call that takes a state buffer b is the number and the value, or 18 and 0
-pub answered-reads : (b : List ℕ) (a : Answer) → a .number < 2 ^ 8 → answered b a < 2 ^ 64 → Reads (answered b a) (cond (isState b) a (answer 18 0))
+pub answered-reads : (b : List ℕ) (a : Answer) → a .number < 2 ^ 8 → answered b a < 2 ^ 64
+    → Reads (answered b a) (cond (isState b) a (answer 18 0))
 unfolding answered
 answered-reads b a n w = reads (cond (isState b) a (answer 18 0)) (go (isState b)) w
   where
@@ -186,7 +199,8 @@ answerOf (on (sign t s out) q) = ofSigned (signed t s out q)
 answerOf (on (ask t id) q) = ofSettled (asked t id q)
 answerOf (judgeSyn t a strict) = ofChecked (judgedSyn t a strict)
 answerOf (openPassively t a isn strict) = ofJudged (openedPassively t a isn strict)
-answerOf (openActively t local remote localPort remotePort isn sendId) = ofSettled (openedActively t local remote localPort remotePort isn sendId)
+answerOf (openActively t local remote localPort remotePort isn sendId) =
+    ofSettled (openedActively t local remote localPort remotePort isn sendId)
 
 abbrev pub signs : Signing → Bool
 signs (S.Signed n) = true
@@ -198,7 +212,8 @@ isDone (on (sign t s out) q) = signs (signed t s out q .answer)
 isDone (on (ask t id) q) = opens (asked t id q .answer)
 isDone (judgeSyn t a strict) = accepts (judgedSyn t a strict .verdict)
 isDone (openPassively t a isn strict) = accepts (openedPassively t a isn strict .verdict)
-isDone (openActively t local remote localPort remotePort isn sendId) = opens (openedActively t local remote localPort remotePort isn sendId .answer)
+isDone (openActively t local remote localPort remotePort isn sendId) =
+    opens (openedActively t local remote localPort remotePort isn sendId .answer)
 
 -- only a bare SYN that is judged without a state can pass
 abbrev pub isPassed : Request → Bool
@@ -215,7 +230,8 @@ pub record Tells (n : ℕ) (done passed : Bool) : Type 0 where
 refused-tells : (n : ℕ) → 10 ≤ n → Tells n false false
 refused-tells n h = record { zero = ne-eqb n 0 (λ e. omega arith); one = ne-eqb n 1 (λ e. omega arith) }
 
-verdict-tells : (v : Verdict) (i : ℕ) → ((n : ℕ) → byVerdict v ≡ D.Refused n → 10 ≤ n) → Tells (verdictAnswer v i .number) (accepts v) (isPass v)
+verdict-tells : (v : Verdict) (i : ℕ) → ((n : ℕ) → byVerdict v ≡ D.Refused n → 10 ≤ n)
+    → Tells (verdictAnswer v i .number) (accepts v) (isPass v)
 unfolding verdictAnswer
 verdict-tells (Accept e) i h = record { zero = refl; one = refl }
 verdict-tells Pass i h = record { zero = refl; one = refl }
@@ -235,14 +251,17 @@ pub number-tells : (c : Request) → Tells (answerOf c .number) (isDone c) (isPa
 number-tells (on (judge t a) q) =
     subst (λ (p : Bool). Tells (ofJudged (judged t a q) .number) (accepts (judged t a q .verdict)) p) (judge-never-passes t a q)
     (verdict-tells (judged t a q .verdict) (judged t a q .index) (λ n e. refused-bounds (on (judge t a) q) n e .0))
-number-tells (on (sign t s out) q) = signing-tells (signed t s out q .answer) (signed t s out q .index) (λ n e. refused-bounds (on (sign t s out) q) n e .0)
+number-tells (on (sign t s out) q) =
+    signing-tells (signed t s out q .answer) (signed t s out q .index) (λ n e. refused-bounds (on (sign t s out) q) n e .0)
 number-tells (on (ask t id) q) = done-tells (asked t id q .answer) (asked t id q .index) (λ n e. refused-bounds (on (ask t id) q) n e .0)
 number-tells (judgeSyn t a strict) =
     verdict-tells (judgedSyn t a strict .verdict) (judgedSyn t a strict .index) (λ n e. refused-bounds (judgeSyn t a strict) n e .0)
 number-tells (openPassively t a isn strict) =
-    verdict-tells (openedPassively t a isn strict .verdict) (openedPassively t a isn strict .index) (λ n e. refused-bounds (openPassively t a isn strict) n e .0)
+    verdict-tells (openedPassively t a isn strict .verdict) (openedPassively t a isn strict .index)
+    (λ n e. refused-bounds (openPassively t a isn strict) n e .0)
 number-tells (openActively t local remote localPort remotePort isn sendId) =
-    done-tells (openedActively t local remote localPort remotePort isn sendId .answer) (openedActively t local remote localPort remotePort isn sendId .index)
+    done-tells (openedActively t local remote localPort remotePort isn sendId .answer)
+    (openedActively t local remote localPort remotePort isn sendId .index)
     (λ n e. refused-bounds (openActively t local remote localPort remotePort isn sendId) n e .0)
 
 -- every call's number fits
@@ -252,7 +271,8 @@ number-fits (on (sign t s out) q) = signed-fits t s out q .number
 number-fits (on (ask t id) q) = asked-fits t id q .number
 number-fits (judgeSyn t a strict) = judgedSyn-fits t a strict .number
 number-fits (openPassively t a isn strict) = opened-fits t a isn strict .number
-number-fits (openActively t local remote localPort remotePort isn sendId) = active-fits t local remote localPort remotePort isn sendId .number
+number-fits (openActively t local remote localPort remotePort isn sendId) =
+    active-fits t local remote localPort remotePort isn sendId .number
 
 -- so the low eight bits of what C gets tell it; of a call that takes a state buffer b, a buffer of another length is neither
 low-bits : (a : Answer) → a .number < 2 ^ 8 → word a % 2 ^ 8 ≡ a .number
@@ -277,4 +297,6 @@ loaded-tells (Refused n i) h = refused-tells n (h n i refl .0)
 
 -- and of `check_table`: 0 exactly where the table is not refused, and never 1
 pub table-tells : (t : K.Tables) → Tells (word (tableAnswer (K.checked t)) % 2 ^ 8) (not (isRefused (K.checked t))) false
-table-tells t = subst⁻¹ (λ (n : ℕ). Tells n (not (isRefused (K.checked t))) false) (low-bits (tableAnswer (K.checked t)) (table-fits t .number)) (loaded-tells (K.checked t) (table-bounds t))
+table-tells t =
+    subst⁻¹ (λ (n : ℕ). Tells n (not (isRefused (K.checked t))) false)
+    (low-bits (tableAnswer (K.checked t)) (table-fits t .number)) (loaded-tells (K.checked t) (table-bounds t))

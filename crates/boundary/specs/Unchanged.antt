@@ -1,5 +1,6 @@
--- (boundary) "A call that is refused, or only passes a SYN, leaves every buffer as it was, but for a drop's count on an open connection." The contracts
--- say what stands in each buffer at exit; here is that this is the sentence. Assumes of a state buffer b that its bytes are below 256, as every byte is.
+-- (boundary) "A call that is refused, or only passes a SYN, leaves every buffer as it was, but for a drop's count on an open connection."
+-- The contracts say what stands in each buffer at exit; here is that this is the sentence. Assumes of a state buffer b that its bytes are
+-- below 256, as every byte is.
 use Prim.Native.Nat.{ℕ}
 use mathlib.Core.Path.{_≡_, refl, ap, _∙_}
 use mathlib.Core.Bool.{Bool, true, false, cond, _&&_}
@@ -56,7 +57,8 @@ module _ (t : Tables) (local remote : List ℕ) (localPort remotePort isn sendId
   abbrev actively : Settled
   actively = openedActively t local remote localPort remotePort isn sendId
 
-  pub actively-refused : (n : ℕ) → actively .answer ≡ D.Refused n → openActiveExport t local remote localPort remotePort isn sendId b .state ≡ b
+  pub actively-refused : (n : ℕ) → actively .answer ≡ D.Refused n
+      → openActiveExport t local remote localPort remotePort isn sendId b .state ≡ b
   unfolding openActiveExport
   actively-refused n e = closed b (actively .state) _ (ap opens e)
 

@@ -26,7 +26,8 @@ ofSigned s = signingAnswer (s .answer) (s .index)
 abbrev pub ofSettled : Settled → Answer
 ofSettled s = doneAnswer (s .answer) (s .index)
 
--- What C reads in the word w: it is there, and nothing else. The word is a u64, so it is below 2^64; Numbers.antt proves that every call's number is below 2^8.
+-- What C reads in the word w: it is there, and nothing else. The word is a u64, so it is below 2^64; Numbers.antt proves that every call's
+-- number is below 2^8.
 pub record Reads (w : ℕ) (a : Answer) : Type 0 where
   pub number : w % 2 ^ 8 ≡ a .number
   pub zero : w / 2 ^ 8 % 2 ^ 24 ≡ 0

@@ -1,11 +1,15 @@
--- Every call gives the number and the value that Answers.antt names for it: the first number of its tests that applies, or 0 (1 on pass) and its value.
--- Assumes nothing.
+-- Every call gives the number and the value that Answers.antt names for it: the first number of its tests that applies, or 0 (1 on pass)
+-- and its value. Assumes nothing.
 use Prim.Native.Nat.{ℕ, _+_}
 use mathlib.Core.Path.{_≡_, refl, sym, ap}
-use mathlib.Core.Bool.{Bool, true, false}
+use mathlib.Core.Bool.{Bool, true, false, cond}
 use mathlib.Core.List.{List}
 use native.Mathlib.Omega.{arith}
 use lib.ListN.{length}
+use Rattle.wire.specs.declared.options.Options.{Options}
+use Rattle.wire.specs.declared.options.Options.the-variants as O
+use Rattle.wire.specs.Options.{optionsOf, isMalformed, aoIn}
+use Rattle.wire.specs.Header.{area}
 use Rattle.keys.specs.declared.entry.Pair.{Pair}
 use Rattle.keys.specs.declared.table.Loaded.{Loaded}
 use Rattle.keys.specs.declared.table.Loaded.the-variants.{Valid, Refused}
@@ -18,9 +22,13 @@ use Rattle.rules.specs.declared.State.{State}
 use Rattle.rules.specs.declared.Settled.{Settled}
 use Rattle.octets.specs.Tests.{first}
 use Rattle.octets.specs.TestLaws.{first-passes}
+use Rattle.rules.specs.Segment.{malformed, ao}
 use Rattle.rules.specs.Connection.{Arrival, pairOf, extensionOf, empty, opening, withAsked}
-use Rattle.rules.specs.Calls.{refusal, verdictOf, indexOf, check, judged, checkSyn, judgedSyn, openedPassively, unrefused, settledBy, openTests, openedWith, openedActively, askTests, asked, outgoing, addedBytes, signTests, checkSign, signedBy, signed}
-use Rattle.rules.specs.Answers.{Answer, answer, outcomeAnswer, verdictAnswer, signingAnswer, doneAnswer, tableAnswer, tableNumber, judgedNumber, synNumber, openedNumber, askedNumber, signedNumber}
+use Rattle.rules.specs.Calls.{refusal, verdictOf, indexOf, check, judged, checkSyn, judgedSyn, openedPassively, unrefused}
+use Rattle.rules.specs.Calls.{settledBy, openTests, openedWith, openedActively, askTests, asked, outgoing, addedBytes, signTests}
+use Rattle.rules.specs.Calls.{checkSign, signedBy, signed}
+use Rattle.rules.specs.Answers.{Answer, answer, outcomeAnswer, verdictAnswer, signingAnswer, doneAnswer, tableAnswer}
+use Rattle.rules.specs.Answers.{optionsAnswer, tableNumber, judgedNumber, synNumber, openedNumber, askedNumber, signedNumber}
 
 -- Judging.
 
@@ -30,11 +38,13 @@ verdict-number (Good x r) = refl
 verdict-number Passed = refl
 verdict-number (Bad n i) = refl
 
-pub judged-number : (t : Tables) (a : Arrival) (q : State) → verdictAnswer (judged t a q .verdict) (judged t a q .index) ≡ judgedNumber t a q
+pub judged-number : (t : Tables) (a : Arrival) (q : State)
+    → verdictAnswer (judged t a q .verdict) (judged t a q .index) ≡ judgedNumber t a q
 unfolding judged
 judged-number t a q = verdict-number (check t (q .conn) (q .seen) a)
 
-pub syn-number : (t : Tables) (a : Arrival) (strict : Bool) → verdictAnswer (judgedSyn t a strict .verdict) (judgedSyn t a strict .index) ≡ synNumber t a strict
+pub syn-number : (t : Tables) (a : Arrival) (strict : Bool)
+    → verdictAnswer (judgedSyn t a strict .verdict) (judgedSyn t a strict .index) ≡ synNumber t a strict
 unfolding judgedSyn
 syn-number t a strict = verdict-number (checkSyn t a strict)
 
@@ -68,7 +78,9 @@ pub opened-number : (t : Tables) (local remote : List ℕ) (localPort remotePort
 unfolding openedActively
 opened-number t local remote localPort remotePort isn sendId = go (pairOf local remote localPort remotePort)
   where
-    go : (p : Pair) → doneOf (openedWith t local remote p isn sendId) ≡ outcomeAnswer (λ x. 0) (first (openTests t local remote (sendEntry t p sendId)) unrefused)
+    go : (p : Pair)
+        → doneOf (openedWith t local remote p isn sendId)
+        ≡ outcomeAnswer (λ x. 0) (first (openTests t local remote (sendEntry t p sendId)) unrefused)
     go p =
         let l = openTests t local remote (sendEntry t p sendId) in
         settled-number (first l unrefused) empty (opening p isn sendId (sendEntry t p sendId .entry .ids .recv))
@@ -80,13 +92,16 @@ asked-number t id q =
     let l = askTests t id (q .conn) in
     settled-number (first l unrefused) q (withAsked id q) (first-passes notPassed l unrefused (rw (refusal-not (checked t))) refl)
 
-pub signed-number : (t : Tables) (s out : List ℕ) (q : State) → signingAnswer (signed t s out q .answer) (signed t s out q .index) ≡ signedNumber t s out q
+pub signed-number : (t : Tables) (s out : List ℕ) (q : State)
+    → signingAnswer (signed t s out q .answer) (signed t s out q .index) ≡ signedNumber t s out q
 unfolding signed checkSign signingAnswer outcomeAnswer
 signed-number t s out q =
-    go (checkSign t s (length out) q) (first-passes notPassed (signTests t s (length out) q (outgoing t q)) _ (rw (refusal-not (checked t))) refl)
+    go (checkSign t s (length out) q)
+    (first-passes notPassed (signTests t s (length out) q (outgoing t q)) _ (rw (refusal-not (checked t))) refl)
   where
     go : (o : Outcome) → notPassed o ≡ true
-        → signingAnswer (signedBy q s (outgoing t q) o .answer) (signedBy q s (outgoing t q) o .index) ≡ outcomeAnswer (λ x. length s + addedBytes (outgoing t q)) o
+        → signingAnswer (signedBy q s (outgoing t q) o .answer) (signedBy q s (outgoing t q) o .index)
+        ≡ outcomeAnswer (λ x. length s + addedBytes (outgoing t q)) o
     go (Good x r) e = refl
     go Passed e = let z : _≡_ {A = ℕ} 0 1 = cc in absurd (omega arith)
     go (Bad n i) e = refl
@@ -99,3 +114,13 @@ table-number t = go (checked t) refl
     go : (o : Loaded) → checked t ≡ o → tableAnswer (checked t) ≡ tableNumber t
     go (Valid n) e = rw e (ap (answer 0) (valid-count t (n, e) .0))
     go (Refused n i) e = rw e refl
+
+-- An option area: the number is given exactly where the test of 21 or 31 in Calls.antt, `malformed`, applies, and else the count that the
+-- tests of 22, 25 and 31 go by.
+pub options-answer : (n : ℕ) (s : List ℕ) → optionsAnswer n (optionsOf (area s)) ≡ cond (malformed s) (answer n 0) (answer 0 (ao s .count))
+unfolding optionsAnswer
+options-answer n s = go (optionsOf (area s))
+  where
+    go : (o : Options) → optionsAnswer n o ≡ cond (isMalformed o) (answer n 0) (answer 0 (aoIn o .count))
+    go O.Malformed = refl
+    go (O.Found e) = refl

@@ -1,6 +1,6 @@
--- "Where an answer is an enum, a definition sets out this paper's number and values for each of its cases." The number, and the value beside it, of
--- every case of every answer: document 01, "Numbers given back"; 0 and 1 stand for what has no number there. Then the number and value of each
--- call, by its tests: the promises of the crate `tcpao` cite them.
+-- "Where an answer is an enum, a definition sets out this paper's number and values for each of its cases." The number, and the value
+-- beside it, of every case of every answer: document 01, "Numbers given back"; 0 and 1 stand for what has no number there. Then the number
+-- and value of each call, by its tests: the promises of the crate `tcpao` cite them.
 use Prim.Native.Nat.{ℕ, _+_}
 use mathlib.Core.Bool.{Bool, cond}
 use mathlib.Core.List.{List}
@@ -35,8 +35,8 @@ pub record Answer : Type 0 where
 abbrev pub answer : ℕ → ℕ → Answer
 answer n v = record { number = n; value = v }
 
--- what the tests of a call come to: no number applies, and the call gives the value that `of` makes of the position; pass; or the first number that
--- applies, with the entry's index beside 10 to 17
+-- what the tests of a call come to: no number applies, and the call gives the value that `of` makes of the position; pass; or the first
+-- number that applies, with the entry's index beside 10 to 17
 unfoldable pub outcomeAnswer : (of : ℕ → ℕ) → Outcome → Answer
 outcomeAnswer of (Good x r) = answer 0 (of x)
 outcomeAnswer of Passed = answer 1 0
@@ -77,7 +77,8 @@ unfoldable pub optionsAnswer : ℕ → Options → Answer
 optionsAnswer n O.Malformed = answer n 0
 optionsAnswer n (O.Found s) = answer 0 (s .ao .count)
 
--- The calls: the first number of their tests that applies, with the entry's index beside 10 to 17; else 0, or 1 on pass, and the call's own value.
+-- The calls: the first number of their tests that applies, with the entry's index beside 10 to 17; else 0, or 1 on pass, and the call's
+-- own value.
 
 -- how many entries the table has
 abbrev pub tableNumber : Tables → Answer

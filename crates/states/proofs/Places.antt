@@ -50,5 +50,6 @@ unfolding countDrop
 uncounted-is n ds p q = ap (λ (x : Place). countAt x ds) (sym q ∙ p)
 
 -- what a position answers
-pub numbered : (reference s : ℕ) {r : Place} → r ≡ position reference s → (r ≡ position reference s) × ((n : ℕ) → placeAnswer n r ≡ positionNumber n reference s)
+pub numbered : (reference s : ℕ) {r : Place} → r ≡ position reference s
+    → (r ≡ position reference s) × ((n : ℕ) → placeAnswer n r ≡ positionNumber n reference s)
 numbered reference s e = (e, λ n. ap (placeAnswer n) e ∙ place-answer n (position reference s))

@@ -28,7 +28,8 @@ ofSettled s = doneAnswer (s .answer) (s .index)
 abbrev ofSigned : Signed → Answer
 ofSigned s = signingAnswer (s .answer) (s .index)
 
-pub judged-numbered : (t : Tables) (a : Arrival) (q : State) {r : Judged} → r ≡ judged t a q → (r ≡ judged t a q) × (ofJudged r ≡ judgedNumber t a q)
+pub judged-numbered : (t : Tables) (a : Arrival) (q : State) {r : Judged} → r ≡ judged t a q
+    → (r ≡ judged t a q) × (ofJudged r ≡ judgedNumber t a q)
 judged-numbered t a q e = (e, ap ofJudged e ∙ law.judged-number t a q)
 
 pub syn-numbered : (t : Tables) (a : Arrival) (strict : Bool) {r : Checked} → r ≡ judgedSyn t a strict
@@ -43,7 +44,8 @@ pub opened-numbered : (t : Tables) (local remote : List ℕ) (lp rp isn id : ℕ
     → (r ≡ openedActively t local remote lp rp isn id) × (ofSettled r ≡ openedNumber t local remote lp rp id)
 opened-numbered t local remote lp rp isn id e = (e, ap ofSettled e ∙ law.opened-number t local remote lp rp isn id)
 
-pub asked-numbered : (t : Tables) (id : ℕ) (q : State) {r : Settled} → r ≡ asked t id q → (r ≡ asked t id q) × (ofSettled r ≡ askedNumber t id (q .conn))
+pub asked-numbered : (t : Tables) (id : ℕ) (q : State) {r : Settled} → r ≡ asked t id q
+    → (r ≡ asked t id q) × (ofSettled r ≡ askedNumber t id (q .conn))
 asked-numbered t id q e = (e, ap ofSettled e ∙ law.asked-number t id q)
 
 pub signed-numbered : (t : Tables) (s out : List ℕ) (q : State) {r : Signed} → r ≡ signed t s out q → ofSigned r ≡ signedNumber t s out q

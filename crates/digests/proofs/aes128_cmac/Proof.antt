@@ -23,7 +23,8 @@ returns-2 : tie.Need-returns-2
 unfolding cmacInto
 returns-2 c =
     let a = c .before .before .before .before .before .args in
-    refused _ 16 (cmac (a .key .now) (a .message .now)) (a .out .now) (sized (a .key .now) (room 16 (a .out .now)) _ (c .before .if1 .left) (lt-leb _ _ (c .if2 .taken)))
+    refused _ 16 (cmac (a .key .now) (a .message .now)) (a .out .now)
+    (sized (a .key .now) (room 16 (a .out .now)) _ (c .before .if1 .left) (lt-leb _ _ (c .if2 .taken)))
 
 returns-3 : tie.Need-returns-3
 unfolding cmacInto
@@ -39,4 +40,5 @@ returns-3 c =
 pub aes128-cmac-spec : {M : Type 1} → statement M
 aes128-cmac-spec =
     tie.close
-    (tie.spec returns returns-2 (λ c κs. search needs) (λ c κs. search needs) (λ c. search needs) (λ c κs. search needs) (λ c. search needs) returns-3)
+    (tie.spec returns returns-2 (λ c κs. search needs) (λ c κs. search needs) (λ c. search needs) (λ c κs. search needs)
+    (λ c. search needs) returns-3)

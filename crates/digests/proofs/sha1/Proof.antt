@@ -16,7 +16,8 @@ unfolding sha1Into
 returns-2 c =
     let a = c .before .before .before .before .before .before .before .before .before .args in
     let e = c .before .before .before .before .before in
-    done _ 20 (sha1 (a .message .now)) _ (a .out .now) _ (le-leb _ _ (e .before .if1 .left)) (e .sha1 .ensures) (c .before .before .front .ensures)
+    done _ 20 (sha1 (a .message .now)) _ (a .out .now) _ (le-leb _ _ (e .before .if1 .left))
+    (e .sha1 .ensures) (c .before .before .front .ensures)
 
 pub sha1-spec : {M : Type 1} → statement M
 sha1-spec = tie.close (tie.spec returns (λ c κs. search needs) (λ c. search needs) (λ c κs. search needs) (λ c. search needs) returns-2)

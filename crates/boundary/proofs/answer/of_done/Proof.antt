@@ -12,7 +12,9 @@ cast-word : tie.Need-cast-word
 unfolding doneAnswer
 cast-word c =
     let a = c .before .before .before .args in
-    let h : a .index < 2 ^ 32 = subst (λ (d : Done). doneAnswer d (a .index) .value < 2 ^ 32) (c .before .answer .given .1) (c .before .before .before .pre) in
+    let h : a .index < 2 ^ 32 =
+    subst (λ (d : Done). doneAnswer d (a .index) .value < 2 ^ 32)
+    (c .before .answer .given .1) (c .before .before .before .pre) in
     search needs
 
 returns : tie.Need-returns

@@ -12,14 +12,18 @@ cast-word : tie.Need-cast-word
 unfolding signingAnswer
 cast-word c =
     let a = c .before .before .before .args in
-    let h : c .before .answer .given .0 .0 < 2 ^ 32 = subst (λ (s : Signing). signingAnswer s (a .index) .value < 2 ^ 32) (c .before .answer .given .1) (c .before .before .before .pre) in
+    let h : c .before .answer .given .0 .0 < 2 ^ 32 =
+    subst (λ (s : Signing). signingAnswer s (a .index) .value < 2 ^ 32)
+    (c .before .answer .given .1) (c .before .before .before .pre) in
     search needs
 
 cast-word-2 : tie.Need-cast-word-2
 unfolding signingAnswer
 cast-word-2 c =
     let a = c .before .before .before .args in
-    let h : a .index < 2 ^ 32 = subst (λ (s : Signing). signingAnswer s (a .index) .value < 2 ^ 32) (c .before .answer2 .given .1) (c .before .before .before .pre) in
+    let h : a .index < 2 ^ 32 =
+    subst (λ (s : Signing). signingAnswer s (a .index) .value < 2 ^ 32)
+    (c .before .answer2 .given .1) (c .before .before .before .pre) in
     search needs
 
 returns : tie.Need-returns

@@ -11,13 +11,17 @@ use Rattle.boundary.proofs.answer.of_table.Tie as tie
 cast-word : tie.Need-cast-word
 unfolding tableAnswer
 cast-word c =
-    let h : c .before .loaded .given .0 .0 < 2 ^ 32 = subst (λ (o : Loaded). tableAnswer o .value < 2 ^ 32) (c .before .loaded .given .1) (c .before .before .before .pre) in
+    let h : c .before .loaded .given .0 .0 < 2 ^ 32 =
+    subst (λ (o : Loaded). tableAnswer o .value < 2 ^ 32)
+    (c .before .loaded .given .1) (c .before .before .before .pre) in
     search needs
 
 cast-word-2 : tie.Need-cast-word-2
 unfolding tableAnswer
 cast-word-2 c =
-    let h : c .before .loaded2 .given .0 .1 .0 < 2 ^ 32 = subst (λ (o : Loaded). tableAnswer o .value < 2 ^ 32) (c .before .loaded2 .given .1) (c .before .before .before .pre) in
+    let h : c .before .loaded2 .given .0 .1 .0 < 2 ^ 32 =
+    subst (λ (o : Loaded). tableAnswer o .value < 2 ^ 32)
+    (c .before .loaded2 .given .1) (c .before .before .before .pre) in
     search needs
 
 returns : tie.Need-returns

@@ -17,16 +17,19 @@ unfolding askExport
 returns c =
     let a = c .before .before .before .before .before .before .args in
     left
-    (refused ofSettled (λ (s : Settled). encodeOf (s .state)) (a .state .now) (asked (a .table .now) (a .recv-id) (decodeOf (a .state .now)))
+    (refused ofSettled (λ (s : Settled). encodeOf (s .state)) (a .state .now)
+    (asked (a .table .now) (a .recv-id) (decodeOf (a .state .now)))
     _ (other (a .state .now) _ (c .before .before .is-state .ensures) (c .before .if1 .taken)) (c .word .ensures))
 
 decode-requires : tie.Need-decode-requires
 decode-requires c κs =
-    whole (c .before .before .before .before .before .before .args .state .now) _ (c .before .before .is-state .ensures) (c .before .if1 .left)
+    let i = c .before in
+    whole (i .before .before .before .before .before .args .state .now) _ (i .before .is-state .ensures) (i .if1 .left)
 
 put-requires : tie.Need-put-requires
 put-requires c κs =
-    whole (c .before .before .before .before .before .before .before .before .before .before .args .state .now) _ (c .before .before .before .before .before .before .is-state .ensures) (c .before .before .before .before .before .if1 .left)
+    let i = c .before .before .before .before .before in
+    whole (i .before .before .before .before .before .args .state .now) _ (i .before .is-state .ensures) (i .if1 .left)
 
 of-done-requires : tie.Need-of-done-requires
 of-done-requires c κs =
@@ -40,11 +43,13 @@ returns-2 c =
     let a = e .before .before .before .before .before .before .before .before .args in
     left
     (done ofSettled (λ (s : Settled). encodeOf (s .state)) (a .state .now) (asked (a .table .now) (a .recv-id) (decodeOf (a .state .now)))
-    (e .ask .result) _ _ (whole (a .state .now) _ (e .before .before .before .before .is-state .ensures) (e .before .before .before .if1 .left))
+    (e .ask .result) _ _
+    (whole (a .state .now) _ (e .before .before .before .before .is-state .ensures) (e .before .before .before .if1 .left))
     (e .ask .ensures .0 ∙ ap (asked (a .table .now) (a .recv-id)) (e .before .decode .ensures .0))
     (c .of-done .ensures) (c .before .before .before .put .ensures))
 
 pub ask-spec : {M : Type 1} → statement M
 ask-spec =
     tie.close
-    (tie.spec (λ c κs. search needs) (λ c κs. search needs) (λ c. search needs) returns decode-requires (λ c κs. search needs) put-requires of-done-requires (λ c. search needs) returns-2)
+    (tie.spec (λ c κs. search needs) (λ c κs. search needs) (λ c. search needs) returns decode-requires (λ c κs. search needs)
+    put-requires of-done-requires (λ c. search needs) returns-2)

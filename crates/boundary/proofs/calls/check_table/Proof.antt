@@ -12,7 +12,8 @@ use Rattle.boundary.proofs.calls.check_table.Tie as tie
 
 of-table-requires : tie.Need-of-table-requires
 of-table-requires c κs =
-    subst (λ (o : Loaded). tableAnswer o .value < 2 ^ 32) (sym (c .check-table .ensures .0)) (table-fits (c .before .before .args .table .now) .value)
+    subst (λ (o : Loaded). tableAnswer o .value < 2 ^ 32) (sym (c .check-table .ensures .0))
+    (table-fits (c .before .before .args .table .now) .value)
 
 returns : tie.Need-returns
 unfolding checkTableExport

@@ -24,11 +24,15 @@ returns c =
 
 decode-requires : tie.Need-decode-requires
 decode-requires c κs =
-    whole (c .before .before .before .before .before .before .before .before .before .args .state .now) _ (c .before .before .is-state .ensures) (c .before .if1 .left)
+    let i = c .before in
+    whole (i .before .before .before .before .before .before .before .before .args .state .now) _
+    (i .before .is-state .ensures) (i .if1 .left)
 
 put-requires : tie.Need-put-requires
 put-requires c κs =
-    whole (c .before .before .before .before .before .before .before .before .before .before .before .before .before .args .state .now) _ (c .before .before .before .before .before .before .is-state .ensures) (c .before .before .before .before .before .if1 .left)
+    let i = c .before .before .before .before .before in
+    whole (i .before .before .before .before .before .before .before .before .args .state .now) _
+    (i .before .is-state .ensures) (i .if1 .left)
 
 of-verdict-requires : tie.Need-of-verdict-requires
 of-verdict-requires c κs =
@@ -44,11 +48,14 @@ returns-2 c =
     left
     (done ofJudged (λ (j : Judged). encodeOf (j .state)) (a .state .now)
     (judged (a .table .now) (arrivalOf (a .source .now) (a .destination .now) (a .segment .now)) (decodeOf (a .state .now)))
-    (e .judge .result) _ _ (whole (a .state .now) _ (e .before .before .before .before .is-state .ensures) (e .before .before .before .if1 .left))
-    (e .judge .ensures .0 ∙ ap (judged (a .table .now) (arrivalOf (a .source .now) (a .destination .now) (a .segment .now))) (e .before .decode .ensures .0))
+    (e .judge .result) _ _
+    (whole (a .state .now) _ (e .before .before .before .before .is-state .ensures) (e .before .before .before .if1 .left))
+    (e .judge .ensures .0
+    ∙ ap (judged (a .table .now) (arrivalOf (a .source .now) (a .destination .now) (a .segment .now))) (e .before .decode .ensures .0))
     (c .of-verdict .ensures) (c .before .before .before .put .ensures))
 
 pub judge-spec : {M : Type 1} → statement M
 judge-spec =
     tie.close
-    (tie.spec (λ c κs. search needs) (λ c κs. search needs) (λ c. search needs) returns decode-requires (λ c κs. search needs) put-requires of-verdict-requires (λ c. search needs) returns-2)
+    (tie.spec (λ c κs. search needs) (λ c κs. search needs) (λ c. search needs) returns decode-requires (λ c κs. search needs)
+    put-requires of-verdict-requires (λ c. search needs) returns-2)

@@ -28,7 +28,8 @@ returns c =
 
 put-where-requires : tie.Need-put-where-requires
 put-where-requires c κs =
-    whole (c .before .before .before .before .before .before .before .before .before .before .before .args .state .now) _ (c .before .before .before .before .before .is-state .ensures) (c .before .before .before .before .if1 .left)
+    let i = c .before .before .before .before in
+    whole (i .before .before .before .before .before .before .before .args .state .now) _ (i .before .is-state .ensures) (i .if1 .left)
 
 of-done-requires : tie.Need-of-done-requires
 of-done-requires c κs =
@@ -45,10 +46,13 @@ returns-2 c =
     left
     (done ofSettled (bytes (a .state .now)) (a .state .now)
     (openedActively (a .table .now) (a .local .now) (a .remote .now) (a .local-port) (a .remote-port) (a .isn) (a .send-id))
-    (e .open-active .result) _ _ (whole (a .state .now) _ (e .before .before .is-state .ensures) (e .before .if1 .left)) (e .open-active .ensures .0) (c .of-done .ensures)
-    (p .put-where .ensures ∙ ap (λ (o : Bool). cond o (encodeOf (e .open-active .result .state)) (a .state .now)) (p .before .opens .ensures)))
+    (e .open-active .result) _ _ (whole (a .state .now) _ (e .before .before .is-state .ensures) (e .before .if1 .left))
+    (e .open-active .ensures .0) (c .of-done .ensures)
+    (p .put-where .ensures
+    ∙ ap (λ (o : Bool). cond o (encodeOf (e .open-active .result .state)) (a .state .now)) (p .before .opens .ensures)))
 
 pub open-active-spec : {M : Type 1} → statement M
 open-active-spec =
     tie.close
-    (tie.spec (λ c κs. search needs) (λ c κs. search needs) (λ c. search needs) returns (λ c κs. search needs) (λ c κs. search needs) put-where-requires of-done-requires (λ c. search needs) returns-2)
+    (tie.spec (λ c κs. search needs) (λ c κs. search needs) (λ c. search needs) returns (λ c κs. search needs) (λ c κs. search needs)
+    put-where-requires of-done-requires (λ c. search needs) returns-2)

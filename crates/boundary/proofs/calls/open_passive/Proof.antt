@@ -29,7 +29,9 @@ returns c =
 
 put-where-requires : tie.Need-put-where-requires
 put-where-requires c κs =
-    whole (c .before .before .before .before .before .before .before .before .before .before .before .before .args .state .now) _ (c .before .before .before .before .before .is-state .ensures) (c .before .before .before .before .if1 .left)
+    let i = c .before .before .before .before in
+    whole (i .before .before .before .before .before .before .before .before .args .state .now) _
+    (i .before .is-state .ensures) (i .if1 .left)
 
 of-verdict-requires : tie.Need-of-verdict-requires
 of-verdict-requires c κs =
@@ -46,10 +48,13 @@ returns-2 c =
     left
     (done ofJudged (bytes (a .state .now)) (a .state .now)
     (openedPassively (a .table .now) (arrivalOf (a .source .now) (a .destination .now) (a .segment .now)) (a .isn) (strictly (a .setting)))
-    (e .open-passive .result) _ _ (whole (a .state .now) _ (e .before .before .is-state .ensures) (e .before .if1 .left)) (e .open-passive .ensures .0) (c .of-verdict .ensures)
-    (p .put-where .ensures ∙ ap (λ (o : Bool). cond o (encodeOf (e .open-passive .result .state)) (a .state .now)) (p .before .accepts .ensures)))
+    (e .open-passive .result) _ _ (whole (a .state .now) _ (e .before .before .is-state .ensures) (e .before .if1 .left))
+    (e .open-passive .ensures .0) (c .of-verdict .ensures)
+    (p .put-where .ensures
+    ∙ ap (λ (o : Bool). cond o (encodeOf (e .open-passive .result .state)) (a .state .now)) (p .before .accepts .ensures)))
 
 pub open-passive-spec : {M : Type 1} → statement M
 open-passive-spec =
     tie.close
-    (tie.spec (λ c κs. search needs) (λ c κs. search needs) (λ c. search needs) returns (λ c κs. search needs) (λ c κs. search needs) put-where-requires of-verdict-requires (λ c. search needs) returns-2)
+    (tie.spec (λ c κs. search needs) (λ c κs. search needs) (λ c. search needs) returns (λ c κs. search needs) (λ c κs. search needs)
+    put-where-requires of-verdict-requires (λ c. search needs) returns-2)

@@ -26,11 +26,13 @@ returns c =
 
 decode-requires : tie.Need-decode-requires
 decode-requires c κs =
-    whole (c .before .before .before .before .before .before .before .before .args .state .now) _ (c .before .before .is-state .ensures) (c .before .if1 .left)
+    let i = c .before in
+    whole (i .before .before .before .before .before .before .before .args .state .now) _ (i .before .is-state .ensures) (i .if1 .left)
 
 put-requires : tie.Need-put-requires
 put-requires c κs =
-    whole (c .before .before .before .before .before .before .before .before .before .before .before .before .before .before .before .args .state .now) _ (c .before .before .before .before .before .before .before .before .before .is-state .ensures) (c .before .before .before .before .before .before .before .before .if1 .left)
+    let i = c .before .before .before .before .before .before .before .before in
+    whole (i .before .before .before .before .before .before .before .args .state .now) _ (i .before .is-state .ensures) (i .if1 .left)
 
 of-signing-requires : tie.Need-of-signing-requires
 of-signing-requires c κs =
@@ -60,4 +62,5 @@ returns-2 c =
 pub sign-spec : {M : Type 1} → statement M
 sign-spec =
     tie.close
-    (tie.spec (λ c κs. search needs) (λ c κs. search needs) (λ c. search needs) returns decode-requires (λ c κs. search needs) put-requires of-signing-requires (λ c. search needs) (λ c. search needs) returns-2)
+    (tie.spec (λ c κs. search needs) (λ c κs. search needs) (λ c. search needs) returns decode-requires (λ c κs. search needs)
+    put-requires of-signing-requires (λ c. search needs) (λ c. search needs) returns-2)

@@ -21,4 +21,5 @@ returns c =
     (c .before .before .before .verdict-of .ensures) (c .before .before .index-of .ensures) (c .after-judging .ensures))
 
 pub judge-spec : {M : Type 1} → statement M
-judge-spec = tie.close (tie.spec (λ c κs. search needs) (λ c κs. search needs) (λ c κs. search needs) (λ c κs. search needs) after-judging-requires returns)
+judge-spec =
+    tie.close (tie.spec (λ c κs. search needs) (λ c κs. search needs) (λ c κs. search needs) (λ c κs. search needs) after-judging-requires returns)

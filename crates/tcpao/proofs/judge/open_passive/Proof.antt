@@ -17,7 +17,8 @@ opened-by-requires c κs =
     let s = arrivalOf (a .source .now) (a .destination .now) (a .segment .now) in
     let b = c .before .before .before .before .begin-syn in
     let f = c .before .before .finished .ensures in
-    taken-by t s (a .strict) (syn-ends t s (a .strict) (b .result) (b .ensures) f) (λ x r g. syn-ids t s (a .strict) (b .result) (b .ensures) f g)
+    taken-by t s (a .strict) (syn-ends t s (a .strict) (b .result) (b .ensures) f)
+    (λ x r g. syn-ids t s (a .strict) (b .result) (b .ensures) f g)
 
 returns : tie.Need-returns
 returns c =
@@ -26,8 +27,11 @@ returns c =
     let s = arrivalOf (a .source .now) (a .destination .now) (a .segment .now) in
     let b = c .before .before .before .before .before .begin-syn in
     passively-numbered t s (a .isn) (a .strict)
-    (passively-is t s (a .isn) (a .strict) (syn-ends t s (a .strict) (b .result) (b .ensures) (c .before .before .before .finished .ensures))
+    (passively-is t s (a .isn) (a .strict)
+    (syn-ends t s (a .strict) (b .result) (b .ensures) (c .before .before .before .finished .ensures))
     (c .before .before .verdict-of .ensures) (c .before .index-of .ensures) (c .opened-by .ensures))
 
 pub open-passive-spec : {M : Type 1} → statement M
-open-passive-spec = tie.close (tie.spec (λ c κs. search needs) finished-requires (λ c κs. search needs) (λ c κs. search needs) opened-by-requires returns)
+open-passive-spec =
+    tie.close
+    (tie.spec (λ c κs. search needs) finished-requires (λ c κs. search needs) (λ c κs. search needs) opened-by-requires returns)
