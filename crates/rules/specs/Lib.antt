@@ -8,6 +8,7 @@ pub mod Answers
 pub mod Ends
 pub mod Demand3
 pub mod History
+pub mod References
 pub mod NumberLaws
 pub mod GroupLaws
 pub mod PositionLaws
@@ -25,5 +26,6 @@ pub mod OrderLaws
 pub mod HistoryLaws
 pub mod Refusals
 pub mod GivenNumbers
+pub mod ReferenceLaws
 pub mod Examples
 pub mod Inhabited
