@@ -9,6 +9,7 @@ pub mod Ends
 pub mod Demand3
 pub mod History
 pub mod References
+pub mod Sentences
 pub mod NumberLaws
 pub mod GroupLaws
 pub mod PositionLaws
@@ -27,5 +28,6 @@ pub mod HistoryLaws
 pub mod Refusals
 pub mod GivenNumbers
 pub mod ReferenceLaws
+pub mod SentenceLaws
 pub mod Examples
 pub mod Inhabited
