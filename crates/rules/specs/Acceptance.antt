@@ -39,8 +39,8 @@ byte-at (x ∷ s) (suc i) b = byte-at s i (b .1)
 pub sequence-below : (s : List ℕ) → Bytes s → sequence s < 2 ^ 32
 sequence-below s b = omega (arith, byte-at s 4 b, byte-at s 5 b, byte-at s 6 b, byte-at s 7 b)
 
-pub agree-of : (p : Pair) (ours theirs : Entry) → Mirror p ours theirs → Agree (ours .secret) (theirs .secret)
-agree-of p ours theirs m = record { flags = m .flags; algorithm = m .algorithm; mac = m .mac; key = m .key }
+pub agree-of : (p q : Pair) (ours theirs : Entry) → Mirror p q ours theirs → Agree (ours .secret) (theirs .secret)
+agree-of p q ours theirs m = record { flags = m .flags; algorithm = m .algorithm; mac = m .mac; key = m .key }
 
 -- a signed SYN: "(bare or with ACK) whose position is .. our ISN"
 pub syn-at : (q : State) (e : Entry) (x : ℕ) (b : List ℕ) (g : SignedAt q e x b) → syn (g .unsigned) ≡ true → x ≡ q .conn .isn

@@ -85,13 +85,14 @@ pub record SignedAt (q : State) (e : Entry) (x : ℕ) (bytes : List ℕ) : Type 
   pub under : outgoing table q .entry ≡ e
   pub position : placeOn (q .conn) (q .sent) (sequence unsigned) ≡ At x
 
--- "it holds the mirrored key in a valid table": of the entry e, on the connection whose pair this end holds as p
-pub record Holds (t : Tables) (p : Pair) (e : Entry) : Type 0 where
+-- "it holds the mirrored key in a valid table": of the other end's entry e, on the connection whose pair this end holds as p and that end
+-- as q
+pub record Holds (t : Tables) (p q : Pair) (e : Entry) : Type 0 where
   pub valid : ValidTable t
   pub ours : Entry
   pub place : ℕ
   pub among : EntryAt (entries t) place ours
-  pub mirror : Mirror p ours e
+  pub mirror : Mirror p q ours e
 
 -- "A true segment was signed at the other end, in a state open on this connection .., under a mirror of one of the table's entries; it arrives
 -- with our state's pair and as signed, except perhaps for its checksum." Its position is x, and it asks for the key r.
@@ -103,7 +104,7 @@ pub record TrueSegment (t : Tables) (l : Connection) (a : Arrival) (x r : ℕ) :
   pub theirs : Entry
   pub place : ℕ
   pub among : EntryAt (entries t) place ours
-  pub mirror : Mirror (l .pair) ours theirs
+  pub mirror : Mirror (l .pair) (peer .conn .pair) ours theirs
   pub bytes : List ℕ
   pub signed : SignedAt peer theirs x bytes
   pub delivered : Delivered (remoteAddress (l .pair)) (localAddress (l .pair)) bytes a

@@ -10,6 +10,7 @@ pub mod Demand3
 pub mod History
 pub mod References
 pub mod Sentences
+pub mod Kept
 pub mod NumberLaws
 pub mod GroupLaws
 pub mod PositionLaws
@@ -25,6 +26,7 @@ pub mod AcceptedLaws
 pub mod Demand2
 pub mod OrderLaws
 pub mod HistoryLaws
+pub mod KeptLaws
 pub mod Refusals
 pub mod GivenNumbers
 pub mod ReferenceLaws

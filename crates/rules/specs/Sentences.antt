@@ -216,23 +216,18 @@ pub record TrafficKeys : Type 0 where
 
 -- What the MAC covers.
 
--- the pseudo-header of a segment of n bytes from one address to another
-abbrev pub pseudo : List ℕ → List ℕ → ℕ → List ℕ
-pseudo a b n =
-    pseudoHeader (record { source = a; destination = b; sourcePort = 0; destinationPort = 0; sourceIsn = 0; destinationIsn = 0 }) n
-
 -- "the IP pseudo-header as for the checksum, with the whole segment's length": protocol 6 (RFC 9293 §3.1, RFC 8200 §8.1)
 pub record PseudoHeaders : Type 0 where
-  pub ipv4 : (a b : List ℕ) (n : ℕ) → length a ≡ 4 → pseudo a b n ≡ a ++ b ++ (0 ∷ 6 ∷ n / 256 % 256 ∷ n % 256 ∷ [])
+  pub ipv4 : (a b : List ℕ) (n : ℕ) → length a ≡ 4 → pseudoHeader a b n ≡ a ++ b ++ (0 ∷ 6 ∷ n / 256 % 256 ∷ n % 256 ∷ [])
   pub ipv6 : (a b : List ℕ) (n : ℕ) → length a ≡ 16
-      → pseudo a b n ≡ a ++ b ++ (n / 16777216 % 256 ∷ n / 65536 % 256 ∷ n / 256 % 256 ∷ n % 256 ∷ 0 ∷ 0 ∷ 0 ∷ 6 ∷ [])
+      → pseudoHeader a b n ≡ a ++ b ++ (n / 16777216 % 256 ∷ n / 65536 % 256 ∷ n / 256 % 256 ∷ n % 256 ∷ 0 ∷ 0 ∷ 0 ∷ 6 ∷ [])
 
 -- "In this order: the extension (4 bytes); the IP pseudo-header ..; the TCP header ..; the data."
 abbrev pub MessageOrder : Type 0
 MessageOrder = (s : Secret) (f : Flow) (e at : ℕ) (segment : List ℕ)
     → message s f e at segment
     ≡ (e / 16777216 % 256 ∷ e / 65536 % 256 ∷ e / 256 % 256 ∷ e % 256 ∷ [])
-    ++ pseudo (f .source) (f .destination) (length segment)
+    ++ pseudoHeader (f .source) (f .destination) (length segment)
     ++ coveredHeader (allOptions s) at (s .«mac_bytes») (take (headerEnd segment) segment)
     ++ drop (headerEnd segment) segment
 

@@ -40,7 +40,7 @@ fn length_and_next_header(len: usize) -> [u8; 8]
 // "the IP pseudo-header as for the checksum, with the whole segment's length"
 fn push_pseudo_header(a: Assembled, flow: Flow, len: usize) -> Assembled
     requires { ⌜ a .len + 40 ≤ 104 ⌝ }
-    ensures { λ r. ⌜ Pushed a (pseudoHeader (flowOf flow) len) r ⌝ }
+    ensures { λ r. ⌜ Pushed a (pseudoHeader (flowOf flow .source) (flowOf flow .destination) len) r ⌝ }
 {
     let b = crate::flow::push_addresses(a, flow);
     let w = keys::entry::width_of(flow.family);
