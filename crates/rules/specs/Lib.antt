@@ -11,6 +11,7 @@ pub mod History
 pub mod References
 pub mod Sentences
 pub mod Kept
+pub mod Inhabited
 pub mod NumberLaws
 pub mod GroupLaws
 pub mod PositionLaws
@@ -32,4 +33,4 @@ pub mod GivenNumbers
 pub mod ReferenceLaws
 pub mod SentenceLaws
 pub mod Examples
-pub mod Inhabited
+pub mod InhabitedLaws
