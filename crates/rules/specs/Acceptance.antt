@@ -28,7 +28,7 @@ use Rattle.rules.specs.Connection.{leaving, value, extensionOf}
 use Rattle.rules.specs.Calls.{keyTests, macTests, isRefused, macDiffers, formTests, lengthTests, tableTests}
 use Rattle.rules.specs.Ends.{Bytes, SignedAt}
 use Rattle.rules.specs.RoundTrip.{Reads}
-use Rattle.rules.specs.Delivery.{signs, twelve, mac, length-its-mac, segment, reads, same-mac, sizes}
+use Rattle.rules.specs.Delivery.{signs, mac, length-its-mac, segment, reads, same-mac, sizes}
 
 -- bytes make a number below 2 ^ 32
 byte-at : (s : List ℕ) (i : ℕ) → Bytes s → getD s i 0 < 256
@@ -67,7 +67,7 @@ module _ (q : State) (e : Entry) (x : ℕ) (b : List ℕ) (g : SignedAt q e x b)
     right-length : not (eqb (ao came .len) (4 + found .entry .secret .«mac_bytes»)) ≡ false
     right-length =
         (λ j. not (eqb (read .one j .len) (4 + held j .entry .secret .«mac_bytes»)))
-        ∙ ap not (eq-eqb _ _ (ap (λ (n : ℕ). 4 + n) (length-its-mac q e x b g ∙ sym (twelve q e x b g) ∙ sym (agree .mac))))
+        ∙ ap not (eq-eqb _ _ (ap (λ (n : ℕ). 4 + n) (length-its-mac q e x b g ∙ sym (agree .mac))))
 
     right-mac : macDiffers (found .entry) f (At y) came ≡ false
     right-mac =

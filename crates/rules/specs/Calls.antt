@@ -32,7 +32,7 @@ use Rattle.rules.specs.declared.Done.the-variants as D
 use Rattle.rules.specs.declared.Settled.{Settled}
 use Rattle.rules.specs.Numbers.{Test, test, tests, joined, first}
 use Rattle.rules.specs.Mac.{Flow, segmentMac}
-use Rattle.rules.specs.Segment.{malformed, ao, md5, aoAt, keyId, rnextKeyId, macIn, isBareSyn, signedWith}
+use Rattle.rules.specs.Segment.{malformed, ao, md5, aoAt, keyId, rnextKeyId, macIn, isBareSyn, optionBytes, signedWith}
 use Rattle.rules.specs.Connection.{sized, pairOf, Arrival, arrivalPair, localAddress, remoteAddress, isOpen, arriving, leaving, arrivingSyn, placeOn, located, value, extensionOf, nextKey, opened, opening, empty, withAccepted, withDrop, withSent, withAsked}
 
 abbrev pub refuse : ℕ → Outcome
@@ -253,7 +253,7 @@ asked t id q = settledBy (first (askTests t id (q .conn)) unrefused) q (withAske
 -- the bytes that TCP-AO adds: 4 and the entry's MAC bytes, which makes 16. Both algorithms add as many, so 32 is given as document 01 says also
 -- where no entry is found and 35 would follow
 abbrev pub addedBytes : Found → ℕ
-addedBytes found = 4 + cond (found .there) (found .entry .secret .«mac_bytes») (macBytes 1)
+addedBytes found = optionBytes (cond (found .there) (found .entry .secret .«mac_bytes») (macBytes 1))
 
 -- 31: "malformed, or TCP-AO or MD5 present"
 abbrev pub freshTests : List ℕ → List (Test Outcome)

@@ -1,5 +1,6 @@
--- 32 and 37 in document 01's words: what the bytes that TCP-AO adds come to. Assumes a valid table, which the tests before 32 ensure.
-use Prim.Native.Nat.{ℕ, _+_}
+-- What the bytes that TCP-AO adds come to: for any MAC that fits; and 32 and 37 in document 01's words, where the MAC has 12 bytes.
+-- Assumes a valid table, which the tests before 32 ensure.
+use Prim.Native.Nat.{ℕ, _+_, _≤_}
 use mathlib.Core.Path.{_≡_, refl, ap, sym, _∙_}
 use mathlib.Core.Bool.{Bool, true, false}
 use mathlib.Core.List.{List, [], _∷_}
@@ -9,6 +10,7 @@ use lib.Dec.{ltb}
 use borrow.Author.Tests.{ltb-true, lt-ltb, ltb-false, le-ltb}
 use Rattle.wire.specs.Header.{dataOffset, headerEnd}
 use Rattle.keys.specs.declared.entry.Pair.{Pair}
+use Rattle.keys.specs.declared.table.Found.{Found}
 use Rattle.keys.specs.Algorithm.{macBytes}
 use Rattle.keys.specs.Table.{Tables, ValidTable, sendEntry}
 use Rattle.keys.specs.SearchLaws.{valid-proper, send-holder}
@@ -16,12 +18,28 @@ use Rattle.rules.specs.declared.State.{State}
 use Rattle.rules.specs.declared.Outcome.{Outcome}
 use Rattle.rules.specs.declared.Signing.the-variants as S
 use Rattle.rules.specs.Numbers.{Test, tests}
+use Rattle.rules.specs.Segment.{optionBytes}
 use Rattle.rules.specs.Calls.{refuse, outgoing, addedBytes, growthTests, signed}
+use Rattle.rules.specs.RoundTrip.{Whole}
 use Rattle.rules.specs.SigningLaws.{signs-good, signed-good}
 
+-- a MAC of n bytes that can be signed with: both algorithms give as many, and its option fills whole words
+pub record Fits (n : ℕ) : Type 0 where
+  pub short : n ≤ 16
+  pub words : Whole (optionBytes n)
+
+-- what is added under an entry that was found
+pub added-under : (f : Found) → f .there ≡ true → addedBytes f ≡ optionBytes (f .entry .secret .«mac_bytes»)
+added-under f e = rw e
+
 -- "MAC bytes (12 and 12)": an entry that a valid table has for a pair and a SendID
-pub twelve-bytes : (t : Tables) (p : Pair) (id : ℕ) → ValidTable t → sendEntry t p id .there ≡ true → sendEntry t p id .entry .secret .«mac_bytes» ≡ 12
+pub twelve-bytes : (t : Tables) (p : Pair) (id : ℕ) → ValidTable t → sendEntry t p id .there ≡ true
+    → sendEntry t p id .entry .secret .«mac_bytes» ≡ 12
 twelve-bytes t p id v e = valid-proper t v (send-holder t p id e .0 .place) .mac
+
+pub fits-found : (t : Tables) (p : Pair) (id : ℕ) → ValidTable t → sendEntry t p id .there ≡ true
+    → Fits (sendEntry t p id .entry .secret .«mac_bytes»)
+fits-found t p id v e = let m = twelve-bytes t p id v e in record { short = omega (arith, m); words = omega (arith, m) }
 
 -- "With a 12-byte MAC the length is 16.": whether or not the outgoing key has an entry
 pub added-16 : (t : Tables) (q : State) → ValidTable t → addedBytes (outgoing t q) ≡ 16
@@ -29,7 +47,7 @@ unfolding macBytes
 added-16 t q v = go (outgoing t q .there) refl
   where
     go : (b : Bool) → outgoing t q .there ≡ b → addedBytes (outgoing t q) ≡ 16
-    go true e = rw e (ap (λ (n : ℕ). 4 + n) (twelve-bytes t (q .conn .pair) (q .«send_id») v e))
+    go true e = added-under (outgoing t q) e ∙ ap optionBytes (twelve-bytes t (q .conn .pair) (q .«send_id») v e)
     go false e = rw e
 
 -- "data offset above 11": a header of 60 bytes is passed

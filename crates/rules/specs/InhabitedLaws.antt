@@ -25,7 +25,7 @@ use Rattle.rules.specs.declared.State.{State}
 use Rattle.rules.specs.Position.{position}
 use Rattle.rules.specs.Mac.{segmentMac}
 use Rattle.rules.specs.MacLaws.{length-mac}
-use Rattle.rules.specs.Segment.{signedHeader, signedWith}
+use Rattle.rules.specs.Segment.{inserted, withOption, signedWith}
 use Rattle.rules.specs.Connection.{arrivalPair, leaving, extensionOf, placeOn}
 use Rattle.rules.specs.Calls.{outgoing, addedBytes, checkSign, signedSegment, written, signedBy, outputBy, signed, output}
 use Rattle.rules.specs.Ends.{Bytes, Typed, Delivered, Holds, SignedAt}
@@ -199,7 +199,7 @@ delivered : Delivered (172 ∷ 27 ∷ 28 ∷ 29 ∷ []) (10 ∷ 11 ∷ 12 ∷ 13
 delivered = record { from = refl; to = refl; high = 18; low = 52; segment = refl }
 
 held : Holds ourTable (arrivalPair (fromThem synBytes)) theirPair theirEntry
-unfolding signedSegment signedWith signedHeader
+unfolding signedSegment withOption inserted
 held = record { valid = valid; ours = entryOf ourTable; place = 0; among = among; mirror = mirrored }
 
 pub bare-syn-not-empty : BareSynNotEmpty

@@ -20,7 +20,7 @@ use Rattle.rules.specs.Numbers.{Test, tests, first}
 use Rattle.rules.specs.NumberLaws.{first-append}
 use Rattle.rules.specs.Mac.{context, derivationInput, aesKey, applied, trafficKey, pseudoHeader, coveredHeader, front, message}
 use Rattle.rules.specs.Mac.{segmentMac}
-use Rattle.rules.specs.Segment.{malformed, ao, md5, keyId, rnextKeyId, isBareSyn, signedHeader, signedWith}
+use Rattle.rules.specs.Segment.{malformed, ao, md5, keyId, rnextKeyId, isBareSyn, inserted, withOption}
 use Rattle.rules.specs.Connection.{sized, arrivalPair, isOpen, placeOn, located, value}
 use Rattle.rules.specs.Calls.{isRefused, check, checkSyn, unrefused, checkSign, outgoing, addedBytes}
 use Rattle.rules.specs.Answers.{verdictAnswer}
@@ -161,7 +161,7 @@ unfolding segmentMac applied
 segment-macs = record { hmac = λ s f e at segment a m. rw (a, m); cmac = λ s f e at segment a m. rw (a, m) }
 
 pub signed-example : SignedExample
-unfolding signedWith signedHeader
+unfolding withOption inserted
 signed-example = refl
 
 pub covered : Covered
