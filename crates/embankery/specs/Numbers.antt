@@ -32,7 +32,8 @@ use Rattle.rules.specs.Calls.{refuse, isRefused, refusal, verdictOf, indexOf, j
 use Rattle.rules.specs.SigningLaws.{signs-good}
 use Rattle.rules.specs.History.{judge, sign, ask}
 use Rattle.rules.specs.Refusals.{Request, on, judgeSyn, openPassively, openActively, byVerdict, bySigning}
-use Rattle.rules.specs.GivenNumbers.{among, among-every, tableNumbers, Within, checked-within, isPass, refused-bounds, table-bounds, judge-never-passes}
+use Rattle.rules.specs.GivenNumbers.{among, tableNumbers, Within, isPass}
+use Rattle.rules.specs.GivenNumberLaws.{among-every, checked-within, refused-bounds, table-bounds, judge-never-passes}
 use Rattle.embankery.specs.Word.{word, Reads, reads, ofJudged, ofChecked, ofSigned, ofSettled}
 use Rattle.embankery.specs.Exports.{isState, answered, accepts, opens}
 

@@ -9,7 +9,7 @@ use lib.Seq.{getD-set-same, getD-set-other}
 use lib.Dec.{eqb}
 use borrow.Author.Tests.{eqb-true, eqb-false, ne-eqb}
 use Rattle.keys.specs.Entry.{size, itemAt, entries}
-use Rattle.keys.specs.EntryLaws.{Each}
+use Rattle.keys.specs.Places.{Each}
 use Rattle.keys.specs.Match.{share, clash}
 use Rattle.keys.specs.Table.{line, first, ownLines, itemLines, clashing, loaded}
 use Rattle.keys.proofs.Walk.{Walking, walk-start, walk-refused, walk-sound, walk-more, walk-next}

@@ -4,7 +4,7 @@ use Prim.Native.Nat.{ℕ, zero, suc, _+_, _*_, _-_, _≤_, _<_}
 use mathlib.Core.Bool.{Bool, true, false, cond}
 use mathlib.Core.Path.{_≡_, refl, sym, ap, _∙_}
 use mathlib.Core.List.{List, [], _∷_, _++_}
-use mathlib.Core.Logic.{_⊎_, inl, inr, ⊎-elim}
+use mathlib.Core.Logic.{inl, inr, ⊎-elim}
 use native.Mathlib.Omega.{arith}
 use lib.ListN.{length, getD, take, drop, replicate, length-append, length-take, length-drop, length-replicate, drop-of-length-le}
 use lib.Seq.{drop-nil, drop-drop, getD-drop}
@@ -12,7 +12,9 @@ use lib.Dec.{leb, eqb}
 use borrow.Author.Tests.{eqb-true, leb-true, leb-false}
 use Rattle.keys.specs.Algorithm.{macBytes}
 use Rattle.keys.specs.Entry.{knownKind, familyOf, body, size, width, sideOf, selectorOf, secretOf, entryOf, Item, item, itemAt, sound, items, entriesOf, entries}
-use Rattle.keys.specs.MatchLaws.{or-true, and-true, Octets, Family, SideFields, Fields}
+use Rattle.keys.specs.MatchLaws.{or-true, and-true, SideFields, Fields}
+use Rattle.keys.specs.Clash.{Octets, Family}
+use Rattle.keys.specs.Places.{Each}
 use Rattle.keys.specs.declared.entry.Entry.{Entry}
 
 -- sizes
@@ -147,10 +149,6 @@ entry-fields s o h =
       local = side-fields w 5 13 s (width-le (getD s 0 0)) o;
       remote = side-fields w 9 (14 + w) s (width-le (getD s 0 0)) o;
     }
-
-abbrev pub Each : (Entry → Type 0) → List Entry → Type 0
-Each P [] = Unit {0}
-Each P (e ∷ l) = P e × Each P l
 
 -- what holds of each entry's own bytes holds of the table's entries
 module _ (Q : List ℕ → Type 0) (P : Entry → Type 0) (tail : (b : ℕ) (t : List ℕ) → Q (b ∷ t) → Q t) (of : (s : List ℕ) → Q s → sound (item s) ≡ true → P (entryOf s)) where

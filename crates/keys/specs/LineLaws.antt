@@ -1,5 +1,5 @@
 -- Laws of lines: which number a list of them gives, and what it means that none does.
-use Prim.Native.Nat.{ℕ, _+_}
+use Prim.Native.Nat.{ℕ}
 use mathlib.Core.Bool.{Bool, true, false, cond, not, _&&_}
 use mathlib.Core.Path.{_≡_, refl, sym}
 use mathlib.Core.List.{List, [], _∷_, _++_}
@@ -7,12 +7,9 @@ use native.Mathlib.Omega.{arith}
 use lib.Dec.{eqb}
 use borrow.Author.Tests.{eqb-false, not-false}
 use Rattle.keys.specs.Entry.{Item, sound}
-use Rattle.keys.specs.Table.{Line, line, first, entryLines, clashing, ownLines, itemLines}
+use Rattle.keys.specs.Table.{Line, line, first, clashing, ownLines, itemLines}
+use Rattle.keys.specs.Clash.{Passed}
 use Rattle.keys.specs.declared.entry.Entry.{Entry}
-
-abbrev pub Passed : List Line → Type 0
-Passed [] = Unit {0}
-Passed (x ∷ l) = (x .applies ≡ false) × Passed l
 
 -- no line has the number
 abbrev pub lacks : ℕ → List Line → Bool
@@ -64,10 +61,6 @@ last-first n b (x ∷ l) k z e = go (x .applies) refl (lacks-head n (x .number) 
 pub first-last : (n : ℕ) (b : Bool) (l : List Line) → Passed l → first (l ++ (line n b ∷ [])) ≡ cond b n 0
 unfolding first
 first-last n b l p = first-passed l (line n b ∷ []) p
-
--- an entry that by itself is given none of 13 to 16
-abbrev pub Formed : Entry → Type 0
-Formed e = Passed (entryLines e)
 
 pub passed-split : (a b : List Line) → Passed (a ++ b) → Passed a × Passed b
 passed-split [] b p = (tt, p)

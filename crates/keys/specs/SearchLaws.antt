@@ -15,10 +15,11 @@ use Rattle.keys.specs.Algorithm.{macBytes}
 use Rattle.keys.specs.Entry.{width, entries}
 use Rattle.keys.specs.EntryLaws.{Shape, entries-shape}
 use Rattle.keys.specs.Match.{matches, clash}
-use Rattle.keys.specs.MatchLaws.{and-true, Family, clash-of}
+use Rattle.keys.specs.MatchLaws.{and-true, clash-of}
 use Rattle.keys.specs.Table.{zeros, ValidTable, nobody, found, anyOf, hasId, answers, sendEntry, recvEntry, anyEntry, maxEntries}
-use Rattle.keys.specs.LineLaws.{Formed}
-use Rattle.keys.specs.PlaceLaws.{At, here, there, each-at, Apart, apart-at}
+use Rattle.keys.specs.Clash.{Family, Formed}
+use Rattle.keys.specs.PlaceLaws.{each-at, Apart, apart-at}
+use Rattle.keys.specs.Places.{At, here, there}
 use Rattle.keys.specs.LoadLaws.{valid-formed}
 use Rattle.keys.specs.declared.entry.Ids.{Ids}
 use Rattle.keys.specs.declared.entry.Entry.{Entry}

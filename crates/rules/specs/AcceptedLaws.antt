@@ -14,7 +14,7 @@ use Rattle.keys.specs.declared.entry.Entry.{Entry}
 use Rattle.keys.specs.Entry.{isFamily, width, padded, entries}
 use Rattle.keys.specs.EntryLaws.{width-le}
 use Rattle.keys.specs.MatchLaws.{and-true}
-use Rattle.keys.specs.PlaceLaws.{At as EntryAt}
+use Rattle.keys.specs.Places.{At as EntryAt}
 use Rattle.keys.specs.Mirror.{Mirror}
 use Rattle.keys.specs.Table.{Tables, ValidTable, recvEntry}
 use Rattle.keys.specs.SearchLaws.{hit, recv-found, send-holder}
@@ -28,13 +28,15 @@ use Rattle.rules.specs.PositionLaws.{complete, sound}
 use Rattle.rules.specs.NumberLaws.{NoneApplies, none-append}
 use Rattle.rules.specs.GroupLaws.{first-clear}
 use Rattle.rules.specs.Segment.{keyId, isBareSyn}
-use Rattle.rules.specs.Connection.{sized, Arrival, localAddress, remoteAddress, arrivalPair, isOpen, arriving, arrivingSyn, leaving, placeOn, value, extensionOf}
-use Rattle.rules.specs.Calls.{refuse, familyTests, addressTests, tableTests, inputTests, pairTests, stageTests, keyTests, macTests, judgeGroups, check, synMissing, synUnknown, synGroups, checkSyn}
+use Rattle.rules.specs.Connection.{sized, Arrival, localAddress, remoteAddress, arrivalPair, isOpen, arriving, arrivingSyn, leaving}
+use Rattle.rules.specs.Connection.{placeOn, value, extensionOf}
+use Rattle.rules.specs.Calls.{refuse, familyTests, addressTests, tableTests, inputTests, pairTests, stageTests, keyTests, macTests}
+use Rattle.rules.specs.Calls.{judgeGroups, check, synMissing, synUnknown, synGroups, checkSyn}
 use Rattle.rules.specs.Ends.{Typed, Allowed, Facing, OtherEnd, SignedAt, TrueSegment}
 use Rattle.rules.specs.Demand3.{Within}
-use Rattle.rules.specs.RoundTrip.{Arrived}
-use Rattle.rules.specs.Delivery.{signs, mac, segment, reads}
-use Rattle.rules.specs.Acceptance.{sequence-below, agree-of, syn-at, none-20, none-21, none-10, keyed}
+use Rattle.rules.specs.RoundTripLaws.{Arrived}
+use Rattle.rules.specs.DeliveryLaws.{signs, mac, segment, reads}
+use Rattle.rules.specs.AcceptanceLaws.{sequence-below, agree-of, syn-at, none-20, none-21, none-10, keyed}
 
 -- the addresses of a pair are of one size
 address-length : (f : ℕ) (a : List ℕ) → length a ≡ 16 → length (take (width f) a) ≡ width f

@@ -1,5 +1,5 @@
--- "Where an answer is an enum, a definition sets out this paper's number and values for each of its cases." The number, and the value beside it, of
--- every case of every answer: document 01, "Numbers given back"; 0 and 1 stand for what has no number there.
+-- "Where an answer is an enum, a definition sets out this paper's number and values for each of its cases." The number, and the value
+-- beside it, of every case of every answer: document 01, "Numbers given back"; 0 and 1 stand for what has no number there.
 use Prim.Native.Nat.{ℕ}
 use Rattle.keys.specs.declared.table.Loaded.{Loaded}
 use Rattle.keys.specs.declared.table.Loaded.the-variants.{Valid, Refused}

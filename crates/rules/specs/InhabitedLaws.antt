@@ -13,7 +13,7 @@ use Rattle.keys.specs.declared.entry.Entry.{Entry}
 use Rattle.keys.specs.Algorithm.{macBytes}
 use Rattle.keys.specs.Entry.{knownKind, isFamily, body, width, sideOf, selectorOf, idsOf, secretOf, entryOf, item, items, entriesOf}
 use Rattle.keys.specs.Entry.{entries}
-use Rattle.keys.specs.PlaceLaws as Places
+use Rattle.keys.specs.Places as Places
 use Rattle.keys.specs.Match.{holds, matches, share, clash}
 use Rattle.keys.specs.Mirror.{Mirror}
 use Rattle.keys.specs.Table.{ValidTable, first, clashing, judged, loaded, found, answers}
@@ -29,10 +29,10 @@ use Rattle.rules.specs.Segment.{inserted, withOption, signedWith}
 use Rattle.rules.specs.Connection.{arrivalPair, leaving, extensionOf, placeOn}
 use Rattle.rules.specs.Calls.{outgoing, addedBytes, checkSign, signedSegment, written, signedBy, outputBy, signed, output}
 use Rattle.rules.specs.Ends.{Bytes, Typed, Delivered, Holds, SignedAt}
-use Rattle.rules.specs.RoundTrip.{Fresh, length-signed}
+use Rattle.rules.specs.RoundTripLaws.{Fresh, length-signed}
 use Rattle.rules.specs.Demand3.{Given}
 use Rattle.rules.specs.OrderLaws.{demand3}
-use Rattle.rules.specs.Demand2.{bare-syn}
+use Rattle.rules.specs.Demand2Laws.{bare-syn}
 use Rattle.rules.specs.Inhabited.{ourTable, theirTable, theirEntry, ourPair, theirPair, fromThem, ourState, theirState, segment}
 use Rattle.rules.specs.Inhabited.{signedBytes, Arrivals, both, Demand3NotEmpty, opener, synSegment, synBytes, BareSynNotEmpty}
 

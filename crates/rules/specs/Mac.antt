@@ -32,7 +32,8 @@ context f =
 unfoldable pub derivationInput : ℕ → Flow → List ℕ
 derivationInput bits f = (1 ∷ 0x54 ∷ 0x43 ∷ 0x50 ∷ 0x2d ∷ 0x41 ∷ 0x4f ∷ []) ++ context f ++ bytes16 bits
 
--- "Algorithm 2 applies AES-CMAC under the master key if that has 16 bytes; otherwise under AES-CMAC of the master key with an all-zero key."
+-- "Algorithm 2 applies AES-CMAC under the master key if that has 16 bytes; otherwise under AES-CMAC of the master key with an all-zero
+-- key."
 unfoldable pub aesKey : List ℕ → List ℕ
 aesKey k = cond (eqb (length k) 16) k (cmac (replicate 16 0) k)
 

@@ -32,7 +32,7 @@ use Rattle.rules.specs.JudgeLaws.{none-of}
 use Rattle.rules.specs.SigningLaws.{signs-good, signed-good}
 use Rattle.rules.specs.CountLaws.{slot-is, slot-none}
 use Rattle.rules.specs.GroupLaws.{first-clear}
-use Rattle.rules.specs.GivenNumbers.{ask-not-passed, open-not-passed}
+use Rattle.rules.specs.GivenNumberLaws.{ask-not-passed, open-not-passed}
 use Rattle.rules.specs.References.{oneMore, zeroCounts, passivelyOpened, SignedOpen, SignedOpening, OpensActively, OpensPassively}
 use Rattle.rules.specs.References.{SynAckOpens, AcceptedOpen, DropCounted, DropUncounted, DropOpening, SigningRefused, Asks}
 use Rattle.rules.specs.References.{AskingRefused, droppedTo}

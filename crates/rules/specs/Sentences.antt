@@ -31,7 +31,7 @@ use Rattle.rules.specs.Segment.{malformed, ao, md5, aoAt, keyId, rnextKe
 use Rattle.rules.specs.Connection.{Arrival, sized, arrivalPair, localAddress, remoteAddress, isOpen, arriving, leaving, arrivingSyn}
 use Rattle.rules.specs.Connection.{placeOn, located, value, extensionOf, bump}
 use Rattle.rules.specs.Calls.{isRefused, refusal, check, checkSyn, unrefused, openTests, askTests, checkSign}
-use Rattle.rules.specs.Answers.{answer, verdictAnswer}
+use Rattle.rules.specs.Answers.{answer, verdictAnswer, placeAnswer}
 
 -- The table of numbers. "The first that applies, in this order, is given."
 
@@ -154,6 +154,11 @@ pub record AnswerNumbers : Type 0 where
   pub accept : (e i : ℕ) → verdictAnswer (Accept e) i ≡ answer 0 e
   pub pass : (i : ℕ) → verdictAnswer Pass i ≡ answer 1 0
   pub drop : (n i : ℕ) → verdictAnswer (Drop n) i ≡ answer n i
+
+-- "Otherwise the answer is 28 or 36.": a position's answer has that number exactly where the row of 28 or 36 applies, and else the position
+-- that the rest of the call goes by
+abbrev pub PlaceAnswers : Type 0
+PlaceAnswers = (n : ℕ) (x : Place) → placeAnswer n x ≡ cond (located x) (answer 0 (value x)) (answer n 0)
 
 -- Counts. "Counts of acceptances and of each drop stop at 2^64-1."
 pub record CountsStop : Type 0 where

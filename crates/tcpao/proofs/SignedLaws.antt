@@ -14,7 +14,7 @@ use Rattle.rules.specs.declared.State.{State}
 use Rattle.rules.specs.Mac.{Flow, segmentMac}
 use Rattle.rules.specs.MacLaws.{length-mac}
 use Rattle.rules.specs.Segment.{inserted, withOption, optionOf, signedWith}
-use Rattle.rules.specs.RoundTrip.{length-option}
+use Rattle.rules.specs.RoundTripLaws.{length-option}
 use Rattle.rules.specs.Connection.{leaving, extensionOf}
 use Rattle.rules.specs.Calls.{signedSegment, written}
 use Rattle.traffic.specs.Filled.{filled}

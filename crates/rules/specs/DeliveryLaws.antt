@@ -20,7 +20,7 @@ use Rattle.rules.specs.Segment.{optionBytes, signedWith}
 use Rattle.rules.specs.Connection.{leaving, value, extensionOf}
 use Rattle.rules.specs.Calls.{outgoing, addedBytes, signedSegment, written, outputBy, output}
 use Rattle.rules.specs.Ends.{SignedAt, rechecked}
-use Rattle.rules.specs.RoundTrip.{Whole, Arrived, arrival, covers, length-signed}
+use Rattle.rules.specs.RoundTripLaws.{Whole, Arrived, arrival, covers, length-signed}
 use Rattle.rules.specs.SigningLaws.{Signs, signs-good, signed-good}
 use Rattle.rules.specs.GrowthLaws.{Fits, added-under, fits-found}
 

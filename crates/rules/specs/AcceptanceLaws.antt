@@ -27,8 +27,8 @@ use Rattle.rules.specs.Segment.{ao}
 use Rattle.rules.specs.Connection.{leaving, value, extensionOf}
 use Rattle.rules.specs.Calls.{keyTests, macTests, isRefused, macDiffers, formTests, lengthTests, tableTests}
 use Rattle.rules.specs.Ends.{Bytes, SignedAt}
-use Rattle.rules.specs.RoundTrip.{Reads}
-use Rattle.rules.specs.Delivery.{signs, mac, length-its-mac, segment, reads, same-mac, sizes}
+use Rattle.rules.specs.RoundTripLaws.{Reads}
+use Rattle.rules.specs.DeliveryLaws.{signs, mac, length-its-mac, segment, reads, same-mac, sizes}
 
 -- bytes make a number below 2 ^ 32
 byte-at : (s : List ℕ) (i : ℕ) → Bytes s → getD s i 0 < 256
