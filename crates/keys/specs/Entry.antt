@@ -45,7 +45,8 @@ unfoldable pub sideOf : ℕ → ℕ → ℕ → List ℕ → Side
 sideOf w ports at e =
     record { low = get16 e ports; high = get16 e (ports + 2); bits = getD e (at + w) 0; address = padded (take w (drop at e)) }
 
--- "local port low and high, remote port low and high (two bytes each, big-endian, ends included); local address, its prefix length; remote address, its prefix length"
+-- "local port low and high, remote port low and high (two bytes each, big-endian, ends included); local address, its prefix length;
+-- remote address, its prefix length"
 unfoldable pub selectorOf : ℕ → List ℕ → Selector
 selectorOf w e = record { family = familyOf (getD e 0 0); local = sideOf w 5 13 e; remote = sideOf w 9 (14 + w) e }
 
@@ -66,7 +67,12 @@ secretOf w e =
 
 -- the entry whose kind is the first byte of e, whatever stands behind its own bytes
 unfoldable pub entryOf : List ℕ → Entry
-entryOf e = record { selector = selectorOf (width (familyOf (getD e 0 0))) e; ids = idsOf e; secret = secretOf (width (familyOf (getD e 0 0))) e }
+entryOf e =
+    record {
+      selector = selectorOf (width (familyOf (getD e 0 0))) e;
+      ids = idsOf e;
+      secret = secretOf (width (familyOf (getD e 0 0))) e;
+    }
 
 -- "flags (1: all options covered by the MAC; 0: only TCP-AO)": the lowest bit says it
 abbrev pub allOptions : Secret → Bool
@@ -76,7 +82,8 @@ allOptions s = eqb (s .flags % 2) 1
 abbrev pub keyOf : Secret → List ℕ
 keyOf s = take (s .«key_len») (s .key)
 
--- what begins at some byte of the table, whose bytes from there on are s: whether its kind is known, whether it is there whole, and the entry that it then is
+-- what begins at some byte of the table, whose bytes from there on are s: whether its kind is known, whether it is there whole, and the
+-- entry that it then is
 pub record Item : Type 0 where
   pub kind-known : Bool
   pub whole : Bool

@@ -6,6 +6,7 @@ pub mod MatchLaws
 pub mod Table
 pub mod Places
 pub mod Clash
+pub mod Search
 pub mod LineLaws
 pub mod PlaceLaws
 pub mod LoadLaws

@@ -53,7 +53,8 @@ samePair p q = every (sameness p q)
 -- two sides have a port and an address in common: the test by which the loader finds "a socket pair .. that two entries both match"
 abbrev pub meeting : ℕ → Side → Side → List Bool
 meeting f a b =
-    leb (max (a .low) (b .low)) (min (a .high) (b .high)) ∷ agree (min (fixed f (a .bits)) (fixed f (b .bits))) (a .address) (b .address) ∷ []
+    leb (max (a .low) (b .low)) (min (a .high) (b .high))
+    ∷ agree (min (fixed f (a .bits)) (fixed f (b .bits))) (a .address) (b .address) ∷ []
 
 unfoldable pub meet : ℕ → Side → Side → Bool
 meet f a b = every (meeting f a b)

@@ -1,5 +1,5 @@
--- What the list of entries answers: the numbers 10 to 17 with the entry's index, and the searches. Document 01, "Key table (house bytes)" and "Numbers given back".
--- Nothing here reads bytes: specs/Entry.antt says what they mean.
+-- What the list of entries answers: the numbers 10 to 17 with the entry's index, and the searches. Document 01, "Key table (house bytes)"
+-- and "Numbers given back". Nothing here reads bytes: specs/Entry.antt says what they mean.
 use Prim.Native.Nat.{ℕ, zero, suc, _+_, _*_}
 use mathlib.Core.Bool.{Bool, true, false, cond, not, _&&_, _||_}
 use mathlib.Core.Path.{_≡_}

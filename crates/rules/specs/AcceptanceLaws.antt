@@ -15,7 +15,7 @@ use Rattle.keys.specs.declared.entry.Entry.{Entry}
 use Rattle.keys.specs.declared.table.Found.{Found}
 use Rattle.keys.specs.Mirror.{Mirror}
 use Rattle.keys.specs.Table.{Tables, ValidTable}
-use Rattle.keys.specs.SearchLaws.{hit}
+use Rattle.keys.specs.Search.{hit}
 use Rattle.rules.specs.declared.Place.the-variants.{At}
 use Rattle.rules.specs.declared.Outcome.{Outcome}
 use Rattle.rules.specs.declared.State.{State}

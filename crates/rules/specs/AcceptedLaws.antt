@@ -17,7 +17,8 @@ use Rattle.keys.specs.MatchLaws.{and-true}
 use Rattle.keys.specs.Places.{At as EntryAt}
 use Rattle.keys.specs.Mirror.{Mirror}
 use Rattle.keys.specs.Table.{Tables, ValidTable, recvEntry}
-use Rattle.keys.specs.SearchLaws.{hit, recv-found, send-holder}
+use Rattle.keys.specs.SearchLaws.{recv-found, send-holder}
+use Rattle.keys.specs.Search.{hit}
 use Rattle.rules.specs.declared.Place.{Place}
 use Rattle.rules.specs.declared.Place.the-variants.{At}
 use Rattle.rules.specs.declared.Outcome.the-variants.{Good}
@@ -81,7 +82,7 @@ module _ (q : State) (e : Entry) (x : ℕ) (b : List ℕ) (g : SignedAt q e x b)
       ∙ ap (λ (f : Entry). f .ids .send) (g .under) ∙ sym (mirror .received)
 
   found : recvEntry t (l .pair) (keyId came) ≡ hit i ours
-  found = recv-found t (l .pair) (keyId came) valid among (mirror .here) (sym its-key)
+  found = recv-found t (l .pair) (keyId came) i ours valid among (mirror .here) (sym its-key)
 
   -- accepted at a place of the same extension, if the stage is right and the flow is the sender's
   accepted : (reference y : ℕ) → cond (isOpen l) (isBareSyn came) (not (syn came && ack came)) ≡ false → arriving l came ≡ leaving (q .conn)
@@ -231,7 +232,7 @@ module _ (q : State) (typed : Typed q) (opening : isOpen (q .conn) ≡ false) (e
 
     pub syn-found : recvEntry t (arrivalPair synArrival) (keyId syn-came) ≡ hit i ours
     syn-found =
-        recv-found t (arrivalPair synArrival) (keyId syn-came) valid among (mirror .here)
+        recv-found t (arrivalPair synArrival) (keyId syn-came) i ours valid among (mirror .here)
         (mirror .received ∙ ap (λ (f : Entry). f .ids .send) (sym (g .under)) ∙ send-holder (g .table) (q .conn .pair) (q .«send_id») (signs q e x b g .entry) .1 ∙ sym (syn-read .reads .key))
 
     pub syn-accepted : checkSyn t synArrival strict ≡ Good (q .conn .isn) (q .«ask_id»)

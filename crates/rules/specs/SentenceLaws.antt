@@ -3,13 +3,15 @@ use Prim.Native.Nat.{ℕ, _+_}
 use mathlib.Core.Path.{_≡_, refl, ap, _∙_}
 use mathlib.Core.Bool.{Bool, true, false, cond, not, _&&_}
 use mathlib.Core.List.{List, [], _∷_, _++_}
-use lib.ListN.{length}
+use native.Mathlib.Omega.{arith}
+use lib.ListN.{length, length-append}
+use mathlib.Core.Logic.{inl, inr}
 use lib.Dec.{eqb, ltb}
 use borrow.Author.Tests.{lt-ltb, eq-eqb, eqb-true}
 use Rattle.wire.specs.Tests.{any}
 use Rattle.wire.specs.Header.{sourcePort, destinationPort, sequence, headerEnd, syn}
 use Rattle.mac.specs.Cmac.{cmac}
-use Rattle.keys.specs.Algorithm.{outputBits}
+use Rattle.keys.specs.Algorithm.{trafficKeyBytes, outputBits}
 use Rattle.keys.specs.Entry.{isFamily, width, keyOf}
 use Rattle.keys.specs.Table as K
 use Rattle.rules.specs.declared.Place.{Place}
@@ -24,11 +26,12 @@ use Rattle.rules.specs.Segment.{malformed, ao, md5, keyId, rnextKeyId, i
 use Rattle.rules.specs.Connection.{sized, arrivalPair, isOpen, placeOn, located, value}
 use Rattle.rules.specs.Calls.{isRefused, check, checkSyn, unrefused, checkSign, outgoing, addedBytes}
 use Rattle.rules.specs.Answers.{verdictAnswer}
+use Rattle.rules.specs.MacLaws.{length-context, length-traffic-key}
 use Rattle.rules.specs.SigningLaws.{valid-of}
 use Rattle.rules.specs.GrowthLaws.{added-16, above-11}
 use Rattle.rules.specs.Sentences.{Row, row, given, badSize, judgeRows, synRows, signRows, tableRow, JudgeTable, SynTable, SignTable}
 use Rattle.rules.specs.Sentences.{OpenTable, AskTable, EntryOrder, AnswerNumbers, CountsStop, Context, Contexts, TrafficKeys}
-use Rattle.rules.specs.Sentences.{PseudoHeaders, MessageOrder, SegmentMacs, SignedExample, Covered}
+use Rattle.rules.specs.Sentences.{PseudoHeaders, MessageOrder, Lengths, SegmentMacs, SignedExample, Covered}
 
 -- the tests of rows, one behind another
 abbrev flat : List Row → List (Test Outcome)
@@ -144,6 +147,18 @@ traffic-keys =
       hmac = λ s f e. rw e;
       cmac-16 = λ s f e l. rw (e, eq-eqb (length (keyOf s)) 16 l);
       cmac-other = λ s f e l. rw (e, not-16 (length (keyOf s)) l);
+    }
+
+pub lengths : Lengths
+unfolding trafficKeyBytes
+lengths =
+    record {
+      context-ipv4 = λ f a b. omega (arith, length-context f);
+      context-ipv6 = λ f a b. omega (arith, length-context f);
+      input-ipv4 = λ f bits a b. omega (arith, length-append (context f) (0 ∷ bits ∷ []), length-context f);
+      input-ipv6 = λ f bits a b. omega (arith, length-append (context f) (0 ∷ bits ∷ []), length-context f);
+      key-hmac = λ s f e. length-traffic-key s f (inl e) ∙ rw e;
+      key-cmac = λ s f e. length-traffic-key s f (inr e) ∙ rw e;
     }
 
 -- What the MAC covers.

@@ -219,6 +219,15 @@ pub record TrafficKeys : Type 0 where
   pub cmac-other : (s : Secret) (f : Flow) → s .algorithm ≡ 2 → (length (keyOf s) ≡ 16 → ⊥)
       → trafficKey s f ≡ cmac (cmac (replicate 16 0) (keyOf s)) (input f 128)
 
+-- "It has 20 bytes for IPv4, 44 for IPv6"; the input has "29 or 53 bytes in all"; "traffic key bytes (20 and 16)"
+pub record Lengths : Type 0 where
+  pub context-ipv4 : (f : Flow) → length (f .source) ≡ 4 → length (f .destination) ≡ 4 → length (context f) ≡ 20
+  pub context-ipv6 : (f : Flow) → length (f .source) ≡ 16 → length (f .destination) ≡ 16 → length (context f) ≡ 44
+  pub input-ipv4 : (f : Flow) (bits : ℕ) → length (f .source) ≡ 4 → length (f .destination) ≡ 4 → length (input f bits) ≡ 29
+  pub input-ipv6 : (f : Flow) (bits : ℕ) → length (f .source) ≡ 16 → length (f .destination) ≡ 16 → length (input f bits) ≡ 53
+  pub key-hmac : (s : Secret) (f : Flow) → s .algorithm ≡ 1 → length (trafficKey s f) ≡ 20
+  pub key-cmac : (s : Secret) (f : Flow) → s .algorithm ≡ 2 → length (trafficKey s f) ≡ 16
+
 -- What the MAC covers.
 
 -- "the IP pseudo-header as for the checksum, with the whole segment's length": protocol 6 (RFC 9293 §3.1, RFC 8200 §8.1)
