@@ -24,8 +24,8 @@ use Rattle.rules.specs.declared.Done.{Done}
 use Rattle.rules.specs.declared.Done.the-variants as D
 use Rattle.rules.specs.declared.Connection.{Connection}
 use Rattle.rules.specs.declared.State.{State}
-use Rattle.rules.specs.Numbers.{Test, first}
-use Rattle.rules.specs.NumberLaws.{eachGives, first-passes}
+use Rattle.octets.specs.Tests.{Test, first}
+use Rattle.octets.specs.TestLaws.{eachGives, first-passes}
 use Rattle.rules.specs.Answers.{Answer, answer, tableAnswer, verdictAnswer, signingAnswer, doneAnswer}
 use Rattle.rules.specs.Connection.{Arrival, arrivalPair, pairOf, empty}
 use Rattle.rules.specs.Calls.{refuse, isRefused, refusal, verdictOf, indexOf, judgeTests, check, judged, judgeSynTests, checkSyn, judgedSyn, openedPassively, unrefused, settledBy, openTests, openedWith, openedActively, askTests, asked, outgoing, signTests, checkSign, signed}

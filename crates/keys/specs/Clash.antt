@@ -5,18 +5,16 @@ use mathlib.Core.Bool.{true, false}
 use mathlib.Core.Path.{_≡_}
 use mathlib.Core.List.{List, [], _∷_, _++_}
 use mathlib.Core.Logic.{_⊎_}
-use lib.ListN.{length, getD}
+use lib.ListN.{length}
+use Rattle.octets.specs.Each.{Each, Octets}
+use Rattle.octets.specs.Tests.{Test}
 use Rattle.keys.specs.Entry.{Item, sound, items, entries}
 use Rattle.keys.specs.Match.{matches}
-use Rattle.keys.specs.Places.{At, Each}
-use Rattle.keys.specs.Table.{Line, entryLines, loaded}
+use Rattle.keys.specs.Places.{At}
+use Rattle.keys.specs.Table.{entryTests, loaded}
 use Rattle.keys.specs.declared.entry.Entry.{Entry}
 use Rattle.keys.specs.declared.entry.Pair.{Pair}
 use Rattle.keys.specs.declared.table.Loaded.the-variants.{Refused}
-
--- bytes, wherever they stand
-abbrev pub Octets : List ℕ → Type 0
-Octets s = (i : ℕ) → getD s i 0 < 256
 
 abbrev pub Family : ℕ → Type 0
 Family f = (f ≡ 4) ⊎ (f ≡ 6)
@@ -53,14 +51,14 @@ pub record Conflicting (l : List Entry) : Type 0 where
 abbrev pub NoConflict : List Entry → Type 0
 NoConflict l = (j k : ℕ) (e f : Entry) → At l j e → At l k f → j < k → Conflict e f → ⊥
 
--- no line of the table of numbers applies
-abbrev pub Passed : List Line → Type 0
+-- no test of the table of numbers applies
+abbrev pub Passed : List (Test ℕ) → Type 0
 Passed [] = Unit {0}
 Passed (x ∷ l) = (x .applies ≡ false) × Passed l
 
 -- an entry that by itself is given none of 13 to 16
 abbrev pub Formed : Entry → Type 0
-Formed e = Passed (entryLines e)
+Formed e = Passed (entryTests e)
 
 -- every entry is whole and of a known kind
 abbrev pub Sound : List Item → Type 0

@@ -10,11 +10,11 @@ use lib.ListN.{length, getD, take, drop, replicate, length-append, length-take, 
 use lib.Seq.{drop-nil, drop-drop, getD-drop}
 use lib.Dec.{leb, eqb}
 use borrow.Author.Tests.{eqb-true, leb-true, leb-false}
+use Rattle.octets.specs.Each.{Each, Octets}
 use Rattle.keys.specs.Algorithm.{macBytes}
 use Rattle.keys.specs.Entry.{knownKind, familyOf, body, size, width, sideOf, selectorOf, secretOf, entryOf, Item, item, itemAt, sound, items, entriesOf, entries}
 use Rattle.keys.specs.MatchLaws.{or-true, and-true, SideFields, Fields}
-use Rattle.keys.specs.Clash.{Octets, Family}
-use Rattle.keys.specs.Places.{Each}
+use Rattle.keys.specs.Clash.{Family}
 use Rattle.keys.specs.declared.entry.Entry.{Entry}
 
 -- sizes
@@ -165,5 +165,5 @@ module _ (Q : List ℕ → Type 0) (P : Entry → Type 0) (tail : (b : ℕ) (t :
 pub entries-shape : (t : List ℕ) → Each Shape (entries t)
 entries-shape t = each-item (λ s. Unit {0}) Shape (λ b s q. tt) (λ s q h. entry-shape s h) 0 t tt
 
-pub entries-fields : (t : List ℕ) → Octets t → Each (λ e. Fields (e .selector)) (entries t)
+pub entries-fields : (t : List ℕ) → Octets t → Each (λ (e : Entry). Fields (e .selector)) (entries t)
 entries-fields t o = each-item Octets (λ e. Fields (e .selector)) (λ b s q i. q (suc i)) entry-fields 0 t o

@@ -7,7 +7,7 @@ pub mod Table
 pub mod Places
 pub mod Clash
 pub mod Search
-pub mod LineLaws
+pub mod FaultLaws
 pub mod PlaceLaws
 pub mod LoadLaws
 pub mod SearchLaws

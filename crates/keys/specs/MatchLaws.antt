@@ -9,11 +9,12 @@ use native.Mathlib.Omega.{arith}
 use lib.ListN.{length}
 use lib.Dec.{leb, eqb}
 use borrow.Author.Tests.{eq-eqb, eqb-true, le-leb, leb-true, leb-false}
+use Rattle.octets.specs.Each.{Octets}
 use Rattle.wire.specs.Prefix.{agree}
 use Rattle.wire.specs.PrefixLaws.{agree-refl, agree-sym, agree-meet}
 use Rattle.keys.specs.Entry.{width}
 use Rattle.keys.specs.Match.{every, fixed, holding, holds, matching, matches, sameness, samePair, meeting, meet, overlapping, overlap, share, clash}
-pub use Rattle.keys.specs.Clash.{Octets, Family, IsPair, Conflict}
+pub use Rattle.keys.specs.Clash.{Family, IsPair, Conflict}
 use Rattle.keys.specs.declared.entry.Side.{Side}
 use Rattle.keys.specs.declared.entry.Selector.{Selector}
 use Rattle.keys.specs.declared.entry.Ids.{Ids}

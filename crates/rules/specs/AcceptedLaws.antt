@@ -26,7 +26,7 @@ use Rattle.rules.specs.declared.Connection.{Connection}
 use Rattle.rules.specs.declared.State.{State}
 use Rattle.rules.specs.Position.{position, Near}
 use Rattle.rules.specs.PositionLaws.{complete, sound}
-use Rattle.rules.specs.NumberLaws.{NoneApplies, none-append}
+use Rattle.octets.specs.TestLaws.{NoneApplies, none-append}
 use Rattle.rules.specs.GroupLaws.{first-clear}
 use Rattle.rules.specs.Segment.{keyId, isBareSyn}
 use Rattle.rules.specs.Connection.{sized, Arrival, localAddress, remoteAddress, arrivalPair, isOpen, arriving, arrivingSyn, leaving}

@@ -30,7 +30,7 @@ use Rattle.rules.specs.declared.Signed.{Signed}
 use Rattle.rules.specs.declared.Done.{Done}
 use Rattle.rules.specs.declared.Done.the-variants as D
 use Rattle.rules.specs.declared.Settled.{Settled}
-use Rattle.rules.specs.Numbers.{Test, test, tests, joined, first}
+use Rattle.octets.specs.Tests.{Test, test, tests, joined, first}
 use Rattle.rules.specs.Mac.{Flow, segmentMac}
 use Rattle.rules.specs.Segment.{malformed, ao, md5, aoAt, keyId, rnextKeyId, macIn, isBareSyn, optionBytes, signedWith}
 use Rattle.rules.specs.Connection.{sized, pairOf, Arrival, arrivalPair, localAddress, remoteAddress, isOpen, arriving, leaving}

@@ -3,6 +3,7 @@ use Prim.Native.Nat.{ℕ, _+_, _^_, _<_, max}
 use mathlib.Core.Path.{_≡_}
 use mathlib.Core.Bool.{Bool, true, cond}
 use mathlib.Core.List.{List, [], _∷_, map, List·Permᴰ}
+use Rattle.octets.specs.Each.{Each}
 use Rattle.rules.specs.declared.Verdict.{Verdict}
 use Rattle.rules.specs.declared.Verdict.the-variants.{Accept}
 use Rattle.rules.specs.declared.Connection.{Connection}
@@ -10,7 +11,7 @@ use Rattle.rules.specs.declared.State.{State}
 use Rattle.keys.specs.Table.{Tables, ValidTable}
 use Rattle.rules.specs.Connection.{Arrival, isOpen, sized, extensionOf, stop, available}
 use Rattle.rules.specs.Calls.{judged}
-use Rattle.rules.specs.Ends.{Each, Typed, Allowed, TrueSegment, Verifies}
+use Rattle.rules.specs.Ends.{Typed, Allowed, TrueSegment, Verifies}
 
 -- A list of calls: "each call gets the state that the one before returned, and nothing else writes it meanwhile".
 

@@ -3,8 +3,9 @@
 use Prim.Native.Nat.{ℕ, _^_, _<_}
 use mathlib.Core.Path.{_≡_}
 use mathlib.Core.Bool.{true, false}
-use mathlib.Core.List.{List, [], _∷_, _++_}
+use mathlib.Core.List.{List, _∷_, _++_}
 use lib.ListN.{length, take, drop}
+use Rattle.octets.specs.Each.{Octets}
 use Rattle.wire.specs.Header.{sourcePort, destinationPort, sequence, wellSized}
 use Rattle.keys.specs.declared.entry.Pair.{Pair}
 use Rattle.keys.specs.declared.entry.Entry.{Entry}
@@ -22,15 +23,7 @@ use Rattle.rules.specs.Segment.{malformed, ao, md5, aoAt, keyId, macIn, 
 use Rattle.rules.specs.Connection.{Arrival, localAddress, remoteAddress, isOpen, arriving, placeOn, slots}
 use Rattle.rules.specs.Calls.{outgoing, signed, output}
 
--- What a value of a Rattle type is known to be, where it matters: bytes are below 256, references below 2 ^ 64, ISNs below 2 ^ 32.
-
-abbrev pub Each : {A : Type 0} → (A → Type 0) → List A → Type 0
-Each P [] = Unit {0}
-Each P (x ∷ l) = P x × Each P l
-
-abbrev pub Bytes : List ℕ → Type 0
-Bytes s = Each (λ (b : ℕ). b < 256) s
-
+-- What a value of a Rattle type is known to be, where it matters: references are below 2 ^ 64, ISNs below 2 ^ 32, arrays full.
 pub record Typed (q : State) : Type 0 where
   pub sent : q .sent < 2 ^ 64
   pub seen : q .seen < 2 ^ 64
@@ -79,7 +72,7 @@ pub record SignedAt (q : State) (e : Entry) (x : ℕ) (bytes : List ℕ) : Type 
   pub table : List ℕ
   pub unsigned : List ℕ
   pub out : List ℕ
-  pub octets : Bytes unsigned
+  pub octets : Octets unsigned
   pub answer : signed table unsigned out q .answer ≡ S.Signed (length bytes)
   pub wrote : bytes ≡ take (length bytes) (output table unsigned out q)
   pub under : outgoing table q .entry ≡ e

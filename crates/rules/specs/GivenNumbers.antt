@@ -16,7 +16,7 @@ use Rattle.rules.specs.declared.Verdict.the-variants.{Accept, Pass, Drop
 use Rattle.rules.specs.declared.Connection.{Connection}
 use Rattle.rules.specs.declared.State.{State}
 use Rattle.rules.specs.declared.Done.the-variants as D
-use Rattle.rules.specs.Numbers.{first}
+use Rattle.octets.specs.Tests.{first}
 use Rattle.rules.specs.Connection.{Arrival}
 use Rattle.rules.specs.Calls.{judged, unrefused, openTests, askTests, checkSign}
 use Rattle.rules.specs.History.{judge, sign, ask}

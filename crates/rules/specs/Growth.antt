@@ -10,7 +10,7 @@ use Rattle.keys.specs.Table.{Tables, ValidTable}
 use Rattle.rules.specs.declared.State.{State}
 use Rattle.rules.specs.declared.Outcome.{Outcome}
 use Rattle.rules.specs.declared.Signing.the-variants as S
-use Rattle.rules.specs.Numbers.{Test, tests}
+use Rattle.octets.specs.Tests.{Test, tests}
 use Rattle.rules.specs.Calls.{refuse, outgoing, addedBytes, growthTests, signed}
 
 -- "With a 12-byte MAC the length is 16.": whether or not the outgoing key has an entry

@@ -14,7 +14,7 @@ use Rattle.keys.specs.Algorithm.{macBytes}
 use Rattle.keys.specs.Table.{Tables, ValidTable, sendEntry}
 use Rattle.keys.specs.SearchLaws.{valid-proper, send-holder}
 use Rattle.rules.specs.declared.Signing.the-variants as S
-use Rattle.rules.specs.Numbers.{tests}
+use Rattle.octets.specs.Tests.{tests}
 use Rattle.rules.specs.Segment.{optionBytes}
 use Rattle.rules.specs.Calls.{refuse, outgoing, addedBytes, growthTests}
 use Rattle.rules.specs.RoundTripLaws.{Whole}

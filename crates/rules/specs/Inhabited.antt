@@ -10,7 +10,7 @@ use Rattle.keys.specs.declared.entry.Pair.{Pair}
 use Rattle.keys.specs.Entry.{entryOf}
 use Rattle.rules.specs.declared.Verdict.the-variants.{Accept}
 use Rattle.rules.specs.declared.State.{State}
-use Rattle.rules.specs.Connection.{Arrival, arrivalPair, isOpen, localAddress, remoteAddress}
+use Rattle.rules.specs.Connection.{Arrival, arrivalPair, isOpen, localAddress, remoteAddress, slots}
 use Rattle.rules.specs.Calls.{judgedSyn, signedSegment}
 use Rattle.rules.specs.Ends.{Typed, Delivered, SignedAt, Holds, rechecked, TrueSegment, Verifies}
 use Rattle.rules.specs.Demand3.{Arriving, real, other, Given, Demand3}
@@ -68,7 +68,7 @@ ourState =
       «send_id» = 61;
       «ask_id» = 84;
       accepted = 0;
-      drops = replicate 10 0;
+      drops = replicate slots 0;
     }
 
 abbrev pub theirState : State
@@ -80,7 +80,7 @@ theirState =
       «send_id» = 84;
       «ask_id» = 61;
       accepted = 0;
-      drops = replicate 10 0;
+      drops = replicate slots 0;
     }
 
 -- sequence number 16, ACK, four options of kind 1, three bytes of data: 2^32 + 16 is its position
@@ -117,7 +117,7 @@ opener =
       «send_id» = 84;
       «ask_id» = 61;
       accepted = 0;
-      drops = replicate 10 0;
+      drops = replicate slots 0;
     }
 
 abbrev pub synSegment : List ℕ

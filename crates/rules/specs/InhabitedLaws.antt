@@ -1,11 +1,12 @@
 -- The statements of Inhabited.antt, proved: what is given there holds by computing, with the MAC shut.
-use Prim.Native.Nat.{ℕ, _+_}
+use Prim.Native.Nat.{ℕ, zero, suc, _+_, _<_}
 use mathlib.Core.Path.{_≡_, refl, ap, sym, _∙_, subst⁻¹}
 use mathlib.Core.Bool.{true}
 use mathlib.Core.List.{List, [], _∷_}
 use native.Mathlib.Omega.{arith}
 use lib.ListN.{length, take, drop, replicate}
 use lib.Seq.{take-at}
+use Rattle.octets.specs.Each.{Each, Octets}
 use Rattle.wire.specs.Header.{sequence}
 use Rattle.wire.specs.Prefix.{agree, clearTo}
 use Rattle.wire.specs.Options.{optionsOf, readFrom}
@@ -16,7 +17,7 @@ use Rattle.keys.specs.Entry.{entries}
 use Rattle.keys.specs.Places as Places
 use Rattle.keys.specs.Match.{holds, matches, share, clash}
 use Rattle.keys.specs.Mirror.{Mirror}
-use Rattle.keys.specs.Table.{ValidTable, first, clashing, judged, loaded, found, answers}
+use Rattle.keys.specs.Table.{ValidTable, numberOf, clashing, loadedFrom, loaded, found, answers}
 use Rattle.rules.specs.declared.Place.the-variants.{At}
 use Rattle.rules.specs.declared.Outcome.{Outcome}
 use Rattle.rules.specs.declared.Outcome.the-variants.{Good}
@@ -28,7 +29,7 @@ use Rattle.rules.specs.MacLaws.{length-mac}
 use Rattle.rules.specs.Segment.{inserted, withOption, signedWith}
 use Rattle.rules.specs.Connection.{arrivalPair, leaving, extensionOf, placeOn}
 use Rattle.rules.specs.Calls.{outgoing, addedBytes, checkSign, signedSegment, written, signedBy, outputBy, signed, output}
-use Rattle.rules.specs.Ends.{Bytes, Typed, Delivered, Holds, SignedAt}
+use Rattle.rules.specs.Ends.{Typed, Delivered, Holds, SignedAt}
 use Rattle.rules.specs.RoundTripLaws.{Fresh, length-signed}
 use Rattle.rules.specs.Demand3.{Given}
 use Rattle.rules.specs.OrderLaws.{demand3}
@@ -40,7 +41,7 @@ use Rattle.rules.specs.Inhabited.{signedBytes, Arrivals, both, Demand3No
 
 valid : ValidTable ourTable
 unfolding agree clearTo macBytes knownKind body width sideOf selectorOf idsOf secretOf entryOf item items entriesOf holds matches share
-    clash first clashing judged loaded found answers
+    clash numberOf clashing loadedFrom loaded found answers
 valid = (1, refl)
 
 one-entry : entries ourTable ≡ entryOf ourTable ∷ []
@@ -58,6 +59,12 @@ twelve : theirEntry .secret .«mac_bytes» ≡ 12
 unfolding entryOf secretOf macBytes
 twelve = refl
 
+-- bytes one by one
+octets : (s : List ℕ) → Each (λ (b : ℕ). b < 256) s → Octets s
+octets [] b i = omega arith
+octets (x ∷ s) b zero = b .0
+octets (x ∷ s) b (suc i) = octets s (b .1) i
+
 -- A segment that the other end signs into sixty bytes.
 
 abbrev out : List ℕ
@@ -69,7 +76,7 @@ record Signs (q : State) (s : List ℕ) (x : ℕ) : Type 0 where
   under : outgoing theirTable q .entry ≡ theirEntry
   added : addedBytes (outgoing theirTable q) ≡ 16
   fresh : Fresh s
-  octets : Bytes s
+  octets : Octets s
   place : placeOn (q .conn) (q .sent) (sequence s) ≡ At x
 
 module _ (q : State) (s : List ℕ) (x : ℕ) (g : Signs q s x) where
@@ -111,27 +118,27 @@ module _ (q : State) (s : List ℕ) (x : ℕ) (g : Signs q s x) where
 
 signs : Signs theirState segment 4294967312
 unfolding checkSign position optionsOf readFrom agree clearTo macBytes knownKind isFamily body width sideOf selectorOf idsOf secretOf
-    entryOf item items entriesOf holds matches share clash first clashing judged loaded found answers
+    entryOf item items entriesOf holds matches share clash numberOf clashing loadedFrom loaded found answers
 signs =
     record {
       good = refl;
       under = refl;
       added = refl;
       fresh = record { long = omega arith; low = omega arith; inside = omega arith; formed = refl; no-ao = refl; no-md5 = refl };
-      octets = omega arith;
+      octets = octets segment (omega arith);
       place = refl;
     }
 
 signs-syn : Signs opener synSegment 4294967280
 unfolding checkSign position optionsOf readFrom agree clearTo macBytes knownKind isFamily body width sideOf selectorOf idsOf secretOf
-    entryOf item items entriesOf holds matches share clash first clashing judged loaded found answers
+    entryOf item items entriesOf holds matches share clash numberOf clashing loadedFrom loaded found answers
 signs-syn =
     record {
       good = refl;
       under = refl;
       added = refl;
       fresh = record { long = omega arith; low = omega arith; inside = omega arith; formed = refl; no-ao = refl; no-md5 = refl };
-      octets = omega arith;
+      octets = octets synSegment (omega arith);
       place = refl;
     }
 

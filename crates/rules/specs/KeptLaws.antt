@@ -17,11 +17,11 @@ use Rattle.rules.specs.declared.Outcome.the-variants.{Good, Passed, Bad}
 use Rattle.rules.specs.declared.Connection.{Connection}
 use Rattle.rules.specs.declared.State.{State}
 use Rattle.rules.specs.Position.{position, wrappingDifference}
-use Rattle.rules.specs.Numbers.{first}
+use Rattle.octets.specs.Tests.{first}
 use Rattle.rules.specs.Segment.{rnextKeyId}
 use Rattle.rules.specs.Connection.{Arrival, isOpen, placeOn, value, withAsked}
-use Rattle.rules.specs.Calls.{judgeGroups, check, judged, afterJudging, askTests, unrefused, settledBy, asked, checkSign, signed}
-use Rattle.rules.specs.Calls.{signedBy, outgoing}
+use Rattle.rules.specs.Calls.{judgeGroups, check, judged, afterJudging, askTests, unrefused, settledBy, asked}
+use Rattle.rules.specs.Calls.{checkSign, signed, signedBy, outgoing}
 use Rattle.rules.specs.GroupLaws.{first-clear}
 use Rattle.rules.specs.JudgeLaws.{none-of}
 use Rattle.rules.specs.SigningLaws.{signs-good}

@@ -1,4 +1,3 @@
-pub mod Numbers
 pub mod Position
 pub mod Mac
 pub mod Segment
@@ -17,7 +16,6 @@ pub mod Growth
 pub mod Sentences
 pub mod Examples
 pub mod Inhabited
-pub mod NumberLaws
 pub mod GroupLaws
 pub mod PositionLaws
 pub mod MacLaws

@@ -20,8 +20,8 @@ use Rattle.rules.specs.declared.Verdict.the-variants.{Accept, Drop}
 use Rattle.rules.specs.declared.State.{State}
 use Rattle.rules.specs.declared.Signing.the-variants as S
 use Rattle.rules.specs.declared.Done.the-variants as D
-use Rattle.rules.specs.Numbers.{first}
-use Rattle.rules.specs.NumberLaws.{first-none, none-applied}
+use Rattle.octets.specs.Tests.{first}
+use Rattle.octets.specs.TestLaws.{first-none, none-applied}
 use Rattle.rules.specs.Position.{position}
 use Rattle.rules.specs.Segment.{keyId, rnextKeyId}
 use Rattle.rules.specs.Connection.{Arrival, pairOf, arrivalPair, isOpen, placeOn, located, value, bump, stop, countAt, countDrop}

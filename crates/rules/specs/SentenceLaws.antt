@@ -8,7 +8,7 @@ use lib.ListN.{length, length-append}
 use mathlib.Core.Logic.{inl, inr}
 use lib.Dec.{eqb, ltb}
 use borrow.Author.Tests.{lt-ltb, eq-eqb, eqb-true}
-use Rattle.wire.specs.Tests.{any}
+use Rattle.octets.specs.Tests.{any}
 use Rattle.wire.specs.Header.{sourcePort, destinationPort, sequence, headerEnd, syn}
 use Rattle.mac.specs.Cmac.{cmac}
 use Rattle.keys.specs.Algorithm.{trafficKeyBytes, outputBits}
@@ -18,8 +18,8 @@ use Rattle.rules.specs.declared.Place.{Place}
 use Rattle.rules.specs.declared.Outcome.{Outcome}
 use Rattle.rules.specs.declared.Outcome.the-variants.{Good}
 use Rattle.rules.specs.declared.State.{State}
-use Rattle.rules.specs.Numbers.{Test, tests, first}
-use Rattle.rules.specs.NumberLaws.{first-append}
+use Rattle.octets.specs.Tests.{Test, tests, first}
+use Rattle.octets.specs.TestLaws.{first-append}
 use Rattle.rules.specs.Mac.{context, derivationInput, aesKey, applied, trafficKey, pseudoHeader, coveredHeader, front, message}
 use Rattle.rules.specs.Mac.{segmentMac}
 use Rattle.rules.specs.Segment.{malformed, ao, md5, keyId, rnextKeyId, isBareSyn, inserted, withOption}

@@ -7,7 +7,7 @@ use mathlib.Core.Bool.{Bool, cond, not, _&&_}
 use mathlib.Core.List.{List, [], _∷_, _++_, map}
 use lib.ListN.{length, take, drop, replicate}
 use lib.Dec.{eqb, ltb}
-use Rattle.wire.specs.Tests.{any}
+use Rattle.octets.specs.Tests.{Test, any}
 use Rattle.wire.specs.Bytes.{sameBytes}
 use Rattle.wire.specs.Header.{sourcePort, destinationPort, sequence, dataOffset, headerEnd, syn, ack}
 use Rattle.mac.specs.Hmac.{hmacSha1}
@@ -25,7 +25,7 @@ use Rattle.rules.specs.declared.Outcome.the-variants.{Good, Passed, Bad}
 use Rattle.rules.specs.declared.Verdict.the-variants.{Accept, Pass, Drop}
 use Rattle.rules.specs.declared.Connection.{Connection}
 use Rattle.rules.specs.declared.State.{State}
-use Rattle.rules.specs.Numbers.{first}
+use Rattle.octets.specs.Tests.{first}
 use Rattle.rules.specs.Mac.{Flow, context, trafficKey, pseudoHeader, coveredHeader, message, segmentMac}
 use Rattle.rules.specs.Segment.{malformed, ao, md5, aoAt, keyId, rnextKeyId, macIn, isBareSyn, signedWith}
 use Rattle.rules.specs.Connection.{Arrival, sized, arrivalPair, localAddress, remoteAddress, isOpen, arriving, leaving, arrivingSyn}
@@ -146,7 +146,7 @@ AskTable = (t : K.Tables) (id : ℕ) (l : Connection)
 -- "12, 11, 10", then 13 to 17: the numbers of the entry with the index i, in order
 abbrev pub EntryOrder : Type 0
 EntryOrder = (limit i : ℕ) (before : List Entry) (x : Item)
-    → map (λ (r : K.Line). r .number) (K.lines limit i before x)
+    → map (λ (r : Test ℕ). r .gives) (K.loadTests limit i before x)
     ≡ 12 ∷ 11 ∷ 10 ∷ 13 ∷ 13 ∷ 13 ∷ 14 ∷ 14 ∷ 15 ∷ 15 ∷ 15 ∷ 15 ∷ 16 ∷ 16 ∷ 16 ∷ 17 ∷ []
 
 -- Answers. "A verdict is accept with its extension, pass, or drop with a number": accept has the number 0, pass 1.

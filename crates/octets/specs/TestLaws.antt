@@ -5,8 +5,7 @@ use mathlib.Core.Path.{_≡_, refl, ap, sym, _∙_}
 use mathlib.Core.Bool.{Bool, true, false, _&&_}
 use mathlib.Core.List.{List, [], _∷_, _++_}
 use native.Mathlib.Omega.{arith}
-use Rattle.wire.specs.Tests.{any}
-use Rattle.rules.specs.Numbers.{Test, tests, joined, first}
+use Rattle.octets.specs.Tests.{any, Test, tests, joined, first}
 
 module _ {O : Type 0} where
   -- no test of the list applies

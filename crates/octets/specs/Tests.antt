@@ -1,8 +1,13 @@
--- Document 01, "Numbers given back": "The first that applies, in this order, is given."
-use mathlib.Core.Bool.{Bool, cond}
+-- Tests one behind another. Document 01, "Numbers given back": "The first that applies, in this order, is given."
+use mathlib.Core.Bool.{Bool, false, cond, _||_}
 use mathlib.Core.List.{List, [], _∷_, _++_}
 
--- one line of the table: a test, and what is given where it applies
+-- at least one of the tests applies: where one of several things is wrong, a number is given
+abbrev pub any : List Bool → Bool
+any [] = false
+any (b ∷ l) = b || any l
+
+-- one line of the table of numbers: a test, and what is given where it applies
 pub record Test (O : Type 0) : Type 0 where
   pub applies : Bool
   pub gives : O
