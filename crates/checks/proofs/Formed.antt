@@ -10,7 +10,7 @@ use Rattle.wire.specs.Header.{sizeFaults, wellSized}
 use Rattle.wire.specs.declared.options.Options.{Options}
 use Rattle.rules.specs.declared.Outcome.{Outcome}
 use Rattle.rules.specs.Calls.{refuse, unrefused, lengthTests}
-use Rattle.checks.specs.Groups.{optionLines}
+use Rattle.checks.specs.Groups.{optionTests}
 
 -- one outcome behind several tests: one of them is enough
 pub one-of : (o : Outcome) (l : List Bool) (b : List (Test Outcome)) (p : Outcome) → any l ≡ true → o ≡ first (tests o l ++ b) p
@@ -31,5 +31,5 @@ module _ (n : ℕ) (s : List ℕ) (b : List (Test Outcome)) (o : Outcome) where
   well-sized e = none-of (refuse n) (sizeFaults s) b o (not-true (any (sizeFaults s)) e)
 
 -- 21 and 22 by what was read
-pub form-is : {x : Options} (y : Options) → x ≡ y → {z : Outcome} → z ≡ first (optionLines y) unrefused → z ≡ first (optionLines x) unrefused
-form-is y e q = q ∙ ap (λ (k : Options). first (optionLines k) unrefused) (sym e)
+pub form-is : {x : Options} (y : Options) → x ≡ y → {z : Outcome} → z ≡ first (optionTests y) unrefused → z ≡ first (optionTests x) unrefused
+form-is y e q = q ∙ ap (λ (k : Options). first (optionTests k) unrefused) (sym e)

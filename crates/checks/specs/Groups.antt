@@ -1,5 +1,5 @@
--- The groups in which the code takes document 01's tests (crate `rules`, specs/Calls): each function of src/faults.rt gives what one of them
--- gives. A reader need not believe these: the calls cite the crate `rules` alone.
+-- The groups in which the code takes document 01's tests (crate `rules`, specs/Calls): each function of src/faults.rt gives what one of
+-- them gives. A reader need not believe these: the calls cite the crate `rules` alone.
 use Prim.Native.Nat.{ℕ}
 use mathlib.Core.Bool.{Bool, cond, not, _&&_}
 use mathlib.Core.List.{List, [], _∷_, _++_}
@@ -24,26 +24,28 @@ abbrev pub countTests : ℕ → ℕ → List (Test Outcome)
 countTests ao md5 = test (refuse 22) (ltb 1 ao) ∷ test (refuse 22) (ltb 0 ao && ltb 0 md5) ∷ []
 
 -- The tests by a header that was read: of `headerOf n s` they are the crate `rules`' tests of s, by computation.
-abbrev pub optionLines : Options → List (Test Outcome)
-optionLines x =
-    test (refuse 21) (isMalformed x) ∷ test (refuse 22) (ltb 1 (aoIn x .count)) ∷ test (refuse 22) (ltb 0 (aoIn x .count) && ltb 0 (md5In x .count)) ∷ []
+abbrev pub optionTests : Options → List (Test Outcome)
+optionTests x =
+    test (refuse 21) (isMalformed x)
+    ∷ test (refuse 22) (ltb 1 (aoIn x .count))
+    ∷ test (refuse 22) (ltb 0 (aoIn x .count) && ltb 0 (md5In x .count)) ∷ []
 
-abbrev pub pairLines : Pair → List ℕ → List ℕ → Header → List (Test Outcome)
-pairLines p source destination h =
+abbrev pub headerPairTests : Pair → List ℕ → List ℕ → Header → List (Test Outcome)
+headerPairTests p source destination h =
     tests (refuse 23)
     (not (sameBytes source (remoteAddress p))
     ∷ not (sameBytes destination (localAddress p))
     ∷ not (eqb (h .«source_port») (p .«remote_port»))
     ∷ not (eqb (h .«destination_port») (p .«local_port»)) ∷ [])
 
-abbrev pub stageLines : Connection → Header → List (Test Outcome)
-stageLines l h = test (refuse 24) (cond (isOpen l) (h .syn && not (h .ack)) (not (h .syn && h .ack))) ∷ []
+abbrev pub headerStageTests : Connection → Header → List (Test Outcome)
+headerStageTests l h = test (refuse 24) (cond (isOpen l) (h .syn && not (h .ack)) (not (h .syn && h .ack))) ∷ []
 
-abbrev pub synLines : Header → List (Test Outcome)
-synLines h = test (refuse 24) (not (h .syn && not (h .ack))) ∷ []
+abbrev pub headerSynTests : Header → List (Test Outcome)
+headerSynTests h = test (refuse 24) (not (h .syn && not (h .ack))) ∷ []
 
-abbrev pub arrivalLines : Connection → List ℕ → List ℕ → Header → List (Test Outcome)
-arrivalLines l source destination h = pairLines (l .pair) source destination h ++ stageLines l h
+abbrev pub headerArrivalTests : Connection → List ℕ → List ℕ → Header → List (Test Outcome)
+headerArrivalTests l source destination h = headerPairTests (l .pair) source destination h ++ headerStageTests l h
 
 -- The seams at which the code cuts: what the input and the size decide; what the header's form, pair and stage decide; key; MAC.
 abbrev pub early : Groups → List (Test Outcome)

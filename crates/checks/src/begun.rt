@@ -1,5 +1,6 @@
-// Judging in three steps: begin, data, end. Begin (check.rt) tests all that needs no data and leaves the MAC as its front left it; data go into
-// it from where they lie, in as many pieces as they come; end compares: 29. Between them a value holds all that is needed, and no reference.
+// Judging in three steps: begin, data, end. Begin (check.rt) tests all that needs no data and leaves the MAC as its front left it; data go
+// into it from where they lie, in as many pieces as they come; end compares: 29. Between them a value holds all that is needed, and no
+// reference.
 ghost use mathlib.Core.Path.{_≡_};
 ghost use mathlib.Core.Bool.{true, false};
 ghost use Prim.Native.Nat.{ℕ, _+_, _≤_};
@@ -27,8 +28,8 @@ use wire::bytes::byte_at;
 use wire::bytes::same_throughout;
 use wire::options::Occurrence;
 
-// The outcome of 10 to 28. Where it is Good, with position and RNextKeyID: the entry's IDs, the MAC after its front, and the MAC carried, of so
-// many bytes; else these mean nothing.
+// The outcome of 10 to 28. Where it is Good, with position and RNextKeyID: the entry's IDs, the MAC after its front, and the MAC carried,
+// of so many bytes; else these mean nothing.
 pub struct Begun {
     pub outcome: Outcome,
     pub ids: Ids,
@@ -62,7 +63,8 @@ fn carried_mac(mac: &[u8]) -> [u8; 16]
 
 // Behind 28, at position x.
 fn ready(x: u64, rnext: u8, entry: Entry, flow: Flow, option: Occurrence, segment: &[u8]) -> Begun
-    requires { ⌜ (option ≡ ao (now segment)) × (wellSized (now segment) ≡ true) × (option .len ≡ 4 + entry .secret .«mac_bytes») × (entry .secret .«mac_bytes» ≤ 16) ⌝ }
+    requires { ⌜ (option ≡ ao (now segment)) × (wellSized (now segment) ≡ true) × (option .len ≡ 4 + entry .secret .«mac_bytes»)
+        × (entry .secret .«mac_bytes» ≤ 16) ⌝ }
     ensures { λ r. ⌜ Begins (Good x rnext) entry (flowOf flow) (now (segment .entry)) r ⌝ }
 {
     let ids = entry.ids;
@@ -93,8 +95,10 @@ pub(crate) fn by_key(
     option: Occurrence,
     segment: &[u8],
 ) -> Begun
-    requires { ⌜ (option ≡ ao (now segment)) × (wellSized (now segment) ≡ true) × (found .entry .secret .«mac_bytes» ≤ 16) × (isFinal missing ≡ true) × (isFinal unknown ≡ true) ⌝ }
-    ensures { λ r. ⌜ Begins (first (keyTests missing unknown found place (now (segment .entry))) (goodAt place (now (segment .entry)))) (found .entry) (flowOf flow) (now (segment .entry)) r ⌝ }
+    requires { ⌜ (option ≡ ao (now segment)) × (wellSized (now segment) ≡ true) × (found .entry .secret .«mac_bytes» ≤ 16)
+        × (isFinal missing ≡ true) × (isFinal unknown ≡ true) ⌝ }
+    ensures { λ r. ⌜ Begins (first (keyTests missing unknown found place (now (segment .entry))) (goodAt place (now (segment .entry))))
+        (found .entry) (flowOf flow) (now (segment .entry)) r ⌝ }
 {
     let entry = found.entry;
     let secret = entry.secret;
@@ -156,7 +160,8 @@ impl Begun {
 // Data and end, of a segment that is there whole.
 pub fn finished(begun: Begun, segment: &[u8]) -> Outcome
     requires { ⌜ (begun .«mac_bytes» ≤ 16) × ((x r : ℕ) → begun .outcome ≡ Good x r → headerEnd (now segment) ≤ length (now segment)) ⌝ }
-    ensures { λ r. ⌜ r ≡ ended (begun .outcome) (agrees begun (macAbsorb (macView (begun .mac)) (drop (headerEnd (now (segment .entry))) (now (segment .entry))))) ⌝ }
+    ensures { λ r. ⌜ r ≡ ended (begun .outcome) (agrees begun
+        (macAbsorb (macView (begun .mac)) (drop (headerEnd (now (segment .entry))) (now (segment .entry))))) ⌝ }
 {
     let outcome = begun.outcome;
     let Outcome::Good(_, _) = outcome else {

@@ -1,5 +1,5 @@
-// Which number an arriving segment gets, or its position: document 01, "Numbers given back", with a state and without one. Nothing here writes a
-// state. The two checks assume nothing. What a step assumes is what the tests before it left.
+// Which number an arriving segment gets, or its position: document 01, "Numbers given back", with a state and without one. Nothing here
+// writes a state. The two checks assume nothing. What a step assumes is what the tests before it left.
 ghost use mathlib.Core.Path.{_≡_};
 ghost use mathlib.Core.Bool.{true, false, cond};
 ghost use Rattle.wire.specs.Header.{sequence as sequenceOf, wellSized, headerOf};
@@ -71,7 +71,8 @@ fn entry_for(table: &[u8], pair: Pair, option: Occurrence, segment: &[u8]) -> Fo
 
 // 25 to 28 with a state, on a table that is not refused.
 fn keyed(table: &[u8], segment: &[u8], header: Header, conn: Connection, reference: u64) -> Begun
-    requires { ⌜ (isRefused (checked (now table)) ≡ false) × (wellSized (now segment) ≡ true) × (header ≡ headerOf (length (now segment)) (now segment)) ⌝ }
+    requires { ⌜ (isRefused (checked (now table)) ≡ false) × (wellSized (now segment) ≡ true)
+        × (header ≡ headerOf (length (now segment)) (now segment)) ⌝ }
     ensures { λ r. ⌜ Keyed (now (table .entry)) conn reference (now (segment .entry)) r ⌝ }
 {
     let pair = conn.pair;
@@ -101,7 +102,8 @@ pub fn begin(
     conn: Connection,
     reference: u64,
 ) -> Begun
-    ensures { λ r. ⌜ Judges (now (table .entry)) conn reference (record { source = now (source .entry); destination = now (destination .entry); segment = now (segment .entry) }) r ⌝ }
+    ensures { λ r. ⌜ Judges (now (table .entry)) conn reference
+        (record { source = now (source .entry); destination = now (destination .entry); segment = now (segment .entry) }) r ⌝ }
 {
     let early = early_faults(table, source, destination, segment, conn);
     let Outcome::Good(_, _) = early else {
@@ -124,7 +126,8 @@ pub fn check(
     conn: Connection,
     reference: u64,
 ) -> Outcome
-    ensures { λ r. ⌜ r ≡ checkOf (now (table .entry)) conn reference (record { source = now (source .entry); destination = now (destination .entry); segment = now (segment .entry) }) ⌝ }
+    ensures { λ r. ⌜ r ≡ checkOf (now (table .entry)) conn reference
+        (record { source = now (source .entry); destination = now (destination .entry); segment = now (segment .entry) }) ⌝ }
 {
     let begun = begin(table, source, destination, segment, conn, reference);
     finished(begun, segment)
@@ -153,7 +156,8 @@ fn syn_unknown(strict: bool) -> Outcome
 // The pair of what arrives, as this end holds it.
 pub fn arrival_pair(source: &[u8], destination: &[u8], segment: &[u8]) -> Pair
     requires { ⌜ sized (now source) (now destination) ≡ true ⌝ }
-    ensures { λ r. ⌜ r ≡ arrivalPair (record { source = now (source .entry); destination = now (destination .entry); segment = now (segment .entry) }) ⌝ }
+    ensures { λ r. ⌜ r ≡ arrivalPair
+        (record { source = now (source .entry); destination = now (destination .entry); segment = now (segment .entry) }) ⌝ }
 {
     pair_of(
         destination,
@@ -172,8 +176,10 @@ fn own_place(number: u32) -> Place
 
 // 25 to 28 of a bare SYN without a state. "For a bare SYN .. the destination ISN is zero."
 fn keyed_syn(table: &[u8], segment: &[u8], header: Header, pair: Pair, strict: bool) -> Begun
-    requires { ⌜ (isRefused (checked (now table)) ≡ false) × (wellSized (now segment) ≡ true) × (header ≡ headerOf (length (now segment)) (now segment)) ⌝ }
-    ensures { λ r. ⌜ KeyedSyn (now (table .entry)) pair strict (arrivingOn pair (sequenceOf (now (segment .entry))) 0) (now (segment .entry)) r ⌝ }
+    requires { ⌜ (isRefused (checked (now table)) ≡ false) × (wellSized (now segment) ≡ true)
+        × (header ≡ headerOf (length (now segment)) (now segment)) ⌝ }
+    ensures { λ r. ⌜ KeyedSyn (now (table .entry)) pair strict
+        (arrivingOn pair (sequenceOf (now (segment .entry))) 0) (now (segment .entry)) r ⌝ }
 {
     let options = header.options;
     let option = carried(options);
@@ -199,7 +205,8 @@ pub fn begin_syn(
     segment: &[u8],
     strict: bool,
 ) -> Begun
-    ensures { λ r. ⌜ JudgesSyn (now (table .entry)) (record { source = now (source .entry); destination = now (destination .entry); segment = now (segment .entry) }) strict r ⌝ }
+    ensures { λ r. ⌜ JudgesSyn (now (table .entry))
+        (record { source = now (source .entry); destination = now (destination .entry); segment = now (segment .entry) }) strict r ⌝ }
 {
     let early = early_syn_faults(table, source, destination, segment);
     let Outcome::Good(_, _) = early else {
@@ -222,7 +229,8 @@ pub fn check_syn(
     segment: &[u8],
     strict: bool,
 ) -> Outcome
-    ensures { λ r. ⌜ r ≡ checkSyn (now (table .entry)) (record { source = now (source .entry); destination = now (destination .entry); segment = now (segment .entry) }) strict ⌝ }
+    ensures { λ r. ⌜ r ≡ checkSyn (now (table .entry))
+        (record { source = now (source .entry); destination = now (destination .entry); segment = now (segment .entry) }) strict ⌝ }
 {
     let begun = begin_syn(table, source, destination, segment, strict);
     finished(begun, segment)

@@ -1,12 +1,12 @@
-// The tests that come before a key is looked at: document 01, "Numbers given back", 10 to 24. One function for each group of the crate `rules`;
-// where none of its tests applies, it gives Good(0, 0), of which nothing is made. Assumes nothing.
+// The tests that come before a key is looked at: document 01, "Numbers given back", 10 to 24. One function for each group of the crate
+// `rules`; where none of its tests applies, it gives Good(0, 0), of which nothing is made. Assumes nothing.
 ghost use mathlib.Core.Path.{_≡_};
 ghost use mathlib.Core.Bool.{not, _&&_};
 ghost use mathlib.Core.List.{_++_};
 ghost use Rattle.octets.specs.Tests.{first};
 ghost use Rattle.rules.specs.Segment.{isBareSyn};
 ghost use Rattle.rules.specs.Calls.{unrefused, familyTests, addressTests, tableTests, inputTests, stateTests, lengthTests};
-ghost use Rattle.checks.specs.Groups.{countTests, optionLines, pairLines, stageLines, synLines, arrivalLines};
+ghost use Rattle.checks.specs.Groups.{countTests, optionTests, headerPairTests, headerStageTests, headerSynTests, headerArrivalTests};
 use keys::entry::Pair;
 use keys::table::Loaded;
 use rules::Connection;
@@ -110,7 +110,7 @@ fn length_faults(segment: &[u8]) -> Outcome
 
 // 21: "malformed options"; 22.
 fn form_faults(options: Options) -> Outcome
-    ensures { λ r. ⌜ r ≡ first (optionLines options) unrefused ⌝ }
+    ensures { λ r. ⌜ r ≡ first (optionTests options) unrefused ⌝ }
 {
     match options {
         Options::Malformed => Outcome::Bad(21, 0),
@@ -120,7 +120,7 @@ fn form_faults(options: Options) -> Outcome
 
 // 23: "pair is not the state's". The source of what arrives is our remote side.
 fn pair_faults(pair: Pair, source: &[u8], destination: &[u8], header: Header) -> Outcome
-    ensures { λ r. ⌜ r ≡ first (pairLines pair (now (source .entry)) (now (destination .entry)) header) unrefused ⌝ }
+    ensures { λ r. ⌜ r ≡ first (headerPairTests pair (now (source .entry)) (now (destination .entry)) header) unrefused ⌝ }
 {
     let remote = pair.remote;
     let local = pair.local;
@@ -169,7 +169,7 @@ fn syn_ack(header: Header) -> bool
 
 // 24: "wrong segment for the stage". Open: a bare SYN; opening: anything but SYN with ACK.
 fn stage_faults(conn: Connection, header: Header) -> Outcome
-    ensures { λ r. ⌜ r ≡ first (stageLines conn header) unrefused ⌝ }
+    ensures { λ r. ⌜ r ≡ first (headerStageTests conn header) unrefused ⌝ }
 {
     if is_open(conn) {
         if bare_syn(header) {
@@ -185,7 +185,7 @@ fn stage_faults(conn: Connection, header: Header) -> Outcome
 
 // 24 without a state: anything but a bare SYN.
 fn syn_faults(header: Header) -> Outcome
-    ensures { λ r. ⌜ r ≡ first (synLines header) unrefused ⌝ }
+    ensures { λ r. ⌜ r ≡ first (headerSynTests header) unrefused ⌝ }
 {
     if bare_syn(header) {
         return Outcome::Good(0, 0);
@@ -195,7 +195,7 @@ fn syn_faults(header: Header) -> Outcome
 
 // 23, then 24.
 fn arrival_faults(conn: Connection, source: &[u8], destination: &[u8], header: Header) -> Outcome
-    ensures { λ r. ⌜ r ≡ first (arrivalLines conn (now (source .entry)) (now (destination .entry)) header) unrefused ⌝ }
+    ensures { λ r. ⌜ r ≡ first (headerArrivalTests conn (now (source .entry)) (now (destination .entry)) header) unrefused ⌝ }
 {
     let pair = pair_faults(conn.pair, source, destination, header);
     let Outcome::Good(_, _) = pair else {
@@ -212,7 +212,8 @@ pub fn early_faults(
     segment: &[u8],
     conn: Connection,
 ) -> Outcome
-    ensures { λ r. ⌜ r ≡ first (stateTests (now (table .entry)) (now (source .entry)) (now (destination .entry)) conn ++ lengthTests 20 (now (segment .entry))) unrefused ⌝ }
+    ensures { λ r. ⌜ r ≡ first (stateTests (now (table .entry)) (now (source .entry)) (now (destination .entry)) conn
+        ++ lengthTests 20 (now (segment .entry))) unrefused ⌝ }
 {
     let state = state_faults(table, source, destination, conn);
     let Outcome::Good(_, _) = state else {
@@ -223,7 +224,8 @@ pub fn early_faults(
 
 // 21 to 24: form, pair and stage.
 pub fn formed_faults(conn: Connection, source: &[u8], destination: &[u8], header: Header) -> Outcome
-    ensures { λ r. ⌜ r ≡ first (optionLines (header .options) ++ arrivalLines conn (now (source .entry)) (now (destination .entry)) header) unrefused ⌝ }
+    ensures { λ r. ⌜ r ≡ first (optionTests (header .options)
+        ++ headerArrivalTests conn (now (source .entry)) (now (destination .entry)) header) unrefused ⌝ }
 {
     let options = header.options;
     let form = form_faults(options);
@@ -235,7 +237,8 @@ pub fn formed_faults(conn: Connection, source: &[u8], destination: &[u8], header
 
 // The same without a state.
 pub fn early_syn_faults(table: &[u8], source: &[u8], destination: &[u8], segment: &[u8]) -> Outcome
-    ensures { λ r. ⌜ r ≡ first (inputTests (now (table .entry)) (now (source .entry)) (now (destination .entry)) ++ lengthTests 20 (now (segment .entry))) unrefused ⌝ }
+    ensures { λ r. ⌜ r ≡ first (inputTests (now (table .entry)) (now (source .entry)) (now (destination .entry))
+        ++ lengthTests 20 (now (segment .entry))) unrefused ⌝ }
 {
     let input = input_faults(table, source, destination);
     let Outcome::Good(_, _) = input else {
@@ -245,7 +248,7 @@ pub fn early_syn_faults(table: &[u8], source: &[u8], destination: &[u8], segment
 }
 
 pub fn formed_syn_faults(header: Header) -> Outcome
-    ensures { λ r. ⌜ r ≡ first (optionLines (header .options) ++ synLines header) unrefused ⌝ }
+    ensures { λ r. ⌜ r ≡ first (optionTests (header .options) ++ headerSynTests header) unrefused ⌝ }
 {
     let options = header.options;
     let form = form_faults(options);

@@ -45,8 +45,8 @@ unfoldable pub sideOf : ℕ → ℕ → ℕ → List ℕ → Side
 sideOf w ports at e =
     record { low = get16 e ports; high = get16 e (ports + 2); bits = getD e (at + w) 0; address = padded (take w (drop at e)) }
 
--- "local port low and high, remote port low and high (two bytes each, big-endian, ends included); local address, its prefix length;
--- remote address, its prefix length"
+-- "local port low and high, remote port low and high (two bytes each, big-endian, ends included); local address, its prefix length; remote
+-- address, its prefix length"
 unfoldable pub selectorOf : ℕ → List ℕ → Selector
 selectorOf w e = record { family = familyOf (getD e 0 0); local = sideOf w 5 13 e; remote = sideOf w 9 (14 + w) e }
 

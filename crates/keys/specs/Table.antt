@@ -1,5 +1,6 @@
 -- What the list of entries answers: the numbers 10 to 17 with the entry's index, and the searches. Document 01, "Key table (house bytes)"
--- and "Numbers given back". Nothing here reads bytes: specs/Entry.antt says what they mean.
+-- and "Numbers given back".
+-- Nothing here reads bytes: specs/Entry.antt says what they mean.
 use Prim.Native.Nat.{ℕ, zero, suc, _+_, _*_}
 use mathlib.Core.Bool.{Bool, true, false, cond, not, _&&_, _||_}
 use mathlib.Core.Path.{_≡_}
@@ -44,7 +45,8 @@ zeros (x ∷ l) = eqb x 0 && zeros l
 
 -- 16: "key length 0 or above 80, or padding not zero"
 abbrev pub masterKeyTests : Secret → List (Test ℕ)
-masterKeyTests s = test 16 (ltb (s .«key_len») 1) ∷ test 16 (ltb 80 (s .«key_len»)) ∷ test 16 (not (zeros (drop (s .«key_len») (s .key)))) ∷ []
+masterKeyTests s =
+    test 16 (ltb (s .«key_len») 1) ∷ test 16 (ltb 80 (s .«key_len»)) ∷ test 16 (not (zeros (drop (s .«key_len») (s .key)))) ∷ []
 
 -- what is wrong with an entry by itself
 abbrev pub entryTests : Entry → List (Test ℕ)
@@ -80,7 +82,8 @@ refusing (suc n) i o = Refused (suc n) i
 -- "table entries are taken one after another, each through to 17 against those before it, with the entry's index from 0"
 unfoldable pub loadedFrom : ℕ → ℕ → List Entry → List Item → Loaded
 loadedFrom limit i before [] = Valid i
-loadedFrom limit i before (x ∷ l) = refusing (numberOf (loadTests limit i before x)) i (loadedFrom limit (i + 1) (before ++ (x .entry ∷ [])) l)
+loadedFrom limit i before (x ∷ l) =
+    refusing (numberOf (loadTests limit i before x)) i (loadedFrom limit (i + 1) (before ++ (x .entry ∷ [])) l)
 
 unfoldable pub loaded : ℕ → List ℕ → Loaded
 loaded limit t = loadedFrom limit 0 [] (items 0 t)

@@ -85,7 +85,8 @@ fn ports_meet(e: &[u8], ports: usize, b: Side) -> bool
 // Whether a side of an entry has an address in common with another side. Its address stands at `at` of the entry's bytes.
 fn addresses_meet(e: &[u8], family: u8, at: usize, b: Side) -> bool
     requires { ⌜ at + width family + 1 ≤ length (now e) ⌝ }
-    ensures { λ r. ⌜ r ≡ agree (min (fixed family (getD (now (e .entry)) (at + width family) 0)) (fixed family (b .bits))) (padded (take (width family) (drop at (now (e .entry))))) (b .address) ⌝ }
+    ensures { λ r. ⌜ r ≡ agree (min (fixed family (getD (now (e .entry)) (at + width family) 0)) (fixed family (b .bits)))
+        (padded (take (width family) (drop at (now (e .entry))))) (b .address) ⌝ }
 {
     let y = b.address;
     let x = fixed_bits(family, e[at + width_of(family)]);

@@ -1,4 +1,5 @@
-// The key table as a whole: the loader with its numbers 10 to 17, and the searches. Document 01, "Key table (house bytes)" and "Numbers given back".
+// The key table as a whole: the loader with its numbers 10 to 17, and the searches. Document 01, "Key table (house bytes)" and
+// "Numbers given back".
 // Any bytes are a table. Entries before another are read again from their bytes, their IDs first, so that no array of them is kept.
 ghost use mathlib.Core.Path.{_≡_};
 ghost use mathlib.Core.Bool.{cond, _&&_};
@@ -7,7 +8,8 @@ ghost use lib.ListN.{length, take, getD};
 ghost use lib.Dec.{eqb};
 ghost use Rattle.keys.specs.Entry.{size, itemAt, sound, entries};
 ghost use Rattle.keys.specs.Match.{share, overlap};
-ghost use Rattle.keys.specs.Table.{numberOf, itemTests, clashing, loaded, checked, nobody, found, hasId, answers, sendEntry, recvEntry, anyEntry};
+ghost use Rattle.keys.specs.Table.{numberOf, itemTests, clashing, loaded, checked};
+ghost use Rattle.keys.specs.Table.{nobody, found, hasId, answers, sendEntry, recvEntry, anyEntry};
 use crate::entry::Entry;
 use crate::entry::Ids;
 use crate::entry::Pair;
@@ -60,7 +62,8 @@ fn sound_at(table: &[u8], at: usize) -> bool
 // Whether the entry at `at` clashes with one of these IDs and this selector. The IDs mostly decide.
 fn clash_at(table: &[u8], at: usize, ids: Ids, selector: Selector) -> bool
     requires { ⌜ at + size (getD (now table) at 0) ≤ length (now table) ⌝ }
-    ensures { λ r. ⌜ r ≡ (share (itemAt (now (table .entry)) at .entry .ids) ids && overlap (itemAt (now (table .entry)) at .entry .selector) selector) ⌝ }
+    ensures { λ r. ⌜ r ≡ (share (itemAt (now (table .entry)) at .entry .ids) ids
+        && overlap (itemAt (now (table .entry)) at .entry .selector) selector) ⌝ }
 {
     if !crate::matching::shares(ids_of(&table[at..]), ids) {
         return false;

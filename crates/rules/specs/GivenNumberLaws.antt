@@ -49,6 +49,7 @@ among-every f n (m ∷ l) e a = go (eqb n m) (f m) refl refl (among-every f n l)
 
 -- The key table.
 
+-- one of them, or 0, which is given where no test applies
 abbrev orNone : ℕ → Bool
 orNone n = among n (0 ∷ tableNumbers)
 

@@ -1,5 +1,5 @@
--- The MAC of an algorithm (`applied` of the crate `rules`) of a message that comes in pieces, and what a value of the code's MacContext means.
--- Every value means something. Assumes nothing.
+-- The MAC of an algorithm (`applied` of the crate `rules`) of a message that comes in pieces, and what a value of the code's MacContext
+-- means. Every value means something. Assumes nothing.
 use Prim.Native.Nat.{ℕ}
 use mathlib.Core.Bool.{cond}
 use mathlib.Core.List.{List}

@@ -1,4 +1,5 @@
-// The MAC of an algorithm, of a message that comes in pieces: begin, data, end. Algorithm 1 is HMAC-SHA-1 (RFC 2104), any other AES-CMAC (RFC 4493).
+// The MAC of an algorithm, of a message that comes in pieces: begin, data, end. Algorithm 1 is HMAC-SHA-1 (RFC 2104), any other
+// AES-CMAC (RFC 4493).
 // It holds all that a run of pieces has to keep, as plain values. Assumes nothing: every value is a context, whose meaning is its view.
 ghost use mathlib.Core.Path.{_≡_};
 ghost use lib.ListN.{take};

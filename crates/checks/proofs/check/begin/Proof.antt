@@ -5,7 +5,7 @@ use mathlib.Core.List.{_++_}
 use Rattle.wire.specs.declared.header.Header.{Header}
 use Rattle.octets.specs.Tests.{first}
 use Rattle.rules.specs.Calls.{unrefused, stateTests, lengthTests, formTests, arrivalTests}
-use Rattle.checks.specs.Groups.{optionLines, arrivalLines}
+use Rattle.checks.specs.Groups.{optionTests, headerArrivalTests}
 use Rattle.checks.specs.GroupLaws.{passed}
 use Rattle.checks.proofs.Checks.{early-final, early-left, state-left}
 use Rattle.checks.proofs.Groups.{begin-early, begin-formed, begin-keyed}
@@ -21,7 +21,7 @@ returns-2 : tie.Need-returns-2
 returns-2 c =
     let a = c .before .before .before .before .before .before .before .before .before .before .before .args in
     let n = passed (stateTests (a .table .now) (a .source .now) (a .destination .now) (a .conn) ++ lengthTests 20 (a .segment .now)) (c .before .before .before .before .before .before .early-faults .ensures) (early-final (a .table .now) (a .source .now) (a .destination .now) (a .segment .now) (a .conn)) (c .before .before .before .before .enum-told .given .1) in
-    begin-formed (a .table .now) (a .conn) (a .reference) (record { source = a .source .now; destination = a .destination .now; segment = a .segment .now }) (c .nothing2 .result) n (c .nothing2 .ensures) (c .before .before .formed-faults .ensures ∙ ap (λ (h : Header). first (optionLines (h .options) ++ arrivalLines (a .conn) (a .source .now) (a .destination .now) h) unrefused) (c .before .before .before .header-of .ensures)) (c .before .match2 .keys2)
+    begin-formed (a .table .now) (a .conn) (a .reference) (record { source = a .source .now; destination = a .destination .now; segment = a .segment .now }) (c .nothing2 .result) n (c .nothing2 .ensures) (c .before .before .formed-faults .ensures ∙ ap (λ (h : Header). first (optionTests (h .options) ++ headerArrivalTests (a .conn) (a .source .now) (a .destination .now) h) unrefused) (c .before .before .before .header-of .ensures)) (c .before .match2 .keys2)
 
 keyed-requires : tie.Need-keyed-requires
 keyed-requires c κs =
@@ -34,7 +34,7 @@ returns-3 : tie.Need-returns-3
 returns-3 c =
     let a = c .before .before .before .before .before .before .before .before .before .before .before .before .args in
     let n = passed (stateTests (a .table .now) (a .source .now) (a .destination .now) (a .conn) ++ lengthTests 20 (a .segment .now)) (c .before .before .before .before .before .before .before .early-faults .ensures) (early-final (a .table .now) (a .source .now) (a .destination .now) (a .segment .now) (a .conn)) (c .before .before .before .before .before .enum-told .given .1) in
-    let m = passed (formTests (a .segment .now) ++ arrivalTests (a .conn) (record { source = a .source .now; destination = a .destination .now; segment = a .segment .now })) (c .before .before .before .formed-faults .ensures ∙ ap (λ (h : Header). first (optionLines (h .options) ++ arrivalLines (a .conn) (a .source .now) (a .destination .now) h) unrefused) (c .before .before .before .before .header-of .ensures)) refl (c .before .enum-told2 .given .1) in
+    let m = passed (formTests (a .segment .now) ++ arrivalTests (a .conn) (record { source = a .source .now; destination = a .destination .now; segment = a .segment .now })) (c .before .before .before .formed-faults .ensures ∙ ap (λ (h : Header). first (optionTests (h .options) ++ headerArrivalTests (a .conn) (a .source .now) (a .destination .now) h) unrefused) (c .before .before .before .before .header-of .ensures)) refl (c .before .enum-told2 .given .1) in
     begin-keyed (a .table .now) (a .conn) (a .reference) (record { source = a .source .now; destination = a .destination .now; segment = a .segment .now }) (c .keyed .result) n m (c .keyed .ensures)
 
 pub begin-spec : {M : Type 1} → statement M

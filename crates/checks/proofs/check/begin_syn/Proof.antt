@@ -5,7 +5,7 @@ use mathlib.Core.List.{_++_}
 use Rattle.wire.specs.declared.header.Header.{Header}
 use Rattle.octets.specs.Tests.{first}
 use Rattle.rules.specs.Calls.{unrefused, inputTests, lengthTests, formTests, synTests}
-use Rattle.checks.specs.Groups.{optionLines, synLines}
+use Rattle.checks.specs.Groups.{optionTests, headerSynTests}
 use Rattle.checks.specs.GroupLaws.{passed}
 use Rattle.checks.proofs.Checks.{early-syn-final, early-input, early-left}
 use Rattle.checks.proofs.Groups.{syn-early, syn-formed, syn-keyed}
@@ -21,7 +21,7 @@ returns-2 : tie.Need-returns-2
 returns-2 c =
     let a = c .before .before .before .before .before .before .before .before .before .before .before .args in
     let n = passed (inputTests (a .table .now) (a .source .now) (a .destination .now) ++ lengthTests 20 (a .segment .now)) (c .before .before .before .before .before .before .early-syn-faults .ensures) (early-syn-final (a .table .now) (a .source .now) (a .destination .now) (a .segment .now)) (c .before .before .before .before .enum-told .given .1) in
-    syn-formed (a .table .now) (record { source = a .source .now; destination = a .destination .now; segment = a .segment .now }) (a .strict) (c .nothing2 .result) n (c .nothing2 .ensures) (c .before .before .formed-syn-faults .ensures ∙ ap (λ (h : Header). first (optionLines (h .options) ++ synLines h) unrefused) (c .before .before .before .header-of .ensures)) (c .before .match2 .keys2)
+    syn-formed (a .table .now) (record { source = a .source .now; destination = a .destination .now; segment = a .segment .now }) (a .strict) (c .nothing2 .result) n (c .nothing2 .ensures) (c .before .before .formed-syn-faults .ensures ∙ ap (λ (h : Header). first (optionTests (h .options) ++ headerSynTests h) unrefused) (c .before .before .before .header-of .ensures)) (c .before .match2 .keys2)
 
 arrival-pair-requires : tie.Need-arrival-pair-requires
 arrival-pair-requires c κs =
@@ -40,7 +40,7 @@ returns-3 : tie.Need-returns-3
 returns-3 c =
     let a = c .before .before .before .before .before .before .before .before .before .before .before .before .before .args in
     let n = passed (inputTests (a .table .now) (a .source .now) (a .destination .now) ++ lengthTests 20 (a .segment .now)) (c .before .before .before .before .before .before .before .before .early-syn-faults .ensures) (early-syn-final (a .table .now) (a .source .now) (a .destination .now) (a .segment .now)) (c .before .before .before .before .before .before .enum-told .given .1) in
-    let m = passed (formTests (a .segment .now) ++ synTests (a .segment .now)) (c .before .before .before .before .formed-syn-faults .ensures ∙ ap (λ (h : Header). first (optionLines (h .options) ++ synLines h) unrefused) (c .before .before .before .before .before .header-of .ensures)) refl (c .before .before .enum-told2 .given .1) in
+    let m = passed (formTests (a .segment .now) ++ synTests (a .segment .now)) (c .before .before .before .before .formed-syn-faults .ensures ∙ ap (λ (h : Header). first (optionTests (h .options) ++ headerSynTests h) unrefused) (c .before .before .before .before .before .header-of .ensures)) refl (c .before .before .enum-told2 .given .1) in
     syn-keyed (a .table .now) (record { source = a .source .now; destination = a .destination .now; segment = a .segment .now }) (a .strict) (c .keyed-syn .result) n m (c .before .arrival-pair .ensures) (c .keyed-syn .ensures)
 
 pub begin-syn-spec : {M : Type 1} → statement M

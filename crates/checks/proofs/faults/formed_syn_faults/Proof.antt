@@ -2,7 +2,7 @@
 use borrow.Author.Needs.{needs}
 use mathlib.Core.Path.{refl}
 use Rattle.rules.specs.Calls.{unrefused}
-use Rattle.checks.specs.Groups.{optionLines, synLines}
+use Rattle.checks.specs.Groups.{optionTests, headerSynTests}
 use Rattle.checks.specs.GroupLaws.{decided, behind}
 use Rattle.checks.proofs.faults.formed_syn_faults.Statement.{statement}
 use Rattle.checks.proofs.faults.formed_syn_faults.Tie as tie
@@ -10,12 +10,12 @@ use Rattle.checks.proofs.faults.formed_syn_faults.Tie as tie
 returns : tie.Need-returns
 returns c =
     let a = c .before .before .args in
-    decided (optionLines (a .header .options)) (synLines (a .header)) unrefused (c .before .form-faults .ensures) (c .match .keys2)
+    decided (optionTests (a .header .options)) (headerSynTests (a .header)) unrefused (c .before .form-faults .ensures) (c .match .keys2)
 
 returns-2 : tie.Need-returns-2
 returns-2 c =
     let a = c .before .before .before .before .args in
-    behind (optionLines (a .header .options)) (synLines (a .header)) unrefused (c .before .before .before .form-faults .ensures) refl (c .before .enum-told .given .1) (c .syn-faults .ensures)
+    behind (optionTests (a .header .options)) (headerSynTests (a .header)) unrefused (c .before .before .before .form-faults .ensures) refl (c .before .enum-told .given .1) (c .syn-faults .ensures)
 
 pub formed-syn-faults-spec : {M : Type 1} → statement M
 formed-syn-faults-spec = tie.close (tie.spec (λ c κs. search needs) (λ c. search needs) returns (λ c κs. search needs) returns-2)
