@@ -34,8 +34,8 @@ use Rattle.rules.specs.Calls.{outgoing, signTests, checkSign, signed}
 use Rattle.rules.specs.SigningLaws.{signs-good}
 use Rattle.rules.specs.History.{judge, sign, ask}
 use Rattle.rules.specs.Refusals.{Request, on, judgeSyn, openPassively, openActively, byVerdict, bySigning}
-use Rattle.rules.specs.GivenNumbers.{among, among-every, tableNumbers, Within, checked-within, isPass, refused-bounds, table-bounds}
-use Rattle.rules.specs.GivenNumbers.{judge-never-passes}
+use Rattle.rules.specs.GivenNumbers.{among, tableNumbers, Within, isPass}
+use Rattle.rules.specs.GivenNumberLaws.{among-every, checked-within, refused-bounds, table-bounds, judge-never-passes}
 use Rattle.boundary.specs.Word.{word, Reads, reads, ofJudged, ofChecked, ofSigned, ofSettled}
 use Rattle.states.specs.Layout.{isState}
 use Rattle.boundary.specs.Exports.{answered, accepts, opens}

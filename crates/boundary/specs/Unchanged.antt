@@ -19,8 +19,9 @@ use Rattle.rules.specs.declared.Settled.{Settled}
 use Rattle.rules.specs.Connection.{arrivalOf, isOpen, isCounted}
 use Rattle.rules.specs.Calls.{judged, openedPassively, openedActively, asked, signed, output}
 use Rattle.rules.specs.History.{judge, sign, ask}
-use Rattle.rules.specs.Refusals.{on, byVerdict, bySigning, oneMore, refusal}
-use Rattle.rules.specs.GivenNumbers.{judge-never-passes}
+use Rattle.rules.specs.Refusals.{on, byVerdict, bySigning, oneMore}
+use Rattle.rules.specs.RefusalLaws.{refusal}
+use Rattle.rules.specs.GivenNumberLaws.{judge-never-passes}
 use Rattle.states.specs.Layout.{isState, stateBytes, decodeOf, encodeOf}
 use Rattle.states.specs.LayoutLaws.{encode-decode}
 use Rattle.boundary.specs.Exports.{changed, stateAfter, accepts, opens, stateWhere, strictly}

@@ -4,7 +4,7 @@ use Prim.Native.Nat.{ℕ, zero, suc, _+_, _*_, _-_, _≤_, _<_}
 use mathlib.Core.Bool.{Bool, true, false, cond}
 use mathlib.Core.Path.{_≡_, refl, sym, ap, _∙_}
 use mathlib.Core.List.{List, [], _∷_, _++_}
-use mathlib.Core.Logic.{_⊎_, inl, inr, ⊎-elim}
+use mathlib.Core.Logic.{inl, inr, ⊎-elim}
 use native.Mathlib.Omega.{arith}
 use lib.ListN.{length, getD, take, drop, replicate, length-append, length-take, length-drop, length-replicate, drop-of-length-le}
 use lib.Seq.{drop-nil, drop-drop, getD-drop}
@@ -13,7 +13,8 @@ use borrow.Author.Tests.{eqb-true, leb-true, leb-false}
 use Rattle.octets.specs.Each.{Each, Octets}
 use Rattle.keys.specs.Algorithm.{macBytes}
 use Rattle.keys.specs.Entry.{knownKind, familyOf, body, size, width, sideOf, selectorOf, secretOf, entryOf, Item, item, itemAt, sound, items, entriesOf, entries}
-use Rattle.keys.specs.MatchLaws.{or-true, and-true, Family, SideFields, Fields}
+use Rattle.keys.specs.MatchLaws.{or-true, and-true, SideFields, Fields}
+use Rattle.keys.specs.Clash.{Family}
 use Rattle.keys.specs.declared.entry.Entry.{Entry}
 
 -- sizes

@@ -1,15 +1,14 @@
 -- Laws of the loader's tests: which number they give, and what it means that they give none.
-use Prim.Native.Nat.{ℕ, _+_}
-use mathlib.Core.Bool.{Bool, true, false, cond, not, _&&_}
+use Prim.Native.Nat.{ℕ}
+use mathlib.Core.Bool.{Bool, true, false, cond, not}
 use mathlib.Core.Path.{_≡_, refl, sym, ap, _∙_}
 use mathlib.Core.List.{List, [], _∷_, _++_}
-use native.Mathlib.Omega.{arith}
 use lib.Dec.{eqb}
 use borrow.Author.Tests.{eq-eqb, not-false}
 use Rattle.octets.specs.Tests.{Test, test, first}
 use Rattle.octets.specs.TestLaws.{NoneApplies, eachGives, first-none, first-append, first-past, none-applied, none-split}
 use Rattle.keys.specs.Entry.{Item, sound}
-use Rattle.keys.specs.Table.{numberOf, entryTests, clashing, ownTests, itemTests}
+use Rattle.keys.specs.Table.{numberOf, clashing, ownTests, itemTests}
 use Rattle.keys.specs.declared.entry.Entry.{Entry}
 
 -- a number other than n; no test gives n
@@ -57,10 +56,6 @@ last-given n b l k z e = (none, go b refl)
 pub given-last : (n : ℕ) (b : Bool) (l : List (Test ℕ)) → NoneApplies l → numberOf (l ++ (test n b ∷ [])) ≡ cond b n 0
 unfolding numberOf
 given-last n b l p = number-past l (test n b ∷ []) p
-
--- an entry that by itself is given none of 13 to 16
-abbrev pub Formed : Entry → Type 0
-Formed e = NoneApplies (entryTests e)
 
 -- an item to which none of 11, 10 and 13 to 17 applies is there whole, and of a known kind
 pub item-good : (before : List Entry) (x : Item) → numberOf (itemTests before x) ≡ 0 → sound x ≡ true

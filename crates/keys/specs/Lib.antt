@@ -4,10 +4,12 @@ pub mod EntryLaws
 pub mod Match
 pub mod MatchLaws
 pub mod Table
+pub mod Places
+pub mod Clash
+pub mod Search
 pub mod FaultLaws
 pub mod PlaceLaws
 pub mod LoadLaws
 pub mod SearchLaws
 pub mod Mirror
 pub mod MirrorLaws
-pub mod Examples

@@ -16,12 +16,15 @@ use Rattle.keys.specs.Entry.{Item, sound, items, entriesOf, entries}
 use Rattle.octets.specs.Tests.{Test, test}
 use Rattle.octets.specs.TestLaws.{NoneApplies, none-split}
 use Rattle.keys.specs.EntryLaws.{entries-fields}
-use Rattle.keys.specs.MatchLaws.{and-true, Fields, Conflict, clash-conflict, conflict-clash}
+use Rattle.keys.specs.MatchLaws.{and-true, Fields, clash-conflict, conflict-clash}
 use Rattle.keys.specs.Table.{numberOf, clashing, ownTests, loadTests, loadedFrom, loaded}
 use Rattle.keys.specs.declared.entry.Entry.{Entry}
 use Rattle.keys.specs.declared.table.Loaded.the-variants.{Valid, Refused}
-use Rattle.keys.specs.FaultLaws.{number-none, last-given, given-last, Formed}
-use Rattle.keys.specs.PlaceLaws.{At, each-at, at-seam, at-left, at-below, Apart, Clear, NoConflict, clear-apart, apart-clear, clashing-in, in-clashing, apart-no-conflict, no-conflict-apart}
+use Rattle.keys.specs.FaultLaws.{number-none, last-given, given-last}
+use Rattle.keys.specs.PlaceLaws.{each-at, at-seam, at-left, at-below, Apart, Clear, clear-apart, apart-clear, clashing-in}
+use Rattle.keys.specs.PlaceLaws.{in-clashing, apart-no-conflict, no-conflict-apart}
+use Rattle.keys.specs.Places.{At}
+use Rattle.keys.specs.Clash.{Formed, Sound, WellFormed, RefusedClash, ClashRefused, RefusedConflicting, ConflictingRefused}
 
 -- the walk
 
@@ -88,10 +91,6 @@ module _ (limit : ℕ) where
   stops-from (go-on {i} {k} {before} {x} p c s) = rw (good-step i before x p c) (stops-from s)
 
 -- what a walk says of the entries
-
-abbrev pub Sound : List Item → Type 0
-Sound [] = Unit {0}
-Sound (x ∷ l) = (sound x ≡ true) × Sound l
 
 pub sound-length : (l : List Item) → Sound l → length (entriesOf l) ≡ length l
 unfolding entriesOf
@@ -224,12 +223,6 @@ module _ (limit : ℕ) where
 
 -- the loader's answers
 
--- "a table otherwise well formed": none of 10 to 16 applies to any entry
-pub record WellFormed (limit : ℕ) (t : List ℕ) : Type 0 where
-  pub sound : Sound (items 0 t)
-  pub few : length (entries t) ≤ limit
-  pub formed : Each Formed (entries t)
-
 pub valid-formed : (limit n : ℕ) (t : List ℕ) → loaded limit t ≡ Valid n → WellFormed limit t × (length (entries t) ≡ n) × Apart (entries t)
 unfolding loaded
 valid-formed limit n t e =
@@ -248,22 +241,6 @@ formed-valid limit t w a =
     good-from limit (items 0 t) 0 [] (parts-good limit (items 0 t) 0 [] (w .sound) (w .formed) (apart-clear [] (entries t) a) (omega arith))
     ∙ ap Valid (let e : 0 + length (items 0 t) ≡ length (entries t) = omega arith in e)
 
--- 17 at the entry i: it and those before it are well formed, none of those before it are in conflict, and one of them is in conflict with it
-pub record ClashAt (limit : ℕ) (t : List ℕ) (i : ℕ) : Type 0 where
-  pub before : List Entry
-  pub entry : Entry
-  pub after : List Entry
-  pub split : entries t ≡ before ++ (entry ∷ after)
-  pub index : length before ≡ i
-  pub few : i < limit
-  pub formed : Each Formed before
-  pub itself : Formed entry
-  pub apart : NoConflict before
-  pub place : ℕ
-  pub other : Entry
-  pub at-place : At before place other
-  pub conflict : Conflict other entry
-
 each-split : (P : Entry → Type 0) (a b : List Entry) (e : Entry) → Each P (a ++ (e ∷ b)) → Each P a × P e
 each-split P [] b e p = (tt, p .0)
 each-split P (x ∷ a) b e p = let r = each-split P a b e (p .1) in ((p .0, r .0), r .1)
@@ -274,7 +251,7 @@ FieldsOf e = Fields (e .selector)
 fields-split : (t : List ℕ) (a b : List Entry) (e : Entry) → Octets t → entries t ≡ a ++ (e ∷ b) → Each FieldsOf a × FieldsOf e
 fields-split t a b e o q = each-split FieldsOf a b e (subst (Each FieldsOf) q (entries-fields t o))
 
-pub refused-clash : (limit i : ℕ) (t : List ℕ) → Octets t → loaded limit t ≡ Refused 17 i → ClashAt limit t i
+pub refused-clash : RefusedClash
 unfolding loaded
 refused-clash limit i t o e =
     let p = stops-parts limit (from-stops limit (items 0 t) 0 i [] e) (omega arith) in
@@ -297,7 +274,7 @@ refused-clash limit i t o e =
       conflict = clash-conflict (h .1) (p .entry) (each-at FieldsOf (f .0) (h .2)) (f .1) (h .3);
     }
 
-pub clash-refused : (limit i : ℕ) (t : List ℕ) → Octets t → ClashAt limit t i → loaded limit t ≡ Refused 17 i
+pub clash-refused : ClashRefused
 unfolding loaded
 clash-refused limit i t o c =
     let f = fields-split t (c .before) (c .after) (c .entry) o (c .split) in
@@ -309,19 +286,7 @@ clash-refused limit i t o c =
     (in-clashing (c .entry) (c .at-place) (conflict-clash (c .other) (c .entry) (c .conflict))))
     ∙ ap (Refused 17) (let e : 0 + length (c .before) ≡ i = omega arith in e)
 
--- "two entries both match while they share SendID or share RecvID"
-pub record Conflicting (l : List Entry) : Type 0 where
-  pub earlier : ℕ
-  pub later : ℕ
-  pub one : Entry
-  pub two : Entry
-  pub at-earlier : At l earlier one
-  pub at-later : At l later two
-  pub order : earlier < later
-  pub conflict : Conflict one two
-
--- "a table otherwise well formed is refused with 17 exactly if a socket pair exists that two entries both match while they share SendID or share RecvID"
-pub refused-conflicting : (limit i : ℕ) (t : List ℕ) → Octets t → loaded limit t ≡ Refused 17 i → Conflicting (entries t)
+pub refused-conflicting : RefusedConflicting
 refused-conflicting limit i t o e =
     let c = refused-clash limit i t o e in
     let n = c .index in
@@ -337,7 +302,7 @@ refused-conflicting limit i t o e =
       conflict = c .conflict;
     }
 
-pub conflicting-refused : (limit : ℕ) (t : List ℕ) → WellFormed limit t → Conflicting (entries t) → (i : ℕ) × (loaded limit t ≡ Refused 17 i)
+pub conflicting-refused : ConflictingRefused
 unfolding loaded
 conflicting-refused limit t w c =
     let l = sound-length (items 0 t) (w .sound) in

@@ -6,7 +6,7 @@ use mathlib.Core.Path.{_≡_, refl, sym, _∙_}
 use mathlib.Core.List.{List, [], _∷_}
 use mathlib.Core.Logic.{_⊎_, inl, inr, ⊎-elim}
 use native.Mathlib.Omega.{arith}
-use lib.ListN.{length, getD}
+use lib.ListN.{length}
 use lib.Dec.{leb, eqb}
 use borrow.Author.Tests.{eq-eqb, eqb-true, le-leb, leb-true, leb-false}
 use Rattle.octets.specs.Each.{Octets}
@@ -14,6 +14,7 @@ use Rattle.wire.specs.Prefix.{agree}
 use Rattle.wire.specs.PrefixLaws.{agree-refl, agree-sym, agree-meet}
 use Rattle.keys.specs.Entry.{width}
 use Rattle.keys.specs.Match.{every, fixed, holding, holds, matching, matches, sameness, samePair, meeting, meet, overlapping, overlap, share, clash}
+pub use Rattle.keys.specs.Clash.{Family, IsPair, Conflict}
 use Rattle.keys.specs.declared.entry.Side.{Side}
 use Rattle.keys.specs.declared.entry.Selector.{Selector}
 use Rattle.keys.specs.declared.entry.Ids.{Ids}
@@ -42,19 +43,6 @@ or-true false b e = inr e
 pub and-true : (a b : Bool) → (a && b) ≡ true → (a ≡ true) × (b ≡ true)
 and-true true b e = (refl, e)
 and-true false b e = let z : _≡_ {A = ℕ} 0 1 = cc in absurd (omega arith)
-
-abbrev pub Family : ℕ → Type 0
-Family f = (f ≡ 4) ⊎ (f ≡ 6)
-
--- a socket pair: its family is IPv4 or IPv6, ports are below 65,536, and an address is the first four or all sixteen bytes of its field
-pub record IsPair (p : Pair) : Type 0 where
-  pub family : Family (p .family)
-  pub local-port : p .«local_port» < 65536
-  pub remote-port : p .«remote_port» < 65536
-  pub local-length : length (p .local) ≡ 16
-  pub remote-length : length (p .remote) ≡ 16
-  pub local-octets : Octets (p .local)
-  pub remote-octets : Octets (p .remote)
 
 -- what the fields of an entry are, whatever bytes it was read from
 pub record SideFields (s : Side) : Type 0 where
@@ -192,14 +180,6 @@ module _ (s r : Selector) where
       )
 
 -- entries
-
--- "a socket pair exists that two entries both match while they share SendID or share RecvID"
-pub record Conflict (e f : Entry) : Type 0 where
-  pub pair : Pair
-  pub is-pair : IsPair pair
-  pub first : matches (e .selector) pair ≡ true
-  pub second : matches (f .selector) pair ≡ true
-  pub shared : (e .ids .send ≡ f .ids .send) ⊎ (e .ids .recv ≡ f .ids .recv)
 
 share-is : (a b : Ids) → share a b ≡ true → (a .send ≡ b .send) ⊎ (a .recv ≡ b .recv)
 unfolding share

@@ -8,16 +8,12 @@ use native.Mathlib.Omega.{arith}
 use lib.ListN.{length}
 use lib.Seq.{append-snoc}
 use Rattle.octets.specs.Each.{Each}
+use Rattle.keys.specs.Places.{At, here, there}
+use Rattle.keys.specs.Clash.{Conflict, NoConflict}
 use Rattle.keys.specs.Match.{clash}
-use Rattle.keys.specs.MatchLaws.{Fields, Conflict, clash-conflict, conflict-clash}
+use Rattle.keys.specs.MatchLaws.{Fields, clash-conflict, conflict-clash}
 use Rattle.keys.specs.Table.{clashing}
 use Rattle.keys.specs.declared.entry.Entry.{Entry}
-
--- places in a list of entries, counted from 0
-
-pub data At : List Entry → ℕ → Entry → Type 0 where
-  here : {e : Entry} {l : List Entry} → At (e ∷ l) 0 e
-  there : {e f : Entry} {l : List Entry} {i : ℕ} → At l i e → At (f ∷ l) (suc i) e
 
 pub each-at : (P : Entry → Type 0) {l : List Entry} {i : ℕ} {e : Entry} → Each P l → At l i e → P e
 each-at P p here = p .0
@@ -106,10 +102,6 @@ apart-at a here here h = absurd (omega arith)
 apart-at a (here {e} {l}) (there q) h = each-at (λ g. clash e g ≡ false) (a .0) q
 apart-at a (there p) here h = absurd (omega arith)
 apart-at a (there p) (there q) h = apart-at (a .1) p q (omega arith)
-
--- "a socket pair exists that two entries both match while they share SendID or share RecvID": there is none in the list
-abbrev pub NoConflict : List Entry → Type 0
-NoConflict l = (j k : ℕ) (e f : Entry) → At l j e → At l k f → j < k → Conflict e f → ⊥
 
 pub apart-no-conflict : (l : List Entry) → Apart l → NoConflict l
 apart-no-conflict l a j k e f p q h c = let z : _≡_ {A = ℕ} 0 1 = cc (conflict-clash e f c, apart-at a p q h) in omega arith

@@ -15,11 +15,14 @@ use Rattle.keys.specs.Algorithm.{macBytes}
 use Rattle.keys.specs.Entry.{width, entries}
 use Rattle.keys.specs.EntryLaws.{Shape, entries-shape}
 use Rattle.keys.specs.Match.{matches, clash}
-use Rattle.keys.specs.MatchLaws.{and-true, Family, clash-of}
+use Rattle.keys.specs.MatchLaws.{and-true, clash-of}
 use Rattle.keys.specs.Table.{zeros, ValidTable, nobody, found, anyOf, hasId, answers, sendEntry, recvEntry, anyEntry, maxEntries}
-use Rattle.keys.specs.FaultLaws.{Formed}
-use Rattle.keys.specs.PlaceLaws.{At, here, there, each-at, Apart, apart-at}
+use Rattle.keys.specs.Clash.{Family, Formed}
+use Rattle.keys.specs.PlaceLaws.{each-at, Apart, apart-at}
+use Rattle.keys.specs.Places.{At, here, there}
 use Rattle.keys.specs.LoadLaws.{valid-formed}
+pub use Rattle.keys.specs.Search.{hit, Named}
+use Rattle.keys.specs.Search.{AnswerUnique, SendFound, RecvFound}
 use Rattle.keys.specs.declared.entry.Ids.{Ids}
 use Rattle.keys.specs.declared.entry.Entry.{Entry}
 use Rattle.keys.specs.declared.entry.Pair.{Pair}
@@ -28,9 +31,6 @@ use Rattle.keys.specs.declared.table.By.the-variants.{Any, Send, Recv}
 use Rattle.keys.specs.declared.table.Found.{Found}
 
 -- any list of entries
-
-abbrev pub hit : ℕ → Entry → Found
-hit i e = record { there = true; index = i; entry = e }
 
 module _ (test : Entry → Bool) where
   -- the only entry that passes the test is found
@@ -90,11 +90,6 @@ module _ (test : Entry → Bool) where
 
 -- searches by an ID
 
-abbrev pub Named : By → Type 0
-Named Any = ⊥
-Named (Send id) = Unit {0}
-Named (Recv id) = Unit {0}
-
 pub answers-parts : (by : By) (p : Pair) (e : Entry) → answers by p e ≡ true → (hasId by (e .ids) ≡ true) × (matches (e .selector) p ≡ true)
 unfolding answers
 answers-parts by p e h = and-true (hasId by (e .ids)) (matches (e .selector) p) h
@@ -114,10 +109,8 @@ both-clash by p e f n h k =
     let b = answers-parts by p f k in
     clash-of e f p (a .1) (b .1) (same-id by n (e .ids) (f .ids) (a .0) (b .0))
 
--- in a valid table at most one entry answers a pair and a SendID, and at most one a pair and a RecvID
-pub answer-unique : (t : List ℕ) (by : By) (p : Pair) {i j : ℕ} {e f : Entry} → ValidTable t → Named by → At (entries t) i e → At (entries t) j f
-    → answers by p e ≡ true → answers by p f ≡ true → i ≡ j
-answer-unique t by p {i} {j} {e} {f} v n a b h k = go (ltb i j) (ltb j i) refl refl
+pub answer-unique : AnswerUnique
+answer-unique t by p i j e f v n a b h k = go (ltb i j) (ltb j i) refl refl
   where
     apart : Apart (entries t)
     apart = valid-formed maxEntries (v .0) t (v .1) .2
@@ -128,15 +121,16 @@ answer-unique t by p {i} {j} {e} {f} v n a b h k = go (ltb i j) (ltb j i) refl r
     go false false q r = let u = ltb-false i j q in let w = ltb-false j i r in omega arith
 
 -- so a search of a valid table finds the entry that answers
-pub answer-found : (t : List ℕ) (by : By) (p : Pair) {i : ℕ} {e : Entry} → ValidTable t → Named by → At (entries t) i e → answers by p e ≡ true → found (answers by p) 0 (entries t) ≡ hit i e
+pub answer-found : (t : List ℕ) (by : By) (p : Pair) {i : ℕ} {e : Entry} → ValidTable t → Named by → At (entries t) i e → answers by p e ≡ true
+    → found (answers by p) 0 (entries t) ≡ hit i e
 answer-found t by p {i} {e} v n a h =
-    found-only (answers by p) 0 a h (λ j f b k. answer-unique t by p v n b a k h) ∙ ap (λ (m : ℕ). hit m e) (let z : 0 + i ≡ i = omega arith in z)
+    found-only (answers by p) 0 a h (λ j f b k. answer-unique t by p j i f e v n b a k h) ∙ ap (λ (m : ℕ). hit m e) (let z : 0 + i ≡ i = omega arith in z)
 
-pub send-found : (t : List ℕ) (p : Pair) (id : ℕ) {i : ℕ} {e : Entry} → ValidTable t → At (entries t) i e → matches (e .selector) p ≡ true → e .ids .send ≡ id → sendEntry t p id ≡ hit i e
-send-found t p id {i} {e} v a m s = answer-found t (Send id) p v tt a (answers-of (Send id) p e (eq-eqb (e .ids .send) id s) m)
+pub send-found : SendFound
+send-found t p id i e v a m s = answer-found t (Send id) p v tt a (answers-of (Send id) p e (eq-eqb (e .ids .send) id s) m)
 
-pub recv-found : (t : List ℕ) (p : Pair) (id : ℕ) {i : ℕ} {e : Entry} → ValidTable t → At (entries t) i e → matches (e .selector) p ≡ true → e .ids .recv ≡ id → recvEntry t p id ≡ hit i e
-recv-found t p id {i} {e} v a m s = answer-found t (Recv id) p v tt a (answers-of (Recv id) p e (eq-eqb (e .ids .recv) id s) m)
+pub recv-found : RecvFound
+recv-found t p id i e v a m s = answer-found t (Recv id) p v tt a (answers-of (Recv id) p e (eq-eqb (e .ids .recv) id s) m)
 
 -- what a search finds, in any table
 

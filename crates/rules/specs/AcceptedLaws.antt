@@ -14,10 +14,11 @@ use Rattle.keys.specs.declared.entry.Entry.{Entry}
 use Rattle.keys.specs.Entry.{isFamily, width, padded, entries}
 use Rattle.keys.specs.EntryLaws.{width-le}
 use Rattle.keys.specs.MatchLaws.{and-true}
-use Rattle.keys.specs.PlaceLaws.{At as EntryAt}
+use Rattle.keys.specs.Places.{At as EntryAt}
 use Rattle.keys.specs.Mirror.{Mirror}
 use Rattle.keys.specs.Table.{Tables, ValidTable, recvEntry}
-use Rattle.keys.specs.SearchLaws.{hit, recv-found, send-holder}
+use Rattle.keys.specs.SearchLaws.{recv-found, send-holder}
+use Rattle.keys.specs.Search.{hit}
 use Rattle.rules.specs.declared.Place.{Place}
 use Rattle.rules.specs.declared.Place.the-variants.{At}
 use Rattle.rules.specs.declared.Outcome.the-variants.{Good}
@@ -28,13 +29,15 @@ use Rattle.rules.specs.PositionLaws.{complete, sound}
 use Rattle.octets.specs.TestLaws.{NoneApplies, none-append}
 use Rattle.rules.specs.GroupLaws.{first-clear}
 use Rattle.rules.specs.Segment.{keyId, isBareSyn}
-use Rattle.rules.specs.Connection.{sized, Arrival, localAddress, remoteAddress, arrivalPair, isOpen, arriving, arrivingSyn, leaving, placeOn, value, extensionOf}
-use Rattle.rules.specs.Calls.{refuse, familyTests, addressTests, tableTests, inputTests, pairTests, stageTests, keyTests, macTests, judgeGroups, check, synMissing, synUnknown, synGroups, checkSyn}
+use Rattle.rules.specs.Connection.{sized, Arrival, localAddress, remoteAddress, arrivalPair, isOpen, arriving, arrivingSyn, leaving}
+use Rattle.rules.specs.Connection.{placeOn, value, extensionOf}
+use Rattle.rules.specs.Calls.{refuse, familyTests, addressTests, tableTests, inputTests, pairTests, stageTests, keyTests, macTests}
+use Rattle.rules.specs.Calls.{judgeGroups, check, synMissing, synUnknown, synGroups, checkSyn}
 use Rattle.rules.specs.Ends.{Typed, Allowed, Facing, OtherEnd, SignedAt, TrueSegment}
 use Rattle.rules.specs.Demand3.{Within}
-use Rattle.rules.specs.RoundTrip.{Arrived}
-use Rattle.rules.specs.Delivery.{signs, mac, segment, reads}
-use Rattle.rules.specs.Acceptance.{sequence-below, agree-of, syn-at, none-20, none-21, none-10, keyed}
+use Rattle.rules.specs.RoundTripLaws.{Arrived}
+use Rattle.rules.specs.DeliveryLaws.{signs, mac, segment, reads}
+use Rattle.rules.specs.AcceptanceLaws.{sequence-below, agree-of, syn-at, none-20, none-21, none-10, keyed}
 
 -- the addresses of a pair are of one size
 address-length : (f : ℕ) (a : List ℕ) → length a ≡ 16 → length (take (width f) a) ≡ width f
@@ -79,7 +82,7 @@ module _ (q : State) (e : Entry) (x : ℕ) (b : List ℕ) (g : SignedAt q e x b)
       ∙ ap (λ (f : Entry). f .ids .send) (g .under) ∙ sym (mirror .received)
 
   found : recvEntry t (l .pair) (keyId came) ≡ hit i ours
-  found = recv-found t (l .pair) (keyId came) valid among (mirror .here) (sym its-key)
+  found = recv-found t (l .pair) (keyId came) i ours valid among (mirror .here) (sym its-key)
 
   -- accepted at a place of the same extension, if the stage is right and the flow is the sender's
   accepted : (reference y : ℕ) → cond (isOpen l) (isBareSyn came) (not (syn came && ack came)) ≡ false → arriving l came ≡ leaving (q .conn)
@@ -229,7 +232,7 @@ module _ (q : State) (typed : Typed q) (opening : isOpen (q .conn) ≡ false) (e
 
     pub syn-found : recvEntry t (arrivalPair synArrival) (keyId syn-came) ≡ hit i ours
     syn-found =
-        recv-found t (arrivalPair synArrival) (keyId syn-came) valid among (mirror .here)
+        recv-found t (arrivalPair synArrival) (keyId syn-came) i ours valid among (mirror .here)
         (mirror .received ∙ ap (λ (f : Entry). f .ids .send) (sym (g .under)) ∙ send-holder (g .table) (q .conn .pair) (q .«send_id») (signs q e x b g .entry) .1 ∙ sym (syn-read .reads .key))
 
     pub syn-accepted : checkSyn t synArrival strict ≡ Good (q .conn .isn) (q .«ask_id»)

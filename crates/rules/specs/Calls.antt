@@ -32,10 +32,10 @@ use Rattle.rules.specs.declared.Done.the-variants as D
 use Rattle.rules.specs.declared.Settled.{Settled}
 use Rattle.octets.specs.Tests.{Test, test, tests, joined, first}
 use Rattle.rules.specs.Mac.{Flow, segmentMac}
-use Rattle.rules.specs.Segment.{malformed, ao, md5, aoAt, keyId, rnextKeyId, macIn, isBareSyn, signedWith}
-use Rattle.rules.specs.Connection.{sized, pairOf, Arrival, arrivalPair, localAddress, remoteAddress, isOpen}
-use Rattle.rules.specs.Connection.{arriving, leaving, arrivingSyn, placeOn, located, value, extensionOf, nextKey}
-use Rattle.rules.specs.Connection.{opened, opening, empty, withAccepted, withDrop, withSent, withAsked}
+use Rattle.rules.specs.Segment.{malformed, ao, md5, aoAt, keyId, rnextKeyId, macIn, isBareSyn, optionBytes, signedWith}
+use Rattle.rules.specs.Connection.{sized, pairOf, Arrival, arrivalPair, localAddress, remoteAddress, isOpen, arriving, leaving}
+use Rattle.rules.specs.Connection.{arrivingSyn, placeOn, located, value, extensionOf, nextKey, opened, opening, empty, withAccepted}
+use Rattle.rules.specs.Connection.{withDrop, withSent, withAsked}
 
 abbrev pub refuse : ℕ → Outcome
 refuse n = Bad n 0
@@ -157,8 +157,8 @@ unfoldable pub check : Tables → Connection → ℕ → Arrival → Outcome
 check t l reference a =
     first (judgeTests t l reference a) (Good (value (placeOn l reference (sequence (a .segment)))) (rnextKeyId (a .segment)))
 
--- a bare SYN, without a state. "Bare SYN without TCP-AO: 25 if any entry matches the pair, otherwise pass. Bare SYN with TCP-AO: the entry
--- is found by pair and KeyID = RecvID. If there is none, a setting decides: pass (the RFC's first default) or drop 26."
+-- a bare SYN, without a state. "Bare SYN without TCP-AO: 25 if any entry matches the pair, otherwise pass. Bare SYN with TCP-AO: the
+-- entry is found by pair and KeyID = RecvID. If there is none, a setting decides: pass (the RFC's first default) or drop 26."
 abbrev pub synMissing : Tables → Pair → Outcome
 synMissing t p = cond (anyEntry t p) (refuse 25) Passed
 
@@ -262,10 +262,10 @@ asked t id q = settledBy (first (askTests t id (q .conn)) unrefused) q (withAske
 
 -- Signing. No test of it gives pass.
 
--- the bytes that TCP-AO adds: 4 and the entry's MAC bytes, which makes 16. Both algorithms add as many, so 32 is given as document 01 says
--- also where no entry is found and 35 would follow
+-- the bytes that TCP-AO adds: 4 and the entry's MAC bytes, which makes 16. Both algorithms add as many, so 32 is given as document 01
+-- says also where no entry is found and 35 would follow
 abbrev pub addedBytes : Found → ℕ
-addedBytes found = 4 + cond (found .there) (found .entry .secret .«mac_bytes») (macBytes 1)
+addedBytes found = optionBytes (cond (found .there) (found .entry .secret .«mac_bytes») (macBytes 1))
 
 -- 31: "malformed, or TCP-AO or MD5 present"
 abbrev pub freshTests : List ℕ → List (Test Outcome)

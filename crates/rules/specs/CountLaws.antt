@@ -16,7 +16,8 @@ use Rattle.rules.specs.declared.Place.the-variants.{At, Nowhere}
 use Rattle.rules.specs.declared.Verdict.{Verdict}
 use Rattle.rules.specs.declared.Verdict.the-variants.{Accept, Drop}
 use Rattle.rules.specs.declared.State.{State}
-use Rattle.rules.specs.Connection.{located, value, stop, bump, countedNumbers, slots, later, placeIn, slot, isCounted, countAt, countDrop, withAccepted, withDrop}
+use Rattle.rules.specs.Connection.{located, value, stop, bump, countedNumbers, slots, later, placeIn, slot, isCounted, countAt}
+use Rattle.rules.specs.Connection.{countDrop, withAccepted, withDrop}
 use Rattle.rules.specs.Demand3.{sum}
 use Rattle.rules.specs.History.{accepts, drops, countedDrops, dropCount}
 

@@ -1,151 +1,79 @@
--- Demand 2, of the definitions: "What one end signs, the other end accepts intact if it holds the mirrored key in a valid table, stands at the
+-- Demand 2, as statements: "What one end signs, the other end accepts intact if it holds the mirrored key in a valid table, stands at the
 -- stage for such a segment and, once open, has a reference less than 2^31 from the true 64-bit position."
--- One theorem for each way that a segment can go, for the signed bytes with any checksum in them, about what the calls return; then the three
--- steps of an opening.
-use Prim.Native.Nat.{ℕ, _/_, _^_, _<_}
-use mathlib.Core.Path.{_≡_, refl, ap, sym, _∙_, subst⁻¹, subst₂}
+-- One statement for each way that a segment can go, for the signed bytes with any checksum in them, about what the calls return; then the
+-- three steps of an opening. Demand2Laws proves them.
+use Prim.Native.Nat.{ℕ}
+use mathlib.Core.Path.{_≡_}
 use mathlib.Core.Bool.{Bool, true, false}
 use mathlib.Core.List.{List}
-use native.Mathlib.Omega.{arith}
 use Rattle.wire.specs.Header.{syn}
 use Rattle.keys.specs.declared.entry.Entry.{Entry}
-use Rattle.keys.specs.declared.table.Found.{Found}
-use Rattle.keys.specs.Entry.{isFamily}
-use Rattle.keys.specs.Mirror.{Mirror}
-use Rattle.keys.specs.Table.{Tables, recvEntry}
-use Rattle.rules.specs.declared.Outcome.{Outcome}
-use Rattle.rules.specs.declared.Outcome.the-variants.{Good}
+use Rattle.keys.specs.declared.entry.Pair.{Pair}
+use Rattle.keys.specs.Table.{Tables}
 use Rattle.rules.specs.declared.Verdict.the-variants.{Accept}
-use Rattle.rules.specs.declared.Connection.{Connection}
 use Rattle.rules.specs.declared.State.{State}
-use Rattle.rules.specs.declared.Judged.{Judged}
-use Rattle.rules.specs.Segment.{keyId}
-use Rattle.rules.specs.Connection.{Arrival, localAddress, remoteAddress, arrivalPair, isOpen, extensionOf, nextKey, opened, withAccepted}
-use Rattle.rules.specs.Calls.{check, checkSyn, verdictOf, indexOf, judgedBy, judged, judgedSyn, openedBy, openedPassively}
-use Rattle.rules.specs.Ends.{Typed, Allowed, Facing, OtherEnd, Delivered, SignedAt, Holds, rechecked}
+use Rattle.rules.specs.Connection.{Arrival, localAddress, remoteAddress, arrivalPair, isOpen, extensionOf, nextKey, opened}
+use Rattle.rules.specs.Connection.{withAccepted}
+use Rattle.rules.specs.Calls.{judged, judgedSyn, openedPassively}
+use Rattle.rules.specs.Ends.{Typed, Allowed, Facing, OtherEnd, Delivered, SignedAt, Holds}
 use Rattle.rules.specs.Demand3.{Within}
-use Rattle.rules.specs.Delivery.{signs}
-use Rattle.rules.specs.AcceptedLaws.{open-accepted, syn-ack-accepted, syn-facing, syn-found, syn-accepted}
 
--- an arrival is what was delivered
-came : {source destination bytes : List ℕ} (a : Arrival) (v : Delivered source destination bytes a)
-    → a ≡ record { source = source; destination = destination; segment = rechecked (v .high) (v .low) bytes }
-came a v = λ j. record { source = v .from j; destination = v .to j; segment = v .segment j }
+-- bytes that come to the end that holds the pair p, from its remote side; and from the end that holds it, from its local side
+abbrev pub Coming : Pair → List ℕ → Arrival → Type 0
+Coming p b a = Delivered (remoteAddress p) (localAddress p) b a
 
-low-extension : (n : ℕ) → n < 2 ^ 32 → n / 2 ^ 32 ≡ 0
-low-extension n h = omega arith
+abbrev pub Going : Pair → List ℕ → Arrival → Type 0
+Going p b a = Delivered (localAddress p) (remoteAddress p) b a
 
--- what the call returns where its tests come to Good, by the receiver's stage
-judged-open : (t : Tables) (p : State) (a : Arrival) (x r : ℕ) → isOpen (p .conn) ≡ true → check t (p .conn) (p .seen) a ≡ Good x r
-    → judged t a p ≡ record { verdict = Accept (extensionOf x); index = 0; state = withAccepted x (nextKey t (p .conn .pair) r (p .«send_id»)) p }
-unfolding judged
-judged-open t p a x r opens e = ap (judgedBy t p) e ∙ rw opens
+-- Once open: accepted with the sender's extension. The reference becomes the larger, the key rule applies, and one acceptance more is
+-- counted.
+abbrev pub OpenSegment : Type 0
+OpenSegment = (q : State) (e : Entry) (x : ℕ) (b : List ℕ) (a : Arrival) (t : Tables) (p : State)
+    → Typed q → Typed p → Allowed (p .conn) → OtherEnd (p .conn) (q .conn)
+    → SignedAt q e x b → Coming (p .conn .pair) b a → Holds t (p .conn .pair) (q .conn .pair) e → Within (p .seen) x
+    → judged t a p ≡ record {
+      verdict = Accept (extensionOf x);
+      index = 0;
+      state = withAccepted x (nextKey t (p .conn .pair) (q .«ask_id») (p .«send_id»)) p;
+    }
 
-judged-opening : (t : Tables) (p : State) (a : Arrival) (x r : ℕ) → isOpen (p .conn) ≡ false → check t (p .conn) (p .seen) a ≡ Good x r
-    → judged t a p ≡ record { verdict = Accept (extensionOf x); index = 0; state = opened (p .conn .pair) (p .conn .isn) x (nextKey t (p .conn .pair) r (p .«send_id»)) (p .«ask_id») }
-unfolding judged
-judged-opening t p a x r opening e = ap (judgedBy t p) e ∙ rw opening
-
--- Once open: accepted with the sender's extension. The reference becomes the larger, the key rule applies, and one acceptance more is counted.
-pub open-segment : (q : State) (e : Entry) (x : ℕ) (b : List ℕ) (a : Arrival) (t : Tables) (p : State) → Typed q → Typed p → Allowed (p .conn) → OtherEnd (p .conn) (q .conn)
-    → SignedAt q e x b → Delivered (remoteAddress (p .conn .pair)) (localAddress (p .conn .pair)) b a
-    → Holds t (p .conn .pair) (q .conn .pair) e → Within (p .seen) x
-    → judged t a p ≡ record { verdict = Accept (extensionOf x); index = 0; state = withAccepted x (nextKey t (p .conn .pair) (q .«ask_id») (p .«send_id»)) p }
-open-segment q e x b a t p tq tp allowed other g v h near =
-    judged-open t p a x (q .«ask_id») (other .here)
-    (ap (check t (p .conn) (p .seen)) (came a v)
-    ∙ open-accepted q e x b g (v .high) (v .low) t (h .valid) (p .conn) allowed (tp .local) (tp .remote) (other .pair) (h .place) (h .ours) (h .among) (h .mirror) tq other (p .seen) near)
-
--- The SYN+ACK of an open end: it opens the end that is opening, whatever else that state holds, with extension 0; "Opening sets each reference to
--- that side's ISN", the counts are 0, and the key rule applies.
-pub syn-ack : (q : State) (e : Entry) (x : ℕ) (b : List ℕ) (a : Arrival) (t : Tables) (p : State) → Typed q → Typed p → Allowed (p .conn)
+-- The SYN+ACK of an open end: it opens the end that is opening, whatever else that state holds, with extension 0; "Opening sets each
+-- reference to that side's ISN", the counts are 0, and the key rule applies.
+abbrev pub SynAck : Type 0
+SynAck = (q : State) (e : Entry) (x : ℕ) (b : List ℕ) (a : Arrival) (t : Tables) (p : State) → Typed q → Typed p → Allowed (p .conn)
     → isOpen (q .conn) ≡ true → isOpen (p .conn) ≡ false → Facing (p .conn .pair) (q .conn .pair) → p .conn .isn ≡ q .conn .«peer_isn»
-    → (g : SignedAt q e x b) → syn (g .unsigned) ≡ true → Delivered (remoteAddress (p .conn .pair)) (localAddress (p .conn .pair)) b a
-    → Holds t (p .conn .pair) (q .conn .pair) e
-    → judged t a p ≡ record
-    { verdict = Accept 0; index = 0; state = opened (p .conn .pair) (p .conn .isn) (q .conn .isn) (nextKey t (p .conn .pair) (q .«ask_id») (p .«send_id»)) (p .«ask_id») }
-syn-ack q e x b a t p tq tp allowed there here facing isn g its-syn v h =
-    judged-opening t p a (q .conn .isn) (q .«ask_id») here
-    (ap (check t (p .conn) (p .seen)) (came a v)
-    ∙ syn-ack-accepted q e x b g (v .high) (v .low) t (h .valid) (p .conn) allowed (tp .local) (tp .remote) facing (h .place) (h .ours) (h .among) (h .mirror) tq there here isn its-syn (p .seen))
-    ∙ (λ j. record {
-      verdict = Accept (low-extension (q .conn .isn) (tq .isn) j);
+    → (g : SignedAt q e x b) → syn (g .unsigned) ≡ true → Coming (p .conn .pair) b a → Holds t (p .conn .pair) (q .conn .pair) e
+    → judged t a p ≡ record {
+      verdict = Accept 0;
       index = 0;
       state = opened (p .conn .pair) (p .conn .isn) (q .conn .isn) (nextKey t (p .conn .pair) (q .«ask_id») (p .«send_id»)) (p .«ask_id»);
-    })
+    }
 
--- The bare SYN of an opening end: accepted with extension 0 by the call without a state, and by the passive opening, which opens with the entry
--- found.
-module _ (q : State) (e : Entry) (x : ℕ) (b : List ℕ) (a : Arrival) (t : Tables) (typed : Typed q) (opening : isOpen (q .conn) ≡ false) (g : SignedAt q e x b)
-    (v : Delivered (localAddress (q .conn .pair)) (remoteAddress (q .conn .pair)) b a)
-    (h : Holds t (arrivalPair a) (q .conn .pair) e) (strict : Bool) where
-  syn-good : (checkSyn t a strict ≡ Good (q .conn .isn) (q .«ask_id»)) × (recvEntry t (arrivalPair a) (keyId (a .segment)) .entry ≡ h .ours)
-  syn-good =
-      subst⁻¹ (λ (z : Arrival). Mirror (arrivalPair z) (q .conn .pair) (h .ours) e
-      → (checkSyn t z strict ≡ Good (q .conn .isn) (q .«ask_id»)) × (recvEntry t (arrivalPair z) (keyId (z .segment)) .entry ≡ h .ours))
-      (came a v)
-      (λ m. (
-        syn-accepted q typed opening e x b g (v .high) (v .low) t (h .valid) strict (h .place) (h .ours) (h .among) m,
-        ap (λ (f : Found). f .entry) (syn-found q typed opening e x b g (v .high) (v .low) t (h .valid) strict (h .place) (h .ours) (h .among) m),
-      ))
-      (h .mirror)
+-- The bare SYN of an opening end: accepted with extension 0 by the call without a state,
+abbrev pub BareSyn : Type 0
+BareSyn = (q : State) (e : Entry) (x : ℕ) (b : List ℕ) (a : Arrival) (t : Tables) → Typed q → isOpen (q .conn) ≡ false
+    → SignedAt q e x b → Going (q .conn .pair) b a → Holds t (arrivalPair a) (q .conn .pair) e → (strict : Bool)
+    → judgedSyn t a strict ≡ record { verdict = Accept 0; index = 0 }
 
-  pub bare-syn : judgedSyn t a strict ≡ record { verdict = Accept 0; index = 0 }
-  unfolding judgedSyn
-  bare-syn =
-      ap (λ (o : Outcome). record { verdict = verdictOf o; index = indexOf o }) (syn-good .0)
-      ∙ ap (λ (n : ℕ). record { verdict = Accept n; index = 0 }) (low-extension (q .conn .isn) (typed .isn))
+-- and by the passive opening, which opens with the entry found.
+abbrev pub BareSynOpens : Type 0
+BareSynOpens = (q : State) (e : Entry) (x : ℕ) (b : List ℕ) (a : Arrival) (t : Tables) → Typed q → isOpen (q .conn) ≡ false
+    → SignedAt q e x b → Going (q .conn .pair) b a → (h : Holds t (arrivalPair a) (q .conn .pair) e) → (strict : Bool) (isn : ℕ)
+    → openedPassively t a isn strict ≡ record {
+      verdict = Accept 0;
+      index = 0;
+      state =
+          opened (arrivalPair a) isn (q .conn .isn) (nextKey t (arrivalPair a) (q .«ask_id») (h .ours .ids .send)) (h .ours .ids .recv);
+    }
 
-  pub bare-syn-opens : (isn : ℕ)
-      → openedPassively t a isn strict ≡ record
-      { verdict = Accept 0; index = 0; state = opened (arrivalPair a) isn (q .conn .isn) (nextKey t (arrivalPair a) (q .«ask_id») (h .ours .ids .send)) (h .ours .ids .recv) }
-  unfolding openedPassively
-  bare-syn-opens isn =
-      (λ j. record {
-        verdict = verdictOf (syn-good .0 j);
-        index = indexOf (syn-good .0 j);
-        state = openedBy t (arrivalPair a) isn (syn-good .1 j) (syn-good .0 j);
-      })
-      ∙ (λ j. record {
-        verdict = Accept (low-extension (q .conn .isn) (typed .isn) j);
-        index = 0;
-        state = opened (arrivalPair a) isn (q .conn .isn) (nextKey t (arrivalPair a) (q .«ask_id») (h .ours .ids .send)) (h .ours .ids .recv);
-      })
-
--- The three steps of an opening: one end signs a bare SYN while opening, the other opens passively on it and signs a SYN+ACK, and the first end judges
--- that. Between these the calls of each end may change anything but what its connection is. Then both are open on one connection, each the other's other end.
-module _ (active : State) (e : Entry) (x : ℕ) (b : List ℕ) (a : Arrival) (t : Tables) (typed : Typed active) (opening : isOpen (active .conn) ≡ false)
-    (g : SignedAt active e x b) (v : Delivered (localAddress (active .conn .pair)) (remoteAddress (active .conn .pair)) b a)
-    (h : Holds t (arrivalPair a) (active .conn .pair) e) (strict : Bool) (isn : ℕ) where
-  abbrev passiveConnection : Connection
-  passiveConnection = openedPassively t a isn strict .state .conn
-
-  passive-conn : passiveConnection ≡ record { stage = 1; pair = arrivalPair a; isn = isn; «peer_isn» = active .conn .isn }
-  passive-conn = ap (λ (r : Judged). r .state .conn) (bare-syn-opens active e x b a t typed opening g v h strict isn)
-
-  facing : Facing (active .conn .pair) (arrivalPair a)
-  facing = subst⁻¹ (λ (z : Arrival). Facing (active .conn .pair) (arrivalPair z)) (came a v) (syn-facing active typed opening e x b g (v .high) (v .low))
-
-  pub opened-together : (passive : State) (f : Entry) (y : ℕ) (c : List ℕ) (r : Arrival) (u : List ℕ) (now : State) → Typed passive → Typed now
-      → passive .conn ≡ passiveConnection → now .conn ≡ active .conn
-      → (k : SignedAt passive f y c) → syn (k .unsigned) ≡ true
-      → Delivered (remoteAddress (now .conn .pair)) (localAddress (now .conn .pair)) c r
-      → Holds u (now .conn .pair) (passive .conn .pair) f
-      → OtherEnd (judged u r now .state .conn) (passive .conn)
-  opened-together passive f y c r u now tp tn at-passive at-now k its-syn w j =
-      subst⁻¹ (λ (z : Judged). OtherEnd (z .state .conn) (passive .conn))
-      (syn-ack passive f y c r u now tp tn (ap (λ (l : Connection). isFamily (l .pair .family)) at-now ∙ signs active e x b g .allowed) there
-      (ap isOpen at-now ∙ opening) pairs isns k its-syn w j)
-      (record { here = refl; there = there; pair = pairs; isn = isns; peer = refl })
-    where
-      conn : passive .conn ≡ record { stage = 1; pair = arrivalPair a; isn = isn; «peer_isn» = active .conn .isn }
-      conn = at-passive ∙ passive-conn
-
-      there : isOpen (passive .conn) ≡ true
-      there = ap isOpen conn
-
-      pairs : Facing (now .conn .pair) (passive .conn .pair)
-      pairs = subst₂ (λ (l m : Connection). Facing (l .pair) (m .pair)) (sym at-now) (sym conn) facing
-
-      isns : now .conn .isn ≡ passive .conn .«peer_isn»
-      isns = ap (λ (l : Connection). l .isn) at-now ∙ ap (λ (l : Connection). l .«peer_isn») (sym conn)
+-- The three steps of an opening: one end signs a bare SYN while opening, the other opens passively on it and signs a SYN+ACK, and the
+-- first end judges that. Between these the calls of each end may change anything but what its connection is. Then both are open on one
+-- connection, each the other's other end.
+abbrev pub OpenedTogether : Type 0
+OpenedTogether = (active : State) (e : Entry) (x : ℕ) (b : List ℕ) (a : Arrival) (t : Tables) → Typed active → isOpen (active .conn) ≡ false
+    → SignedAt active e x b → Going (active .conn .pair) b a → Holds t (arrivalPair a) (active .conn .pair) e → (strict : Bool) (isn : ℕ)
+    → (passive : State) (f : Entry) (y : ℕ) (c : List ℕ) (r : Arrival) (u : Tables) (now : State) → Typed passive → Typed now
+    → passive .conn ≡ openedPassively t a isn strict .state .conn → now .conn ≡ active .conn
+    → (k : SignedAt passive f y c) → syn (k .unsigned) ≡ true → Coming (now .conn .pair) c r
+    → Holds u (now .conn .pair) (passive .conn .pair) f
+    → OtherEnd (judged u r now .state .conn) (passive .conn)

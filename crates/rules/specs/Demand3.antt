@@ -117,8 +117,8 @@ pub record Alike (q r : State) : Type 0 where
 abbrev pub after : (t : Tables) (q : State) → List (Arriving t (q .conn)) → State
 after t q l = judgeAll t q (map arrival l) .state
 
--- What the demand is given: "an open connection and a fixed valid key table", a state that 18 allows, and "The true positions lie less than
--- 2^31 from each other and from the starting reference."
+-- What the demand is given: "an open connection and a fixed valid key table", a state that 18 allows, and "The true positions lie less
+-- than 2^31 from each other and from the starting reference."
 pub record Given (t : Tables) (q : State) (l : List (Arriving t (q .conn))) : Type 0 where
   pub valid : ValidTable t
   pub typed : Typed q
@@ -142,3 +142,7 @@ pub record Demand3 (t : Tables) (q : State) (l : List (Arriving t (q .conn))) : 
   -- "two orders of the same arrivals then end alike": "A count's stop is looked for after the list; of two orders, after both."
   pub orders : (k : List Arrival) → List·Permᴰ (map arrival l) k → NoStop (after t q l) → NoStop (judgeAll t q k .state)
       → Alike (after t q l) (judgeAll t q k .state)
+
+-- "one claim about the whole list of arrivals judged on a connection"
+abbrev pub Demand3Holds : Type 0
+Demand3Holds = (t : Tables) (q : State) (l : List (Arriving t (q .conn))) → Given t q l → Demand3 t q l

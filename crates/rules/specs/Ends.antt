@@ -1,6 +1,6 @@
 -- The two ends of a connection, in document 01's words: the last section ("a true segment was signed at the other end ..", "an arrival
 -- verifies if ..", "a key is available if ..") and "Positions".
-use Prim.Native.Nat.{ℕ, _+_, _^_, _<_}
+use Prim.Native.Nat.{ℕ, _^_, _<_}
 use mathlib.Core.Path.{_≡_}
 use mathlib.Core.Bool.{true, false}
 use mathlib.Core.List.{List, _∷_, _++_}
@@ -11,7 +11,7 @@ use Rattle.keys.specs.declared.entry.Pair.{Pair}
 use Rattle.keys.specs.declared.entry.Entry.{Entry}
 use Rattle.keys.specs.Entry.{isFamily, entries}
 use Rattle.keys.specs.Table.{Tables, ValidTable, recvEntry}
-use Rattle.keys.specs.PlaceLaws.{At as EntryAt}
+use Rattle.keys.specs.Places.{At as EntryAt}
 use Rattle.keys.specs.Mirror.{Mirror}
 use Rattle.rules.specs.declared.Place.the-variants.{At}
 use Rattle.rules.specs.declared.Connection.{Connection}
@@ -103,8 +103,8 @@ pub record TrueSegment (t : Tables) (l : Connection) (a : Arrival) (x r : ℕ) :
   pub delivered : Delivered (remoteAddress (l .pair)) (localAddress (l .pair)) bytes a
   pub asks : peer .«ask_id» ≡ r
 
--- "An arrival verifies if it is no bare SYN, comes with our state's pair, and its MAC bytes are, for some extension, what these rules give
--- under our ISNs and the entry for its KeyID." It has MAC bytes only if none of 20, 21, 22 applies and TCP-AO is there.
+-- "An arrival verifies if it is no bare SYN, comes with our state's pair, and its MAC bytes are, for some extension, what these rules
+-- give under our ISNs and the entry for its KeyID." It has MAC bytes only if none of 20, 21, 22 applies and TCP-AO is there.
 pub record Verifies (t : Tables) (l : Connection) (a : Arrival) : Type 0 where
   pub sized : wellSized (a .segment) ≡ true
   pub formed : malformed (a .segment) ≡ false
@@ -118,5 +118,5 @@ pub record Verifies (t : Tables) (l : Connection) (a : Arrival) : Type 0 where
   pub entry : recvEntry t (l .pair) (keyId (a .segment)) .there ≡ true
   pub extension : ℕ
   pub mac : macIn (a .segment)
-      ≡ segmentMac (recvEntry t (l .pair) (keyId (a .segment)) .entry .secret) (arriving l (a .segment)) extension
-      (aoAt (a .segment)) (a .segment)
+      ≡ segmentMac (recvEntry t (l .pair) (keyId (a .segment)) .entry .secret) (arriving l (a .segment)) extension (aoAt (a .segment))
+      (a .segment)

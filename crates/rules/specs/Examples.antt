@@ -1,13 +1,12 @@
--- Document 01's examples P1 to P12: one table under one statement.
+-- Document 01's examples P1 to P12, as one table under one statement. ExampleLaws proves it.
 use Prim.Native.Nat.{ℕ}
-use mathlib.Core.Path.{_≡_, refl}
+use mathlib.Core.Path.{_≡_}
 use mathlib.Core.Bool.{Bool, true, false}
-use mathlib.Core.List.{List, [], _∷_, map}
-use Rattle.wire.specs.Prefix.{agree}
-use Rattle.keys.specs.Entry.{width}
-use Rattle.keys.specs.Match.{meet, overlap}
+use mathlib.Core.List.{List, [], _∷_, _++_, map}
+use lib.ListN.{replicate}
+use Rattle.keys.specs.Match.{overlap}
 use Rattle.keys.specs.declared.entry.Selector.{Selector}
-use Rattle.keys.specs.Examples.{net, ports}
+use Rattle.keys.specs.declared.entry.Side.{Side}
 use Rattle.rules.specs.Position.{position}
 use Rattle.rules.specs.Answers.{Answer, answer, placeAnswer}
 
@@ -27,6 +26,19 @@ reply (overlapping one other) = says (overlap one other)
 pub record Row : Type 0 where
   pub question : Question
   pub expected : Reply
+
+-- one side of an IPv4 entry, and entries that differ in their local side alone: a network, a range of ports
+abbrev side : List ℕ → ℕ → ℕ → ℕ → Side
+side a bits low high = record { low = low; high = high; bits = bits; address = a ++ replicate 12 0 }
+
+abbrev entryFor : Side → Selector
+entryFor s = record { family = 4; local = s; remote = side (0 ∷ 0 ∷ 0 ∷ 0 ∷ []) 0 0 65535 }
+
+abbrev net : List ℕ → ℕ → Selector
+net a bits = entryFor (side a bits 0 65535)
+
+abbrev ports : ℕ → ℕ → Selector
+ports low high = entryFor (side (0 ∷ 0 ∷ 0 ∷ 0 ∷ []) 0 low high)
 
 abbrev at : ℕ → ℕ → ℕ → Row
 at reference number x = record { question = place reference number; expected = gives (answer 0 x) }
@@ -50,6 +62,6 @@ P1-P12 =
     ∷ record { question = overlapping (ports 100 179) (ports 179 179); expected = says true }
     ∷ []
 
-pub examples : map (λ (r : Row). reply (r .question)) P1-P12 ≡ map (λ (r : Row). r .expected) P1-P12
-unfolding position placeAnswer agree width meet overlap
-examples = refl
+-- The statement: each question gets its reply.
+abbrev pub Examples : Type 0
+Examples = map (λ (r : Row). reply (r .question)) P1-P12 ≡ map (λ (r : Row). r .expected) P1-P12

@@ -2,7 +2,7 @@
 -- HistoryLaws proves it.
 use Prim.Native.Nat.{ℕ, _+_, min}
 use mathlib.Core.Path.{_≡_}
-use mathlib.Core.Bool.{true, cond}
+use mathlib.Core.Bool.{Bool, true, cond}
 use mathlib.Core.List.{List, [], _∷_, _++_}
 use lib.ListN.{getD, replicate}
 use lib.Dec.{eqb}
@@ -11,7 +11,7 @@ use Rattle.rules.specs.declared.Verdict.{Verdict}
 use Rattle.rules.specs.declared.Verdict.the-variants.{Accept, Pass, Drop}
 use Rattle.rules.specs.declared.State.{State}
 use Rattle.rules.specs.Connection.{Arrival, isOpen, value, stop, slots, slot, isCounted}
-use Rattle.rules.specs.Calls.{judged, signed, asked}
+use Rattle.rules.specs.Calls.{judged, signed, asked, openedPassively, openedActively}
 use Rattle.rules.specs.Demand3.{sum, NoStop}
 
 -- A call on a connection, with any table and any bytes: judging an arrival, signing a segment into an output, asking for a key.
@@ -80,3 +80,14 @@ pub record OneCount (q : State) (l : List Call) : Type 0 where
   pub dropped-exactly : NoStop (ended q l) → (n : ℕ) → isCounted n ≡ true → dropCount n (ended q l) ≡ drops n (given q l)
   -- "Below the stop, their sum is how many accepts and drops 20 to 29 were given since opening."
   pub total : NoStop (ended q l) → ended q l .accepted + sum (ended q l .drops) ≡ accepts (given q l) + countedDrops (given q l)
+
+-- from any state whose counts are 0; from a passive and from an active opening, whatever came of it
+abbrev pub FromZero : Type 0
+FromZero = (q : State) → CountsZero q → (l : List Call) → OneCount q l
+
+abbrev pub FromPassive : Type 0
+FromPassive = (t : Tables) (a : Arrival) (isn : ℕ) (strict : Bool) (l : List Call) → OneCount (openedPassively t a isn strict .state) l
+
+abbrev pub FromActive : Type 0
+FromActive = (t : Tables) (local remote : List ℕ) (localPort remotePort isn sendId : ℕ) (l : List Call)
+    → OneCount (openedActively t local remote localPort remotePort isn sendId .state) l

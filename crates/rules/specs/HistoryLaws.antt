@@ -15,10 +15,12 @@ use Rattle.rules.specs.declared.Outcome.the-variants.{Good, Passed, Bad}
 use Rattle.rules.specs.declared.Verdict.{Verdict}
 use Rattle.rules.specs.declared.State.{State}
 use Rattle.octets.specs.Tests.{first}
-use Rattle.rules.specs.Connection.{pairOf, Arrival, isOpen, extensionOf, value, stop, slots, slot, isCounted, opening, empty, withAsked}
-use Rattle.rules.specs.Calls.{check, checkSyn, checkSign, askTests, verdictOf, afterJudging, judged, openedBy, openedPassively, settledBy, unrefused, openTests, openedWith, openedActively, asked, outgoing, signedBy, signed}
+use Rattle.rules.specs.Connection.{pairOf, isOpen, extensionOf, value, stop, slots, slot, isCounted, opening, empty, withAsked}
+use Rattle.rules.specs.Calls.{check, checkSyn, checkSign, askTests, verdictOf, afterJudging, judged, openedBy, openedPassively}
+use Rattle.rules.specs.Calls.{settledBy, unrefused, openTests, openedWith, openedActively, asked, outgoing, signedBy, signed}
 use Rattle.rules.specs.Demand3.{sum}
-use Rattle.rules.specs.History.{Call, judge, sign, ask, next, ended, verdictOn, given, accepts, drops, countedDrops, dropCount, CountsZero, OneCount}
+use Rattle.rules.specs.History.{Call, judge, sign, ask, next, ended, verdictOn, given, accepts, drops, countedDrops, dropCount}
+use Rattle.rules.specs.History.{CountsZero, FromZero, FromPassive, FromActive}
 use Rattle.rules.specs.CountLaws.{raised, each-below, slot-below, length-count, Counts, count-none, count-accept, count-drop}
 
 -- What a history needs of the state that it starts from: as many counts as the type says, all 0 unless it is open.
@@ -97,7 +99,7 @@ pub history : (l : List Call) (q : State) → Ready q → Counts q (given q l) (
 history [] q h = count-none q
 history (c ∷ l) q h = call-counts c q (given (next c q) l) (ended (next c q) l) h (history l (next c q) (call-ready c q h))
 
-pub one-count : (q : State) → CountsZero q → (l : List Call) → OneCount q l
+pub one-count : FromZero
 one-count q f l =
     record {
       accepted = c .accepted ∙ from-0 (accepts (given q l)) (q .accepted) (f .accepted);
@@ -131,12 +133,11 @@ settled-fresh p isn sendId askId (Bad n i) = record { accepted = refl; drops = r
 opening-fresh : (t : Tables) (local remote : List ℕ) (p : Pair) (isn sendId : ℕ) → CountsZero (openedWith t local remote p isn sendId .state)
 opening-fresh t local remote p isn sendId = settled-fresh p isn sendId _ (first (openTests t local remote (sendEntry t p sendId)) unrefused)
 
-pub from-passive : (t : Tables) (a : Arrival) (isn : ℕ) (strict : Bool) (l : List Call) → OneCount (openedPassively t a isn strict .state) l
+pub from-passive : FromPassive
 unfolding openedPassively
 from-passive t a isn strict l = one-count _ (opened-fresh t _ isn _ (checkSyn t a strict)) l
 
-pub from-active : (t : Tables) (local remote : List ℕ) (localPort remotePort isn sendId : ℕ) (l : List Call)
-    → OneCount (openedActively t local remote localPort remotePort isn sendId .state) l
+pub from-active : FromActive
 unfolding openedActively
 from-active t local remote localPort remotePort isn sendId l =
     one-count _

@@ -20,8 +20,10 @@ use Rattle.octets.specs.Tests.{joined}
 use Rattle.octets.specs.TestLaws.{NoneApplies, none-append, first-passes, none-applied}
 use Rattle.rules.specs.GroupLaws.{Clear, none-clear, past-input, sized-of}
 use Rattle.rules.specs.Segment.{ao, md5, keyId, isBareSyn}
-use Rattle.rules.specs.Connection.{sized, Arrival, localAddress, remoteAddress, isOpen, arriving, placeOn, value, extensionOf, slot, isCounted}
-use Rattle.rules.specs.Calls.{isRefused, refusal, familyTests, addressTests, tableTests, inputTests, stateTests, macDiffers, segmentGroups, judgeGroups, judgeTests, check}
+use Rattle.rules.specs.Connection.{sized, Arrival, localAddress, remoteAddress, isOpen, arriving, placeOn, value, extensionOf, slot}
+use Rattle.rules.specs.Connection.{isCounted}
+use Rattle.rules.specs.Calls.{isRefused, refusal, familyTests, addressTests, tableTests, inputTests, stateTests, macDiffers}
+use Rattle.rules.specs.Calls.{segmentGroups, judgeGroups, judgeTests, check}
 use Rattle.rules.specs.Ends.{Allowed, Verifies}
 
 -- a refusal; and one that is counted

@@ -17,7 +17,8 @@ use Rattle.wire.specs.Header.{headerEnd}
 use Rattle.keys.specs.declared.entry.Secret.{Secret}
 use Rattle.keys.specs.Algorithm.{trafficKeyBytes, outputBits}
 use Rattle.keys.specs.Entry.{keyOf}
-use Rattle.rules.specs.Mac.{Flow, context, derivationInput, aesKey, derivationKey, applied, trafficKey, pseudoHeader, coveredHeader, front, message, segmentMac}
+use Rattle.rules.specs.Mac.{Flow, context, derivationInput, aesKey, derivationKey, applied, trafficKey, pseudoHeader, coveredHeader}
+use Rattle.rules.specs.Mac.{front, message, segmentMac}
 
 -- both algorithms give at least 16 bytes
 pub applied-long : (algorithm : ℕ) (k m : List ℕ) → 16 ≤ length (applied algorithm k m)

@@ -20,7 +20,8 @@ use Rattle.rules.specs.declared.Judged.{Judged}
 use Rattle.rules.specs.Connection.{Arrival, sized, isOpen, extensionOf, slots, isCounted, available, nextKey, withAccepted, withDrop}
 use Rattle.rules.specs.Calls.{check, judgedBy, judged}
 use Rattle.rules.specs.Ends.{Allowed, TrueSegment, Verifies}
-use Rattle.rules.specs.Demand3.{judgeAll, Arriving, real, other, arrival, positions, requested, trues, others, AllFit, largest, those, lastOr, Within, Close, NoStop, Alike, after, Given, Demand3}
+use Rattle.rules.specs.Demand3.{judgeAll, Arriving, real, other, arrival, positions, requested, trues, others, AllFit, largest, those}
+use Rattle.rules.specs.Demand3.{lastOr, Within, Close, NoStop, Alike, after, Given, Demand3, Demand3Holds}
 use Rattle.rules.specs.History.{accepts, countedDrops}
 use Rattle.rules.specs.JudgeLaws.{other-bad}
 use Rattle.rules.specs.AcceptedLaws.{true-good}
@@ -215,8 +216,8 @@ module _ (t : Tables) (q : State) where
         dropped = omega (arith, e .counts .total (n .drops), e .its-others, d .counts .total (m .drops), d .its-others, sum-perm others others-step p);
       }
 
-  pub demand3 : (l : List (Arriving t (q .conn))) → Given t q l → Demand3 t q l
-  demand3 l g =
+  holds : (l : List (Arriving t (q .conn))) → Given t q l → Demand3 t q l
+  holds l g =
       let e = judging l g in
       record {
         verdicts = e .fits;
@@ -229,3 +230,6 @@ module _ (t : Tables) (q : State) where
             let u = unmap arrival p l refl in
             subst (λ (z : List Arrival). NoStop (judgeAll t q z .state) → Alike (after t q l) (judgeAll t q z .state)) (u .2) (alike l (u .0) g (u .1) n) m;
       }
+
+pub demand3 : Demand3Holds
+demand3 = holds

@@ -32,3 +32,13 @@ pub record Near (reference s x : ℕ) : Type 0 where
   pub above : x < reference + 2 ^ 31
   pub below : reference < x + 2 ^ 31
   pub fits : x < 2 ^ 64
+
+-- The sentence, as statements. If there is such a number, `position` is it; what `position` gives is such a number; and there is no other.
+abbrev pub Complete : Type 0
+Complete = (reference s x : ℕ) → Near reference s x → position reference s ≡ At x
+
+abbrev pub Sound : Type 0
+Sound = (reference s x : ℕ) → s < 2 ^ 32 → reference < 2 ^ 64 → position reference s ≡ At x → Near reference s x
+
+abbrev pub Unique : Type 0
+Unique = (reference s x y : ℕ) → Near reference s x → Near reference s y → x ≡ y

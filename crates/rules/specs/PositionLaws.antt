@@ -1,18 +1,16 @@
 -- `position` is the number that document 01's sentence describes: complete, sound, unique. And where it is none, the answer is 28 or 36.
 use Prim.Native.Nat.{ℕ, _+_, _-_, _^_, _≤_, _<_}
 use mathlib.Core.Path.{_≡_, refl, ap}
-use mathlib.Core.Bool.{Bool, true, false, cond}
+use mathlib.Core.Bool.{Bool, true, false}
 use native.Mathlib.Omega.{arith}
 use lib.Dec.{ltb, leb}
 use borrow.Author.Tests.{ltb-true, ltb-false, leb-true, lt-ltb, le-leb}
-use Rattle.rules.specs.declared.Place.{Place}
 use Rattle.rules.specs.declared.Place.the-variants.{At, Nowhere}
-use Rattle.rules.specs.Position.{wrappingDifference, position, Near}
-use Rattle.rules.specs.Connection.{located, value}
-use Rattle.rules.specs.Answers.{answer, placeAnswer}
+use Rattle.rules.specs.Position.{wrappingDifference, position, Near, Complete, Sound, Unique}
+use Rattle.rules.specs.Answers.{placeAnswer}
+use Rattle.rules.specs.Sentences.{PlaceAnswers}
 
--- if there is such a number, `position` is it
-pub complete : (reference s x : ℕ) → Near reference s x → position reference s ≡ At x
+pub complete : Complete
 unfolding position
 complete reference s x n = go (ltb (wrappingDifference s reference) (2 ^ 31)) refl
   where
@@ -27,8 +25,7 @@ complete reference s x n = go (ltb (wrappingDifference s reference) (2 ^ 31)) re
         simp (e, lt-ltb (2 ^ 31) (wrappingDifference s reference) (omega arith), le-leb (2 ^ 32 - wrappingDifference s reference) reference (omega arith), position)
         (ap At (omega arith))
 
--- what `position` gives is such a number
-pub sound : (reference s x : ℕ) → s < 2 ^ 32 → reference < 2 ^ 64 → position reference s ≡ At x → Near reference s x
+pub sound : Sound
 unfolding position
 sound reference s x small top p =
     go (ltb d (2 ^ 31)) (ltb (reference + d) (2 ^ 64)) (ltb (2 ^ 31) d) (leb (2 ^ 32 - d) reference) refl refl refl refl
@@ -52,13 +49,10 @@ sound reference s x small top p =
     go false c true false qb qc qe qf = let z : _≡_ {A = ℕ} 0 1 = cc (simp (qb, qe, qf, position) at p) in absurd (omega arith)
     go false c false f qb qc qe qf = let z : _≡_ {A = ℕ} 0 1 = cc (simp (qb, qe, position) at p) in absurd (omega arith)
 
--- and there is no other
-pub unique : (reference s x y : ℕ) → Near reference s x → Near reference s y → x ≡ y
+pub unique : Unique
 unique reference s x y n m = omega arith
 
--- "Otherwise the answer is 28 or 36.": the answer has that number exactly where the test of 28 or 36 in Calls.antt, `not (located x)`, applies, and
--- else the position that the rest of the call goes by
-pub place-answer : (n : ℕ) (x : Place) → placeAnswer n x ≡ cond (located x) (answer 0 (value x)) (answer n 0)
+pub place-answer : PlaceAnswers
 unfolding placeAnswer
 place-answer n (At x) = refl
 place-answer n Nowhere = refl

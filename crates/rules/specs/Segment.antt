@@ -35,16 +35,27 @@ macIn s = take (ao s .len - 4) (drop (aoAt s + 4) s)
 abbrev pub isBareSyn : List ℕ → Bool
 isBareSyn s = syn s && not (ack s)
 
--- "Signing puts TCP-AO directly after byte 20, the old options behind it, raises the data offset by 4, and writes checksum zero."
--- The header h with KeyID k, RNextKeyID r and MAC m (4 words where the MAC has 12 bytes): bytes 0 to 11; byte 12 with the offset raised and its low four
--- bits kept; 13 to 15; the checksum zero; 18 and 19; TCP-AO; the old options.
-unfoldable pub signedHeader : ℕ → ℕ → List ℕ → List ℕ → List ℕ
-signedHeader k r m h =
-    take 12 h ++ ((getD h 12 0 + 16 * ((4 + length m) / 4)) ∷ take 3 (drop 13 h))
+-- An option is put into a header: bytes 0 to 11; byte 12 with the data offset raised by the option's words and its low four bits kept;
+-- 13 to 15; the checksum zero; 18 and 19; the option; the old options. An option is meant whose length is a multiple of 4.
+unfoldable pub inserted : List ℕ → List ℕ → List ℕ
+inserted opt h =
+    take 12 h ++ ((getD h 12 0 + 16 * (length opt / 4)) ∷ take 3 (drop 13 h))
     ++ (0 ∷ 0 ∷ take 2 (drop 18 h))
-    ++ (29 ∷ (4 + length m) ∷ k ∷ r ∷ m)
+    ++ opt
     ++ drop 20 h
 
--- signed header, then data
-unfoldable pub signedWith : ℕ → ℕ → List ℕ → List ℕ → List ℕ
-signedWith k r m s = signedHeader k r m (take (headerEnd s) s) ++ drop (headerEnd s) s
+-- into a segment's header; then the data
+unfoldable pub withOption : List ℕ → List ℕ → List ℕ
+withOption opt s = inserted opt (take (headerEnd s) s) ++ drop (headerEnd s) s
+
+-- TCP-AO with KeyID k, RNextKeyID r and MAC m; and how many bytes it has with a MAC of n bytes
+abbrev pub optionOf : ℕ → ℕ → List ℕ → List ℕ
+optionOf k r m = 29 ∷ (4 + length m) ∷ k ∷ r ∷ m
+
+abbrev pub optionBytes : ℕ → ℕ
+optionBytes n = 4 + n
+
+-- "Signing puts TCP-AO directly after byte 20, the old options behind it, raises the data offset by 4, and writes checksum zero."
+-- (4 words where the MAC has 12 bytes)
+abbrev pub signedWith : ℕ → ℕ → List ℕ → List ℕ → List ℕ
+signedWith k r m s = withOption (optionOf k r m) s

@@ -22,7 +22,7 @@ use Rattle.rules.specs.JudgeLaws.{isBad, refusal-bad}
 use Rattle.rules.specs.Segment.{ao, md5, isBareSyn}
 use Rattle.rules.specs.Connection.{isOpen, placeOn, located, value}
 use Rattle.rules.specs.Calls.{isRefused, outgoing, addedBytes, signTests, checkSign, signed}
-use Rattle.rules.specs.RoundTrip.{Fresh}
+use Rattle.rules.specs.RoundTripLaws.{Fresh}
 
 -- a table that is not refused is valid
 pub valid-of : (t : Tables) → isRefused (checked t) ≡ false → ValidTable t

@@ -13,7 +13,8 @@ use Rattle.keys.specs.declared.entry.Entry.{Entry}
 use Rattle.rules.specs.declared.State.{State}
 use Rattle.rules.specs.Mac.{Flow, segmentMac}
 use Rattle.rules.specs.MacLaws.{length-mac}
-use Rattle.rules.specs.Segment.{signedHeader, signedWith}
+use Rattle.rules.specs.Segment.{inserted, withOption, optionOf, signedWith}
+use Rattle.rules.specs.RoundTripLaws.{length-option}
 use Rattle.rules.specs.Connection.{leaving, extensionOf}
 use Rattle.rules.specs.Calls.{signedSegment, written}
 use Rattle.traffic.specs.Padded.{padded}
@@ -33,11 +34,13 @@ reads-is (suc n) i s h =
     ap (λ (l : List ℕ). getD s i 0 ∷ l) (reads-is n (suc i) s (omega arith)) ∙ sym (ap (λ (l : List ℕ). take (suc n) l) (drop-cons s i 0 (omega arith)))
 
 -- a signed header is the head, the MAC and the old options
-pub header-is : (k r : ℕ) (m h : List ℕ) → 20 ≤ length h → signedHeader k r m h ≡ headBytes k r (4 + length m) h ++ (m ++ drop 20 h)
-unfolding signedHeader headBytes
+pub header-is : (k r : ℕ) (m h : List ℕ) → 20 ≤ length h → inserted (optionOf k r m) h ≡ headBytes k r (4 + length m) h ++ (m ++ drop 20 h)
+unfolding inserted headBytes
 header-is k r m h e =
     let o = 4 + length m in
-    ap (λ (l : List ℕ). l ++ drop 20 h)
+    ap (λ (n : ℕ). take 12 h ++ ((getD h 12 0 + 16 * (n / 4)) ∷ take 3 (drop 13 h)) ++ (0 ∷ 0 ∷ take 2 (drop 18 h)) ++ optionOf k r m ++ drop 20 h)
+    (length-option k r m)
+    ∙ ap (λ (l : List ℕ). l ++ drop 20 h)
     ((λ i. sym (reads-is 12 0 h (omega arith)) i ++ ((getD h 12 0 + 16 * (o / 4)) ∷ sym (reads-is 3 13 h (omega arith)) i) ++ (0 ∷ 0 ∷ sym (reads-is 2 18 h (omega arith)) i) ++ (29 ∷ o ∷ k ∷ r ∷ m)))
     ∙ append-assoc (headBytes k r o h) m (drop 20 h)
 
@@ -53,7 +56,7 @@ module _ (k r : ℕ) (s : List ℕ) (low : 20 ≤ headerEnd s) (inside : headerE
   long = length-take-le (headerEnd s) s inside
 
   pub signed-is : (m : List ℕ) → signedWith k r m s ≡ headBytes k r (4 + length m) head ++ (m ++ drop 20 s)
-  unfolding signedWith
+  unfolding withOption
   signed-is m =
       ap (λ (l : List ℕ). l ++ drop (headerEnd s) s) (header-is k r m head (omega (arith, long)))
       ∙ append-assoc (headBytes k r (4 + length m) head) (m ++ drop 20 head) (drop (headerEnd s) s)
@@ -65,7 +68,7 @@ module _ (k r : ℕ) (s : List ℕ) (low : 20 ≤ headerEnd s) (inside : headerE
       → headerEnd s + (4 + secret .«mac_bytes») ≤ 60 → secret .«mac_bytes» ≤ 16
       → tag ≡ tagOf secret f extension 20 (length s + (4 + secret .«mac_bytes»)) (headBytes k r (4 + secret .«mac_bytes») head ++ (replicate (secret .«mac_bytes») 0 ++ drop 20 head)) (drop (headerEnd s) s)
       → take (secret .«mac_bytes») tag ≡ segmentMac secret f extension 20 (signedWith k r (replicate (secret .«mac_bytes») 0) s)
-  unfolding signedWith headBytes
+  unfolding withOption headBytes
   mac-is secret f extension tag words most short e =
       let n = secret .«mac_bytes» in
       let zeros : List ℕ = replicate n 0 in

@@ -15,7 +15,7 @@ use Rattle.keys.specs.declared.entry.Entry.{Entry}
 use Rattle.keys.specs.declared.table.Found.{Found}
 use Rattle.keys.specs.Mirror.{Mirror}
 use Rattle.keys.specs.Table.{Tables, ValidTable}
-use Rattle.keys.specs.SearchLaws.{hit}
+use Rattle.keys.specs.Search.{hit}
 use Rattle.rules.specs.declared.Place.the-variants.{At}
 use Rattle.rules.specs.declared.Outcome.{Outcome}
 use Rattle.rules.specs.declared.State.{State}
@@ -27,8 +27,8 @@ use Rattle.rules.specs.Segment.{ao}
 use Rattle.rules.specs.Connection.{leaving, value, extensionOf}
 use Rattle.rules.specs.Calls.{keyTests, macTests, isRefused, macDiffers, formTests, lengthTests, tableTests}
 use Rattle.rules.specs.Ends.{SignedAt}
-use Rattle.rules.specs.RoundTrip.{Reads}
-use Rattle.rules.specs.Delivery.{signs, twelve, mac, length-its-mac, segment, reads, same-mac, sizes}
+use Rattle.rules.specs.RoundTripLaws.{Reads}
+use Rattle.rules.specs.DeliveryLaws.{signs, mac, length-its-mac, segment, reads, same-mac, sizes}
 
 -- bytes make a number below 2 ^ 32
 pub sequence-below : (s : List ℕ) → Octets s → sequence s < 2 ^ 32
@@ -62,7 +62,7 @@ module _ (q : State) (e : Entry) (x : ℕ) (b : List ℕ) (g : SignedAt q e x b)
     right-length : not (eqb (ao came .len) (4 + found .entry .secret .«mac_bytes»)) ≡ false
     right-length =
         (λ j. not (eqb (read .one j .len) (4 + held j .entry .secret .«mac_bytes»)))
-        ∙ ap not (eq-eqb _ _ (ap (λ (n : ℕ). 4 + n) (length-its-mac q e x b g ∙ sym (twelve q e x b g) ∙ sym (agree .mac))))
+        ∙ ap not (eq-eqb _ _ (ap (λ (n : ℕ). 4 + n) (length-its-mac q e x b g ∙ sym (agree .mac))))
 
     right-mac : macDiffers (found .entry) f (At y) came ≡ false
     right-mac =

@@ -1,6 +1,6 @@
 -- What the signing call wrote, as it arrives: what the receiver reads in it, and that its MAC is the one it carries.
-use Prim.Native.Nat.{ℕ, _+_, _-_, _*_, _/_}
-use mathlib.Core.Path.{_≡_, ap, ap₂, sym, _∙_, subst⁻¹}
+use Prim.Native.Nat.{ℕ, _+_, _-_}
+use mathlib.Core.Path.{_≡_, ap, ap₂, sym, _∙_, subst, subst⁻¹}
 use mathlib.Core.Bool.{false}
 use mathlib.Core.List.{List}
 use native.Mathlib.Omega.{arith}
@@ -16,28 +16,32 @@ use Rattle.rules.specs.declared.Outcome.{Outcome}
 use Rattle.rules.specs.declared.State.{State}
 use Rattle.rules.specs.Mac.{Flow, applied, trafficKey, segmentMac}
 use Rattle.rules.specs.MacLaws.{length-mac, Agree, mac-agree}
-use Rattle.rules.specs.Segment.{signedWith}
+use Rattle.rules.specs.Segment.{optionBytes, signedWith}
 use Rattle.rules.specs.Connection.{leaving, value, extensionOf}
 use Rattle.rules.specs.Calls.{outgoing, addedBytes, signedSegment, written, outputBy, output}
 use Rattle.rules.specs.Ends.{SignedAt, rechecked}
-use Rattle.rules.specs.RoundTrip.{Arrived, arrival, covers, length-signed}
+use Rattle.rules.specs.RoundTripLaws.{Whole, Arrived, arrival, covers, length-signed}
 use Rattle.rules.specs.SigningLaws.{Signs, signs-good, signed-good}
-use Rattle.rules.specs.GrowthLaws.{twelve-bytes, added-16}
+use Rattle.rules.specs.GrowthLaws.{Fits, added-under, fits-found}
 
 -- what was signed, by the outgoing entry: it has as many bytes as the answer says
 module _ (t : Tables) (s out : List ℕ) (q : State) (signs : Signs t s out q) (x : ℕ) where
   abbrev entry : Entry
   entry = outgoing t q .entry
 
-  twelve-of : entry .secret .«mac_bytes» ≡ 12
-  twelve-of = twelve-bytes t (q .conn .pair) (q .«send_id») (signs .valid) (signs .entry)
+  fits-of : Fits (entry .secret .«mac_bytes»)
+  fits-of = fits-found t (q .conn .pair) (q .«send_id») (signs .valid) (signs .entry)
 
   pub signed-long : length (signedSegment entry q x s) ≡ length s + addedBytes (outgoing t q)
   unfolding signedSegment
   signed-long =
-      let m = segmentMac (entry .secret) (leaving (q .conn)) (extensionOf x) 20 (signedWith (q .«send_id») (q .«ask_id») (replicate (entry .secret .«mac_bytes») 0) s) in
-      let l : length m ≡ 12 = length-mac (entry .secret) (leaving (q .conn)) (extensionOf x) 20 _ (omega (arith, twelve-of)) ∙ twelve-of in
-      length-signed s (signs .fresh) 0 0 (q .«send_id») (q .«ask_id») m (omega arith) ∙ ap (λ (n : ℕ). length s + n) (ap (λ (n : ℕ). 4 + n) l ∙ sym (added-16 t q (signs .valid)))
+      let n = entry .secret .«mac_bytes» in
+      let z = signedWith (q .«send_id») (q .«ask_id») (replicate n 0) s in
+      let m = segmentMac (entry .secret) (leaving (q .conn)) (extensionOf x) 20 z in
+      let l : length m ≡ n = length-mac (entry .secret) (leaving (q .conn)) (extensionOf x) 20 z (fits-of .short) in
+      let w : Whole (optionBytes (length m)) = subst⁻¹ (λ (n : ℕ). Whole (optionBytes n)) l (fits-of .words) in
+      length-signed s (signs .fresh) 0 0 (q .«send_id») (q .«ask_id») m w
+      ∙ ap (λ (n : ℕ). length s + n) (ap optionBytes l ∙ sym (added-under (outgoing t q) (signs .entry)))
 
 module _ (q : State) (e : Entry) (x : ℕ) (b : List ℕ) (g : SignedAt q e x b) where
   abbrev s : List ℕ
@@ -48,21 +52,26 @@ module _ (q : State) (e : Entry) (x : ℕ) (b : List ℕ) (g : SignedAt q e x b)
       let o = signed-good (g .table) s (g .out) q (length b) (g .answer) in
       signs-good (g .table) s (g .out) q (o .0) (o .1) (o .2) .0
 
-  -- the MAC's twelve bytes
-  pub twelve : e .secret .«mac_bytes» ≡ 12
-  twelve = ap (λ (f : Entry). f .secret .«mac_bytes») (sym (g .under)) ∙ twelve-of (g .table) s (g .out) q signs x
+  its-entry : outgoing (g .table) q .entry .secret .«mac_bytes» ≡ e .secret .«mac_bytes»
+  its-entry = ap (λ (f : Entry). f .secret .«mac_bytes») (g .under)
+
+  fits : Fits (e .secret .«mac_bytes»)
+  fits = subst Fits its-entry (fits-of (g .table) s (g .out) q signs x)
+
+  abbrev blank : List ℕ
+  blank = signedWith (q .«send_id») (q .«ask_id») (replicate (e .secret .«mac_bytes») 0) s
 
   abbrev pub mac : List ℕ
-  mac = segmentMac (e .secret) (leaving (q .conn)) (extensionOf x) 20 (signedWith (q .«send_id») (q .«ask_id») (replicate (e .secret .«mac_bytes») 0) s)
+  mac = segmentMac (e .secret) (leaving (q .conn)) (extensionOf x) 20 blank
 
-  pub length-its-mac : length mac ≡ 12
-  length-its-mac = length-mac (e .secret) (leaving (q .conn)) (extensionOf x) 20 _ (omega (arith, twelve)) ∙ twelve
+  pub length-its-mac : length mac ≡ e .secret .«mac_bytes»
+  length-its-mac = length-mac (e .secret) (leaving (q .conn)) (extensionOf x) 20 blank (fits .short)
 
-  even : 4 * ((4 + length mac) / 4) ≡ 4 + length mac
-  even = omega (arith, length-its-mac)
+  even : Whole (optionBytes (length mac))
+  even = subst⁻¹ (λ (n : ℕ). Whole (optionBytes n)) length-its-mac (fits .words)
 
-  added-is : addedBytes (outgoing (g .table) q) ≡ 4 + length mac
-  added-is = added-16 (g .table) q (signs .valid) ∙ ap (λ (n : ℕ). 4 + n) (sym length-its-mac)
+  added-is : addedBytes (outgoing (g .table) q) ≡ optionBytes (length mac)
+  added-is = added-under (outgoing (g .table) q) (signs .entry) ∙ ap optionBytes (its-entry ∙ sym length-its-mac)
 
   abbrev carried : List ℕ
   carried = signedWith (q .«send_id») (q .«ask_id») mac s
@@ -74,7 +83,8 @@ module _ (q : State) (e : Entry) (x : ℕ) (b : List ℕ) (g : SignedAt q e x b)
       let o = signed-good (g .table) s (g .out) q (length b) (g .answer) in
       let p = signs-good (g .table) s (g .out) q (o .0) (o .1) (o .2) in
       let v : o .0 ≡ x = sym (p .1) ∙ ap value (g .position) in
-      let l : length carried ≡ length b = length-signed s (signs .fresh) 0 0 (q .«send_id») (q .«ask_id») mac even ∙ ap (λ (n : ℕ). length s + n) (sym added-is) ∙ o .3 in
+      let l : length carried ≡ length b =
+      length-signed s (signs .fresh) 0 0 (q .«send_id») (q .«ask_id») mac even ∙ ap (λ (n : ℕ). length s + n) (sym added-is) ∙ o .3 in
       g .wrote
       ∙ ap (λ (z : Outcome). take (length b) (outputBy q s (g .out) (outgoing (g .table) q .entry) z)) (o .2)
       ∙ ap₂ (λ (f : Entry) (y : ℕ). take (length b) (written (signedSegment f q y s) (g .out))) (g .under) v
@@ -100,10 +110,12 @@ module _ (q : State) (e : Entry) (x : ℕ) (b : List ℕ) (g : SignedAt q e x b)
         mac-agree r (e .secret) f (extensionOf x) 20 segment a
         ∙ ap₂ (λ (f : Flow) (z : List ℕ). segmentMac (e .secret) f (extensionOf x) 20 z) p segment-is
         ∙ ap (λ (m : List ℕ). take (e .secret .«mac_bytes») (applied (e .secret .algorithm) (trafficKey (e .secret) (leaving (q .conn))) m))
-        (covers s (signs .fresh) c d (q .«send_id») (q .«ask_id») mac even (e .secret) (leaving (q .conn)) (extensionOf x) (twelve ∙ sym length-its-mac))
+        (covers s (signs .fresh) c d (q .«send_id») (q .«ask_id») mac even (e .secret) (leaving (q .conn)) (extensionOf x)
+        (sym length-its-mac))
 
     -- none of 20, 21, 22 and 25
-    pub sizes : (ltb (length segment) 20 ≡ false) × (ltb 65535 (length segment) ≡ false) × (ltb (dataOffset segment) 5 ≡ false) × (ltb (length segment) (headerEnd segment) ≡ false)
+    pub sizes : (ltb (length segment) 20 ≡ false) × (ltb 65535 (length segment) ≡ false) × (ltb (dataOffset segment) 5 ≡ false)
+        × (ltb (length segment) (headerEnd segment) ≡ false)
     sizes =
         let a = reads .its-length in
         let z = reads .its-end in
@@ -112,5 +124,9 @@ module _ (q : State) (e : Entry) (x : ℕ) (b : List ℕ) (g : SignedAt q e x b)
         let l = signs .fresh .long in
         let o = signs .fresh .low in
         let i = signs .fresh .inside in
-        let k = added-is in
-        (le-ltb (length segment) 20 (omega arith), le-ltb 65535 (length segment) (omega arith), le-ltb (dataOffset segment) 5 (omega arith), le-ltb (length segment) (headerEnd segment) (omega arith))
+        let k = added-is in (
+          le-ltb (length segment) 20 (omega arith),
+          le-ltb 65535 (length segment) (omega arith),
+          le-ltb (dataOffset segment) 5 (omega arith),
+          le-ltb (length segment) (headerEnd segment) (omega arith),
+        )

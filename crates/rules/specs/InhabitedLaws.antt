@@ -1,0 +1,224 @@
+-- The statements of Inhabited.antt, proved: what is given there holds by computing, with the MAC shut.
+use Prim.Native.Nat.{ℕ, zero, suc, _+_, _<_}
+use mathlib.Core.Path.{_≡_, refl, ap, sym, _∙_, subst⁻¹}
+use mathlib.Core.Bool.{true}
+use mathlib.Core.List.{List, [], _∷_}
+use native.Mathlib.Omega.{arith}
+use lib.ListN.{length, take, drop, replicate}
+use lib.Seq.{take-at}
+use Rattle.octets.specs.Each.{Each, Octets}
+use Rattle.wire.specs.Header.{sequence}
+use Rattle.wire.specs.Prefix.{agree, clearTo}
+use Rattle.wire.specs.Options.{optionsOf, readFrom}
+use Rattle.keys.specs.declared.entry.Entry.{Entry}
+use Rattle.keys.specs.Algorithm.{macBytes}
+use Rattle.keys.specs.Entry.{knownKind, isFamily, body, width, sideOf, selectorOf, idsOf, secretOf, entryOf, item, items, entriesOf}
+use Rattle.keys.specs.Entry.{entries}
+use Rattle.keys.specs.Places as Places
+use Rattle.keys.specs.Match.{holds, matches, share, clash}
+use Rattle.keys.specs.Mirror.{Mirror}
+use Rattle.keys.specs.Table.{ValidTable, numberOf, clashing, loadedFrom, loaded, found, answers}
+use Rattle.rules.specs.declared.Place.the-variants.{At}
+use Rattle.rules.specs.declared.Outcome.{Outcome}
+use Rattle.rules.specs.declared.Outcome.the-variants.{Good}
+use Rattle.rules.specs.declared.Signing.the-variants as S
+use Rattle.rules.specs.declared.State.{State}
+use Rattle.rules.specs.Position.{position}
+use Rattle.rules.specs.Mac.{segmentMac}
+use Rattle.rules.specs.MacLaws.{length-mac}
+use Rattle.rules.specs.Segment.{inserted, withOption, signedWith}
+use Rattle.rules.specs.Connection.{arrivalPair, leaving, extensionOf, placeOn}
+use Rattle.rules.specs.Calls.{outgoing, addedBytes, checkSign, signedSegment, written, signedBy, outputBy, signed, output}
+use Rattle.rules.specs.Ends.{Typed, Delivered, Holds, SignedAt}
+use Rattle.rules.specs.RoundTripLaws.{Fresh, length-signed}
+use Rattle.rules.specs.Demand3.{Given}
+use Rattle.rules.specs.OrderLaws.{demand3}
+use Rattle.rules.specs.Demand2Laws.{bare-syn}
+use Rattle.rules.specs.Inhabited.{ourTable, theirTable, theirEntry, ourPair, theirPair, fromThem, ourState, theirState, segment}
+use Rattle.rules.specs.Inhabited.{signedBytes, Arrivals, both, Demand3NotEmpty, opener, synSegment, synBytes, BareSynNotEmpty}
+
+-- Of both tables.
+
+valid : ValidTable ourTable
+unfolding agree clearTo macBytes knownKind body width sideOf selectorOf idsOf secretOf entryOf item items entriesOf holds matches share
+    clash numberOf clashing loadedFrom loaded found answers
+valid = (1, refl)
+
+one-entry : entries ourTable ≡ entryOf ourTable ∷ []
+unfolding knownKind body item items entriesOf
+one-entry = refl
+
+among : Places.At (entries ourTable) 0 (entryOf ourTable)
+among = subst⁻¹ (λ (l : List Entry). Places.At l 0 (entryOf ourTable)) one-entry Places.here
+
+mirrored : Mirror ourPair theirPair (entryOf ourTable) theirEntry
+unfolding agree width sideOf selectorOf idsOf secretOf entryOf holds matches
+mirrored = record { here = refl; there = refl; sent = refl; received = refl; flags = refl; algorithm = refl; mac = refl; key = refl }
+
+twelve : theirEntry .secret .«mac_bytes» ≡ 12
+unfolding entryOf secretOf macBytes
+twelve = refl
+
+-- bytes one by one
+octets : (s : List ℕ) → Each (λ (b : ℕ). b < 256) s → Octets s
+octets [] b i = omega arith
+octets (x ∷ s) b zero = b .0
+octets (x ∷ s) b (suc i) = octets s (b .1) i
+
+-- A segment that the other end signs into sixty bytes.
+
+abbrev out : List ℕ
+out = replicate 60 0
+
+-- what computing says of the call
+record Signs (q : State) (s : List ℕ) (x : ℕ) : Type 0 where
+  good : checkSign theirTable s 60 q ≡ Good x 61
+  under : outgoing theirTable q .entry ≡ theirEntry
+  added : addedBytes (outgoing theirTable q) ≡ 16
+  fresh : Fresh s
+  octets : Octets s
+  place : placeOn (q .conn) (q .sent) (sequence s) ≡ At x
+
+module _ (q : State) (s : List ℕ) (x : ℕ) (g : Signs q s x) where
+  abbrev bytes : List ℕ
+  bytes = signedSegment theirEntry q x s
+
+  long : length bytes ≡ length s + 16
+  unfolding signedSegment
+  long =
+      let zeros = signedWith (q .«send_id») (q .«ask_id») (replicate (theirEntry .secret .«mac_bytes») 0) s in
+      let m = segmentMac (theirEntry .secret) (leaving (q .conn)) (extensionOf x) 20 zeros in
+      let n = length-mac (theirEntry .secret) (leaving (q .conn)) (extensionOf x) 20 zeros (omega (arith, twelve)) in
+      let l : length m ≡ 12 = n ∙ twelve in
+      length-signed s (g .fresh) 0 0 (q .«send_id») (q .«ask_id») m (omega arith) ∙ ap (λ (n : ℕ). length s + (4 + n)) l
+
+  wrote : bytes ≡ take (length bytes) (output theirTable s out q)
+  unfolding output
+  wrote =
+      sym (ap (λ (o : Outcome). take (length bytes) (outputBy q s out (outgoing theirTable q .entry) o)) (g .good)
+      ∙ ap (λ (e : Entry). take (length bytes) (written (signedSegment e q x s) out)) (g .under)
+      ∙ take-at bytes (drop (length bytes) out) (length bytes) refl)
+
+  signing : SignedAt q theirEntry x bytes
+  unfolding signed
+  signing =
+      record {
+        table = theirTable;
+        unsigned = s;
+        out = out;
+        octets = g .octets;
+        answer =
+            ap (λ (o : Outcome). signedBy q s (outgoing theirTable q) o .answer) (g .good)
+            ∙ ap (λ (n : ℕ). S.Signed (length s + n)) (g .added)
+            ∙ ap S.Signed (sym long);
+        wrote = wrote;
+        under = g .under;
+        position = g .place;
+      }
+
+signs : Signs theirState segment 4294967312
+unfolding checkSign position optionsOf readFrom agree clearTo macBytes knownKind isFamily body width sideOf selectorOf idsOf secretOf
+    entryOf item items entriesOf holds matches share clash numberOf clashing loadedFrom loaded found answers
+signs =
+    record {
+      good = refl;
+      under = refl;
+      added = refl;
+      fresh = record { long = omega arith; low = omega arith; inside = omega arith; formed = refl; no-ao = refl; no-md5 = refl };
+      octets = octets segment (omega arith);
+      place = refl;
+    }
+
+signs-syn : Signs opener synSegment 4294967280
+unfolding checkSign position optionsOf readFrom agree clearTo macBytes knownKind isFamily body width sideOf selectorOf idsOf secretOf
+    entryOf item items entriesOf holds matches share clash numberOf clashing loadedFrom loaded found answers
+signs-syn =
+    record {
+      good = refl;
+      under = refl;
+      added = refl;
+      fresh = record { long = omega arith; low = omega arith; inside = omega arith; formed = refl; no-ao = refl; no-md5 = refl };
+      octets = octets synSegment (omega arith);
+      place = refl;
+    }
+
+-- Demand 3.
+
+typed-ours : Typed ourState
+typed-ours =
+    record { sent = omega arith; seen = omega arith; isn = omega arith; peer = omega arith; local = refl; remote = refl; counts = refl }
+
+typed-theirs : Typed theirState
+typed-theirs =
+    record { sent = omega arith; seen = omega arith; isn = omega arith; peer = omega arith; local = refl; remote = refl; counts = refl }
+
+arrivals : Arrivals
+unfolding optionsOf readFrom width
+arrivals =
+    record {
+      true-arrival =
+          record {
+            peer = theirState;
+            typed = typed-theirs;
+            other =
+                record {
+                  here = refl;
+                  there = refl;
+                  pair = record { family = refl; local = refl; remote = refl; local-port = refl; remote-port = refl };
+                  isn = refl;
+                  peer = refl;
+                };
+            ours = entryOf ourTable;
+            theirs = theirEntry;
+            place = 0;
+            among = among;
+            mirror = mirrored;
+            bytes = signedBytes;
+            signed = signing theirState segment 4294967312 signs;
+            delivered = record { from = refl; to = refl; high = 18; low = 52; segment = refl };
+            asks = refl;
+          };
+      -- the same segment without TCP-AO verifies under no key
+      other-arrival = λ v. omega (arith, v .one);
+    }
+
+pub demand3-not-empty : Demand3NotEmpty
+unfolding isFamily
+demand3-not-empty = record { arrivals = arrivals; given = given; demand = demand3 ourTable ourState (both arrivals) given }
+  where
+    given : Given ourTable ourState (both arrivals)
+    given =
+        record {
+          valid = valid;
+          typed = typed-ours;
+          allowed = refl;
+          is-open = refl;
+          close = (((omega arith, omega arith), tt), (tt, tt));
+        }
+
+-- Demand 2.
+
+typed-opener : Typed opener
+typed-opener =
+    record { sent = omega arith; seen = omega arith; isn = omega arith; peer = omega arith; local = refl; remote = refl; counts = refl }
+
+delivered : Delivered (172 ∷ 27 ∷ 28 ∷ 29 ∷ []) (10 ∷ 11 ∷ 12 ∷ 13 ∷ []) synBytes (fromThem synBytes)
+delivered = record { from = refl; to = refl; high = 18; low = 52; segment = refl }
+
+held : Holds ourTable (arrivalPair (fromThem synBytes)) theirPair theirEntry
+unfolding signedSegment withOption inserted
+held = record { valid = valid; ours = entryOf ourTable; place = 0; among = among; mirror = mirrored }
+
+pub bare-syn-not-empty : BareSynNotEmpty
+unfolding width
+bare-syn-not-empty =
+    record {
+      typed = typed-opener;
+      opening = refl;
+      signed = signing opener synSegment 4294967280 signs-syn;
+      delivered = delivered;
+      holds = held;
+      accepted =
+          bare-syn opener theirEntry 4294967280 synBytes (fromThem synBytes) ourTable typed-opener refl
+          (signing opener synSegment 4294967280 signs-syn) delivered held true;
+    }

@@ -1,0 +1,184 @@
+-- Document 01's sentences of Sentences.antt, proved.
+use Prim.Native.Nat.{ℕ, _+_}
+use mathlib.Core.Path.{_≡_, refl, ap, _∙_}
+use mathlib.Core.Bool.{Bool, true, false, cond, not, _&&_}
+use mathlib.Core.List.{List, [], _∷_, _++_}
+use native.Mathlib.Omega.{arith}
+use lib.ListN.{length, length-append}
+use mathlib.Core.Logic.{inl, inr}
+use lib.Dec.{eqb, ltb}
+use borrow.Author.Tests.{lt-ltb, eq-eqb, eqb-true}
+use Rattle.octets.specs.Tests.{any}
+use Rattle.wire.specs.Header.{sourcePort, destinationPort, sequence, headerEnd, syn}
+use Rattle.mac.specs.Cmac.{cmac}
+use Rattle.keys.specs.Algorithm.{trafficKeyBytes, outputBits}
+use Rattle.keys.specs.Entry.{isFamily, width, keyOf}
+use Rattle.keys.specs.Table as K
+use Rattle.rules.specs.declared.Place.{Place}
+use Rattle.rules.specs.declared.Outcome.{Outcome}
+use Rattle.rules.specs.declared.Outcome.the-variants.{Good}
+use Rattle.rules.specs.declared.State.{State}
+use Rattle.octets.specs.Tests.{Test, tests, first}
+use Rattle.octets.specs.TestLaws.{first-append}
+use Rattle.rules.specs.Mac.{context, derivationInput, aesKey, applied, trafficKey, pseudoHeader, coveredHeader, front, message}
+use Rattle.rules.specs.Mac.{segmentMac}
+use Rattle.rules.specs.Segment.{malformed, ao, md5, keyId, rnextKeyId, isBareSyn, inserted, withOption}
+use Rattle.rules.specs.Connection.{sized, arrivalPair, isOpen, placeOn, located, value}
+use Rattle.rules.specs.Calls.{isRefused, check, checkSyn, unrefused, checkSign, outgoing, addedBytes}
+use Rattle.rules.specs.Answers.{verdictAnswer}
+use Rattle.rules.specs.MacLaws.{length-context, length-traffic-key}
+use Rattle.rules.specs.SigningLaws.{valid-of}
+use Rattle.rules.specs.GrowthLaws.{added-16, above-11}
+use Rattle.rules.specs.Sentences.{Row, row, given, badSize, judgeRows, synRows, signRows, tableRow, JudgeTable, SynTable, SignTable}
+use Rattle.rules.specs.Sentences.{OpenTable, AskTable, EntryOrder, AnswerNumbers, CountsStop, Context, Contexts, TrafficKeys}
+use Rattle.rules.specs.Sentences.{PseudoHeaders, MessageOrder, Lengths, SegmentMacs, SignedExample, Covered}
+
+-- the tests of rows, one behind another
+abbrev flat : List Row → List (Test Outcome)
+flat [] = []
+flat (r ∷ l) = tests (r .gives) (r .tests) ++ flat l
+
+first-tests : (o z : Outcome) (l : List Bool) → first (tests o l) z ≡ cond (any l) o z
+first-tests o z [] = refl
+first-tests o z (true ∷ l) = refl
+first-tests o z (false ∷ l) = first-tests o z l
+
+first-flat : (l : List Row) (o : Outcome) → first (flat l) o ≡ given l o
+first-flat [] o = refl
+first-flat (r ∷ l) o =
+    first-append (tests (r .gives) (r .tests)) (flat l) o ∙ first-tests (r .gives) (first (flat l) o) (r .tests)
+    ∙ ap (cond (any (r .tests)) (r .gives)) (first-flat l o)
+
+pub judge-table : JudgeTable
+unfolding check
+judge-table t l reference a =
+    let x = placeOn l reference (sequence (a .segment)) in
+    first-flat (judgeRows t l (K.recvEntry t (l .pair) (keyId (a .segment))) x a) (Good (value x) (rnextKeyId (a .segment)))
+
+pub syn-table : SynTable
+unfolding checkSyn
+syn-table t a strict =
+    first-flat (synRows t strict (K.recvEntry t (arrivalPair a) (keyId (a .segment))) a)
+    (Good (sequence (a .segment)) (rnextKeyId (a .segment)))
+
+-- the rows of signing by the tests of 32 and 37
+abbrev signRowsBy : K.Tables → List ℕ → State → Place → List Bool → Bool → List Row
+signRowsBy t s q x tests32 test37 =
+    row 18 (not (isFamily (q .conn .pair .family)) ∷ [])
+    ∷ tableRow t
+    ∷ row 30 (badSize s)
+    ∷ row 31 (malformed s ∷ ltb 0 (ao s .count) ∷ ltb 0 (md5 s .count) ∷ [])
+    ∷ row 32 tests32
+    ∷ row 33 (not (eqb (sourcePort s) (q .conn .pair .«local_port»)) ∷ not (eqb (destinationPort s) (q .conn .pair .«remote_port»)) ∷ [])
+    ∷ row 34 (cond (isOpen (q .conn)) (isBareSyn s) (not (isBareSyn s)) ∷ [])
+    ∷ row 35 (not (outgoing t q .there) ∷ [])
+    ∷ row 36 (not (located x) ∷ (syn s && not (eqb (value x) (q .conn .isn))) ∷ [])
+    ∷ row 37 (test37 ∷ [])
+    ∷ []
+
+pub sign-table : SignTable
+unfolding checkSign
+sign-table t s room q =
+    first-flat
+    (signRowsBy t s q place (ltb 60 (headerEnd s + addedBytes (outgoing t q)) ∷ ltb 65535 (length s + addedBytes (outgoing t q)) ∷ [])
+    (ltb room (length s + addedBytes (outgoing t q))))
+    (Good (value place) (q .«ask_id»))
+    ∙ go (isRefused (K.checked t)) refl
+  where
+    place : Place
+    place = placeOn (q .conn) (q .sent) (sequence s)
+
+    go : (b : Bool) → isRefused (K.checked t) ≡ b
+        → given
+        (signRowsBy t s q (placeOn (q .conn) (q .sent) (sequence s))
+        (ltb 60 (headerEnd s + addedBytes (outgoing t q)) ∷ ltb 65535 (length s + addedBytes (outgoing t q)) ∷ [])
+        (ltb room (length s + addedBytes (outgoing t q))))
+        (Good (value (placeOn (q .conn) (q .sent) (sequence s))) (q .«ask_id»))
+        ≡ given (signRows t s room q (placeOn (q .conn) (q .sent) (sequence s)))
+        (Good (value (placeOn (q .conn) (q .sent) (sequence s))) (q .«ask_id»))
+    go true e = rw e
+    go false e =
+        let n = added-16 t q (valid-of t e) in
+        λ j. given
+        (signRowsBy t s q (placeOn (q .conn) (q .sent) (sequence s))
+        ((ap (λ (k : ℕ). ltb 60 (headerEnd s + k)) n ∙ above-11 s) j ∷ ltb 65535 (length s + n j) ∷ []) (ltb room (length s + n j)))
+        (Good (value (placeOn (q .conn) (q .sent) (sequence s))) (q .«ask_id»))
+
+pub open-table : OpenTable
+open-table t local remote p sendId =
+    first-flat (row 19 (not (sized local remote) ∷ []) ∷ tableRow t ∷ row 35 (not (K.sendEntry t p sendId .there) ∷ []) ∷ []) unrefused
+
+pub ask-table : AskTable
+ask-table t id l =
+    first-flat
+    (row 18 (not (isFamily (l .pair .family)) ∷ []) ∷ tableRow t ∷ row 35 (not (K.recvEntry t (l .pair) id .there) ∷ []) ∷ []) unrefused
+
+pub entry-order : EntryOrder
+entry-order limit i before x = refl
+
+pub answer-numbers : AnswerNumbers
+unfolding verdictAnswer
+answer-numbers = record { accept = λ e i. refl; pass = λ i. refl; drop = λ n i. refl }
+
+pub counts-stop : CountsStop
+counts-stop = record { below = λ n h. rw (lt-ltb n 18446744073709551615 h); there = refl }
+
+-- Traffic keys.
+
+pub context-is : Context
+unfolding context
+context-is f = refl
+
+pub contexts : Contexts
+unfolding context width
+contexts = record { leaves = refl; arrives = λ s. refl; bare-syn = refl }
+
+not-16 : (n : ℕ) → (n ≡ 16 → ⊥) → eqb n 16 ≡ false
+not-16 n h = go (eqb n 16) refl
+  where
+    go : (b : Bool) → eqb n 16 ≡ b → eqb n 16 ≡ false
+    go true e = absurd (h (eqb-true n 16 e))
+    go false e = e
+
+pub traffic-keys : TrafficKeys
+unfolding trafficKey applied derivationInput outputBits aesKey
+traffic-keys =
+    record {
+      hmac = λ s f e. rw e;
+      cmac-16 = λ s f e l. rw (e, eq-eqb (length (keyOf s)) 16 l);
+      cmac-other = λ s f e l. rw (e, not-16 (length (keyOf s)) l);
+    }
+
+pub lengths : Lengths
+unfolding trafficKeyBytes
+lengths =
+    record {
+      context-ipv4 = λ f a b. omega (arith, length-context f);
+      context-ipv6 = λ f a b. omega (arith, length-context f);
+      input-ipv4 = λ f bits a b. omega (arith, length-append (context f) (0 ∷ bits ∷ []), length-context f);
+      input-ipv6 = λ f bits a b. omega (arith, length-append (context f) (0 ∷ bits ∷ []), length-context f);
+      key-hmac = λ s f e. length-traffic-key s f (inl e) ∙ rw e;
+      key-cmac = λ s f e. length-traffic-key s f (inr e) ∙ rw e;
+    }
+
+-- What the MAC covers.
+
+pub pseudo-headers : PseudoHeaders
+unfolding pseudoHeader
+pseudo-headers = record { ipv4 = λ a b n l. rw l; ipv6 = λ a b n l. rw l }
+
+pub message-order : MessageOrder
+unfolding message front pseudoHeader
+message-order s f e at segment = refl
+
+pub segment-macs : SegmentMacs
+unfolding segmentMac applied
+segment-macs = record { hmac = λ s f e at segment a m. rw (a, m); cmac = λ s f e at segment a m. rw (a, m) }
+
+pub signed-example : SignedExample
+unfolding withOption inserted
+signed-example = refl
+
+pub covered : Covered
+unfolding message front pseudoHeader coveredHeader width
+covered = record { all-options = refl; only-ao = refl }

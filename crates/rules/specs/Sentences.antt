@@ -1,0 +1,289 @@
+-- Document 01's sentences, said of the definitions once more and apart from them: the table of numbers row by row, and bytes as numerals.
+-- A definition and the code that is proved equal to it could be wrong alike; then they contradict a sentence here. SentenceLaws proves
+-- each.
+use Prim.Native.Nat.{ℕ, _+_, _/_, _%_, _<_}
+use mathlib.Core.Path.{_≡_}
+use mathlib.Core.Bool.{Bool, cond, not, _&&_}
+use mathlib.Core.List.{List, [], _∷_, _++_, map}
+use lib.ListN.{length, take, drop, replicate}
+use lib.Dec.{eqb, ltb}
+use Rattle.octets.specs.Tests.{Test, any}
+use Rattle.wire.specs.Bytes.{sameBytes}
+use Rattle.wire.specs.Header.{sourcePort, destinationPort, sequence, dataOffset, headerEnd, syn, ack}
+use Rattle.mac.specs.Hmac.{hmacSha1}
+use Rattle.mac.specs.Cmac.{cmac}
+use Rattle.keys.specs.declared.entry.Pair.{Pair}
+use Rattle.keys.specs.declared.entry.Entry.{Entry}
+use Rattle.keys.specs.declared.entry.Secret.{Secret}
+use Rattle.keys.specs.declared.table.Found.{Found}
+use Rattle.keys.specs.Entry.{Item, isFamily, keyOf, allOptions}
+use Rattle.keys.specs.Table as K
+use Rattle.rules.specs.declared.Place.{Place}
+use Rattle.rules.specs.declared.Place.the-variants.{At}
+use Rattle.rules.specs.declared.Outcome.{Outcome}
+use Rattle.rules.specs.declared.Outcome.the-variants.{Good, Passed, Bad}
+use Rattle.rules.specs.declared.Verdict.the-variants.{Accept, Pass, Drop}
+use Rattle.rules.specs.declared.Connection.{Connection}
+use Rattle.rules.specs.declared.State.{State}
+use Rattle.octets.specs.Tests.{first}
+use Rattle.rules.specs.Mac.{Flow, context, trafficKey, pseudoHeader, coveredHeader, message, segmentMac}
+use Rattle.rules.specs.Segment.{malformed, ao, md5, aoAt, keyId, rnextKeyId, macIn, isBareSyn, signedWith}
+use Rattle.rules.specs.Connection.{Arrival, sized, arrivalPair, localAddress, remoteAddress, isOpen, arriving, leaving, arrivingSyn}
+use Rattle.rules.specs.Connection.{placeOn, located, value, extensionOf, bump}
+use Rattle.rules.specs.Calls.{isRefused, refusal, check, checkSyn, unrefused, openTests, askTests, checkSign}
+use Rattle.rules.specs.Answers.{answer, verdictAnswer, placeAnswer}
+
+-- The table of numbers. "The first that applies, in this order, is given."
+
+-- a row: what is given if one of its tests applies
+pub record Row : Type 0 where
+  pub gives : Outcome
+  pub tests : List Bool
+
+abbrev pub row : ℕ → List Bool → Row
+row n l = record { gives = Bad n 0; tests = l }
+
+-- the row of 10 to 17, with the entry's index
+abbrev pub tableRow : K.Tables → Row
+tableRow t = record { gives = refusal (K.checked t); tests = isRefused (K.checked t) ∷ [] }
+
+abbrev pub given : List Row → Outcome → Outcome
+given [] o = o
+given (r ∷ l) o = cond (any (r .tests)) (r .gives) (given l o)
+
+-- "A segment has 20 to 65,535 bytes. The data offset is 5 to 15 words and its header lies inside the segment."
+abbrev pub badSize : List ℕ → List Bool
+badSize s = ltb (length s) 20 ∷ ltb 65535 (length s) ∷ ltb (dataOffset s) 5 ∷ ltb (length s) (headerEnd s) ∷ []
+
+-- the MAC differs from that of the segment under the entry, of the flow, at the place
+abbrev pub wrongMac : Entry → Flow → Place → List ℕ → Bool
+wrongMac e f x s = not (sameBytes (macIn s) (segmentMac (e .secret) f (extensionOf (value x)) (aoAt s) s))
+
+-- Judging with a state, its connection l.
+abbrev pub judgeRows : K.Tables → Connection → Found → Place → Arrival → List Row
+judgeRows t l found x a =
+    row 18 (not (isFamily (l .pair .family)) ∷ [])
+    ∷ row 19 (not (sized (a .source) (a .destination)) ∷ [])
+    ∷ tableRow t
+    ∷ row 20 (badSize (a .segment))
+    ∷ row 21 (malformed (a .segment) ∷ [])
+    ∷ row 22 (ltb 1 (ao (a .segment) .count) ∷ (ltb 0 (ao (a .segment) .count) && ltb 0 (md5 (a .segment) .count)) ∷ [])
+    ∷ row 23
+    (not (sameBytes (a .source) (remoteAddress (l .pair)))
+    ∷ not (sameBytes (a .destination) (localAddress (l .pair)))
+    ∷ not (eqb (sourcePort (a .segment)) (l .pair .«remote_port»))
+    ∷ not (eqb (destinationPort (a .segment)) (l .pair .«local_port»)) ∷ [])
+    ∷ row 24 (cond (isOpen l) (isBareSyn (a .segment)) (not (syn (a .segment) && ack (a .segment))) ∷ [])
+    ∷ row 25 (eqb (ao (a .segment) .count) 0 ∷ [])
+    ∷ row 26 (not (found .there) ∷ [])
+    ∷ row 27 (not (eqb (ao (a .segment) .len) (4 + found .entry .secret .«mac_bytes»)) ∷ [])
+    ∷ row 28 (not (located x) ∷ [])
+    ∷ row 29 (wrongMac (found .entry) (arriving l (a .segment)) x (a .segment) ∷ [])
+    ∷ []
+
+-- the entry for its KeyID is found by RecvID
+abbrev pub JudgeTable : Type 0
+JudgeTable = (t : K.Tables) (l : Connection) (reference : ℕ) (a : Arrival)
+    → check t l reference a
+    ≡ given (judgeRows t l (K.recvEntry t (l .pair) (keyId (a .segment))) (placeOn l reference (sequence (a .segment))) a)
+    (Good (value (placeOn l reference (sequence (a .segment)))) (rnextKeyId (a .segment)))
+
+-- A bare SYN, without a state: "25 if any entry matches the pair, otherwise pass"; "If there is none, a setting decides: pass .. or drop
+-- 26."
+abbrev pub synRows : K.Tables → Bool → Found → Arrival → List Row
+synRows t strict found a =
+    row 19 (not (sized (a .source) (a .destination)) ∷ [])
+    ∷ tableRow t
+    ∷ row 20 (badSize (a .segment))
+    ∷ row 21 (malformed (a .segment) ∷ [])
+    ∷ row 22 (ltb 1 (ao (a .segment) .count) ∷ (ltb 0 (ao (a .segment) .count) && ltb 0 (md5 (a .segment) .count)) ∷ [])
+    ∷ row 24 (not (isBareSyn (a .segment)) ∷ [])
+    ∷ record { gives = cond (K.anyEntry t (arrivalPair a)) (Bad 25 0) Passed; tests = eqb (ao (a .segment) .count) 0 ∷ [] }
+    ∷ record { gives = cond strict (Bad 26 0) Passed; tests = not (found .there) ∷ [] }
+    ∷ row 27 (not (eqb (ao (a .segment) .len) (4 + found .entry .secret .«mac_bytes»)) ∷ [])
+    ∷ row 29 (wrongMac (found .entry) (arrivingSyn a) (At (sequence (a .segment))) (a .segment) ∷ [])
+    ∷ []
+
+abbrev pub SynTable : Type 0
+SynTable = (t : K.Tables) (a : Arrival) (strict : Bool)
+    → checkSyn t a strict
+    ≡ given (synRows t strict (K.recvEntry t (arrivalPair a) (keyId (a .segment))) a)
+    (Good (sequence (a .segment)) (rnextKeyId (a .segment)))
+
+-- Signing the segment s into an output of `room` bytes: TCP-AO takes 16.
+abbrev pub signRows : K.Tables → List ℕ → ℕ → State → Place → List Row
+signRows t s room q x =
+    row 18 (not (isFamily (q .conn .pair .family)) ∷ [])
+    ∷ tableRow t
+    ∷ row 30 (badSize s)
+    ∷ row 31 (malformed s ∷ ltb 0 (ao s .count) ∷ ltb 0 (md5 s .count) ∷ [])
+    ∷ row 32 (ltb 11 (dataOffset s) ∷ ltb 65535 (length s + 16) ∷ [])
+    ∷ row 33 (not (eqb (sourcePort s) (q .conn .pair .«local_port»)) ∷ not (eqb (destinationPort s) (q .conn .pair .«remote_port»)) ∷ [])
+    ∷ row 34 (cond (isOpen (q .conn)) (isBareSyn s) (not (isBareSyn s)) ∷ [])
+    ∷ row 35 (not (K.sendEntry t (q .conn .pair) (q .«send_id») .there) ∷ [])
+    ∷ row 36 (not (located x) ∷ (syn s && not (eqb (value x) (q .conn .isn))) ∷ [])
+    ∷ row 37 (ltb room (length s + 16) ∷ [])
+    ∷ []
+
+abbrev pub SignTable : Type 0
+SignTable = (t : K.Tables) (s : List ℕ) (room : ℕ) (q : State)
+    → checkSign t s room q
+    ≡ given (signRows t s room q (placeOn (q .conn) (q .sent) (sequence s)))
+    (Good (value (placeOn (q .conn) (q .sent) (sequence s))) (q .«ask_id»))
+
+-- 35: "no entry matching the pair has the outgoing SendID (opening ..) or the RecvID to ask (operator call)"
+abbrev pub OpenTable : Type 0
+OpenTable = (t : K.Tables) (local remote : List ℕ) (p : Pair) (sendId : ℕ)
+    → first (openTests t local remote (K.sendEntry t p sendId)) unrefused
+    ≡ given (row 19 (not (sized local remote) ∷ []) ∷ tableRow t ∷ row 35 (not (K.sendEntry t p sendId .there) ∷ []) ∷ []) unrefused
+
+abbrev pub AskTable : Type 0
+AskTable = (t : K.Tables) (id : ℕ) (l : Connection)
+    → first (askTests t id l) unrefused
+    ≡ given
+    (row 18 (not (isFamily (l .pair .family)) ∷ []) ∷ tableRow t ∷ row 35 (not (K.recvEntry t (l .pair) id .there) ∷ []) ∷ []) unrefused
+
+-- "12, 11, 10", then 13 to 17: the numbers of the entry with the index i, in order
+abbrev pub EntryOrder : Type 0
+EntryOrder = (limit i : ℕ) (before : List Entry) (x : Item)
+    → map (λ (r : Test ℕ). r .gives) (K.loadTests limit i before x)
+    ≡ 12 ∷ 11 ∷ 10 ∷ 13 ∷ 13 ∷ 13 ∷ 14 ∷ 14 ∷ 15 ∷ 15 ∷ 15 ∷ 15 ∷ 16 ∷ 16 ∷ 16 ∷ 17 ∷ []
+
+-- Answers. "A verdict is accept with its extension, pass, or drop with a number": accept has the number 0, pass 1.
+pub record AnswerNumbers : Type 0 where
+  pub accept : (e i : ℕ) → verdictAnswer (Accept e) i ≡ answer 0 e
+  pub pass : (i : ℕ) → verdictAnswer Pass i ≡ answer 1 0
+  pub drop : (n i : ℕ) → verdictAnswer (Drop n) i ≡ answer n i
+
+-- "Otherwise the answer is 28 or 36.": a position's answer has that number exactly where the row of 28 or 36 applies, and else the position
+-- that the rest of the call goes by
+abbrev pub PlaceAnswers : Type 0
+PlaceAnswers = (n : ℕ) (x : Place) → placeAnswer n x ≡ cond (located x) (answer 0 (value x)) (answer n 0)
+
+-- Counts. "Counts of acceptances and of each drop stop at 2^64-1."
+pub record CountsStop : Type 0 where
+  pub below : (n : ℕ) → n < 18446744073709551615 → bump n ≡ n + 1
+  pub there : bump 18446744073709551615 ≡ 18446744073709551615
+
+-- Traffic keys.
+
+-- a connection from 10.11.12.13, port 59863, ISN 100, to 172.27.28.29, port 179, ISN 4294967280, as its first end holds it: open, and
+-- opening
+abbrev pub ends : Pair
+ends =
+    record {
+      family = 4;
+      «local_port» = 59863;
+      «remote_port» = 179;
+      local = (10 ∷ 11 ∷ 12 ∷ 13 ∷ []) ++ replicate 12 0;
+      remote = (172 ∷ 27 ∷ 28 ∷ 29 ∷ []) ++ replicate 12 0;
+    }
+
+abbrev pub openEnd : Connection
+openEnd = record { stage = 1; pair = ends; isn = 100; «peer_isn» = 4294967280 }
+
+abbrev pub openingEnd : Connection
+openingEnd = record { stage = 0; pair = ends; isn = 100; «peer_isn» = 0 }
+
+-- "The context is source address, destination address, source port, destination port, source ISN, destination ISN"
+abbrev pub Context : Type 0
+Context = (f : Flow)
+    → context f
+    ≡ f .source
+    ++ f .destination
+    ++ (f .sourcePort / 256 % 256 ∷ f .sourcePort % 256 ∷ [])
+    ++ (f .destinationPort / 256 % 256 ∷ f .destinationPort % 256 ∷ [])
+    ++ (f .sourceIsn / 16777216 % 256 ∷ f .sourceIsn / 65536 % 256 ∷ f .sourceIsn / 256 % 256 ∷ f .sourceIsn % 256 ∷ [])
+    ++ (f .destinationIsn / 16777216 % 256 ∷ f .destinationIsn / 65536 % 256 ∷ f .destinationIsn / 256 % 256 ∷ f .destinationIsn % 256 ∷ [])
+
+-- "'source' is whoever sent the segment": of what leaves the first end, of what arrives there; "For a bare SYN (SYN set, ACK clear) the
+-- destination ISN is zero."
+pub record Contexts : Type 0 where
+  pub leaves : context (leaving openEnd)
+      ≡ 10 ∷ 11 ∷ 12 ∷ 13 ∷ 172 ∷ 27 ∷ 28 ∷ 29 ∷ 233 ∷ 215 ∷ 0 ∷ 179 ∷ 0 ∷ 0 ∷ 0 ∷ 100 ∷ 255 ∷ 255 ∷ 255 ∷ 240 ∷ []
+  pub arrives : (s : List ℕ)
+      → context (arriving openEnd s)
+      ≡ 172 ∷ 27 ∷ 28 ∷ 29 ∷ 10 ∷ 11 ∷ 12 ∷ 13 ∷ 0 ∷ 179 ∷ 233 ∷ 215 ∷ 255 ∷ 255 ∷ 255 ∷ 240 ∷ 0 ∷ 0 ∷ 0 ∷ 100 ∷ []
+  pub bare-syn : context (leaving openingEnd)
+      ≡ 10 ∷ 11 ∷ 12 ∷ 13 ∷ 172 ∷ 27 ∷ 28 ∷ 29 ∷ 233 ∷ 215 ∷ 0 ∷ 179 ∷ 0 ∷ 0 ∷ 0 ∷ 100 ∷ 0 ∷ 0 ∷ 0 ∷ 0 ∷ []
+
+-- "The input is one byte 1, the six bytes "TCP-AO", the context, and the output length in bits as two bytes (160 or 128)"
+abbrev pub input : Flow → ℕ → List ℕ
+input f bits = 1 ∷ 84 ∷ 67 ∷ 80 ∷ 45 ∷ 65 ∷ 79 ∷ (context f ++ (0 ∷ bits ∷ []))
+
+-- "Algorithm 1 applies HMAC-SHA-1 under the master key. Algorithm 2 applies AES-CMAC under the master key if that has 16 bytes; otherwise
+-- under AES-CMAC of the master key with an all-zero key."
+pub record TrafficKeys : Type 0 where
+  pub hmac : (s : Secret) (f : Flow) → s .algorithm ≡ 1 → trafficKey s f ≡ hmacSha1 (keyOf s) (input f 160)
+  pub cmac-16 : (s : Secret) (f : Flow) → s .algorithm ≡ 2 → length (keyOf s) ≡ 16 → trafficKey s f ≡ cmac (keyOf s) (input f 128)
+  pub cmac-other : (s : Secret) (f : Flow) → s .algorithm ≡ 2 → (length (keyOf s) ≡ 16 → ⊥)
+      → trafficKey s f ≡ cmac (cmac (replicate 16 0) (keyOf s)) (input f 128)
+
+-- "It has 20 bytes for IPv4, 44 for IPv6"; the input has "29 or 53 bytes in all"; "traffic key bytes (20 and 16)"
+pub record Lengths : Type 0 where
+  pub context-ipv4 : (f : Flow) → length (f .source) ≡ 4 → length (f .destination) ≡ 4 → length (context f) ≡ 20
+  pub context-ipv6 : (f : Flow) → length (f .source) ≡ 16 → length (f .destination) ≡ 16 → length (context f) ≡ 44
+  pub input-ipv4 : (f : Flow) (bits : ℕ) → length (f .source) ≡ 4 → length (f .destination) ≡ 4 → length (input f bits) ≡ 29
+  pub input-ipv6 : (f : Flow) (bits : ℕ) → length (f .source) ≡ 16 → length (f .destination) ≡ 16 → length (input f bits) ≡ 53
+  pub key-hmac : (s : Secret) (f : Flow) → s .algorithm ≡ 1 → length (trafficKey s f) ≡ 20
+  pub key-cmac : (s : Secret) (f : Flow) → s .algorithm ≡ 2 → length (trafficKey s f) ≡ 16
+
+-- What the MAC covers.
+
+-- "the IP pseudo-header as for the checksum, with the whole segment's length": protocol 6 (RFC 9293 §3.1, RFC 8200 §8.1)
+pub record PseudoHeaders : Type 0 where
+  pub ipv4 : (a b : List ℕ) (n : ℕ) → length a ≡ 4 → pseudoHeader a b n ≡ a ++ b ++ (0 ∷ 6 ∷ n / 256 % 256 ∷ n % 256 ∷ [])
+  pub ipv6 : (a b : List ℕ) (n : ℕ) → length a ≡ 16
+      → pseudoHeader a b n ≡ a ++ b ++ (n / 16777216 % 256 ∷ n / 65536 % 256 ∷ n / 256 % 256 ∷ n % 256 ∷ 0 ∷ 0 ∷ 0 ∷ 6 ∷ [])
+
+-- "In this order: the extension (4 bytes); the IP pseudo-header ..; the TCP header ..; the data."
+abbrev pub MessageOrder : Type 0
+MessageOrder = (s : Secret) (f : Flow) (e at : ℕ) (segment : List ℕ)
+    → message s f e at segment
+    ≡ (e / 16777216 % 256 ∷ e / 65536 % 256 ∷ e / 256 % 256 ∷ e % 256 ∷ [])
+    ++ pseudoHeader (f .source) (f .destination) (length segment)
+    ++ coveredHeader (allOptions s) at (s .«mac_bytes») (take (headerEnd segment) segment)
+    ++ drop (headerEnd segment) segment
+
+-- "The leftmost 12 bytes are the MAC."
+pub record SegmentMacs : Type 0 where
+  pub hmac : (s : Secret) (f : Flow) (e at : ℕ) (segment : List ℕ) → s .algorithm ≡ 1 → s .«mac_bytes» ≡ 12
+      → segmentMac s f e at segment ≡ take 12 (hmacSha1 (trafficKey s f) (message s f e at segment))
+  pub cmac : (s : Secret) (f : Flow) (e at : ℕ) (segment : List ℕ) → s .algorithm ≡ 2 → s .«mac_bytes» ≡ 12
+      → segmentMac s f e at segment ≡ take 12 (cmac (trafficKey s f) (message s f e at segment))
+
+-- A segment that arrives on the open connection, 27 bytes: four options of kind 1, three bytes of data.
+abbrev pub unsigned : List ℕ
+unsigned =
+    0 ∷ 179 ∷ 233 ∷ 215 ∷ 0 ∷ 0 ∷ 0 ∷ 16 ∷ 1 ∷ 2 ∷ 3 ∷ 4 ∷ 96 ∷ 16 ∷ 128 ∷ 0 ∷ 18 ∷ 52 ∷ 7 ∷ 8
+    ∷ 1 ∷ 1 ∷ 1 ∷ 1 ∷ 97 ∷ 98 ∷ 99 ∷ []
+
+abbrev pub mac : List ℕ
+mac = 201 ∷ 202 ∷ 203 ∷ 204 ∷ 205 ∷ 206 ∷ 207 ∷ 208 ∷ 209 ∷ 210 ∷ 211 ∷ 212 ∷ []
+
+-- "Signing puts TCP-AO directly after byte 20, the old options behind it, raises the data offset by 4, and writes checksum zero."
+abbrev pub signedBytes : List ℕ
+signedBytes =
+    0 ∷ 179 ∷ 233 ∷ 215 ∷ 0 ∷ 0 ∷ 0 ∷ 16 ∷ 1 ∷ 2 ∷ 3 ∷ 4 ∷ 160 ∷ 16 ∷ 128 ∷ 0 ∷ 0 ∷ 0 ∷ 7 ∷ 8
+    ∷ 29 ∷ 16 ∷ 84 ∷ 61 ∷ 201 ∷ 202 ∷ 203 ∷ 204 ∷ 205 ∷ 206 ∷ 207 ∷ 208 ∷ 209 ∷ 210 ∷ 211 ∷ 212
+    ∷ 1 ∷ 1 ∷ 1 ∷ 1 ∷ 97 ∷ 98 ∷ 99 ∷ []
+
+abbrev pub SignedExample : Type 0
+SignedExample = signedWith 84 61 mac unsigned ≡ signedBytes
+
+abbrev pub secret : ℕ → Secret
+secret flags = record { flags = flags; algorithm = 1; «mac_bytes» = 12; «key_len» = 1; key = replicate 80 0 }
+
+-- "the TCP header with checksum and MAC bytes zero"; "With flag 0 only the header's first 20 bytes, data offset as sent, and TCP-AO
+-- remain."
+pub record Covered : Type 0 where
+  pub all-options : message (secret 1) (arriving openEnd []) 1 20 signedBytes
+      ≡ 0 ∷ 0 ∷ 0 ∷ 1 ∷ 172 ∷ 27 ∷ 28 ∷ 29 ∷ 10 ∷ 11 ∷ 12 ∷ 13 ∷ 0 ∷ 6 ∷ 0 ∷ 43
+      ∷ 0 ∷ 179 ∷ 233 ∷ 215 ∷ 0 ∷ 0 ∷ 0 ∷ 16 ∷ 1 ∷ 2 ∷ 3 ∷ 4 ∷ 160 ∷ 16 ∷ 128 ∷ 0 ∷ 0 ∷ 0 ∷ 7 ∷ 8
+      ∷ 29 ∷ 16 ∷ 84 ∷ 61 ∷ 0 ∷ 0 ∷ 0 ∷ 0 ∷ 0 ∷ 0 ∷ 0 ∷ 0 ∷ 0 ∷ 0 ∷ 0 ∷ 0
+      ∷ 1 ∷ 1 ∷ 1 ∷ 1 ∷ 97 ∷ 98 ∷ 99 ∷ []
+  pub only-ao : message (secret 0) (arriving openEnd []) 1 20 signedBytes
+      ≡ 0 ∷ 0 ∷ 0 ∷ 1 ∷ 172 ∷ 27 ∷ 28 ∷ 29 ∷ 10 ∷ 11 ∷ 12 ∷ 13 ∷ 0 ∷ 6 ∷ 0 ∷ 43
+      ∷ 0 ∷ 179 ∷ 233 ∷ 215 ∷ 0 ∷ 0 ∷ 0 ∷ 16 ∷ 1 ∷ 2 ∷ 3 ∷ 4 ∷ 160 ∷ 16 ∷ 128 ∷ 0 ∷ 0 ∷ 0 ∷ 7 ∷ 8
+      ∷ 29 ∷ 16 ∷ 84 ∷ 61 ∷ 0 ∷ 0 ∷ 0 ∷ 0 ∷ 0 ∷ 0 ∷ 0 ∷ 0 ∷ 0 ∷ 0 ∷ 0 ∷ 0
+      ∷ 97 ∷ 98 ∷ 99 ∷ []
