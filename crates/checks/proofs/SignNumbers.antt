@@ -1,19 +1,13 @@
--- What the tests of signing's groups say of the definitions: 30 to 37.
-use Prim.Native.Nat.{ℕ, _+_, _<_, _≤_}
+-- What the tests of signing's groups say of the definitions: 31 to 37.
+use Prim.Native.Nat.{ℕ, _+_, _-_, _<_, _≤_}
 use mathlib.Core.Path.{_≡_, refl, sym, ap, _∙_}
 use mathlib.Core.Bool.{Bool, cond, not, _&&_}
-use mathlib.Core.List.{List, [], _∷_}
+use mathlib.Core.List.{[], _∷_}
 use native.Mathlib.Omega.{arith}
-use lib.ListN.{length}
 use lib.Dec.{ltb, eqb}
 use borrow.Author.Tests.{lt-ltb, le-ltb}
-use Rattle.wire.specs.Header.{sequence, headerEnd, area, syn}
-use Rattle.wire.specs.Options.{optionsOf}
-use Rattle.wire.specs.declared.options.Seen.{Seen}
 use Rattle.wire.specs.declared.options.Options.{Options}
-use Rattle.wire.specs.declared.options.Options.the-variants.{Malformed, Found}
-use Rattle.keys.specs.declared.table.Found.{Found as Search}
-use Rattle.keys.specs.Table.{Tables, checked}
+use Rattle.wire.specs.declared.header.Header.{Header}
 use Rattle.rules.specs.declared.Outcome.{Outcome}
 use Rattle.rules.specs.declared.Outcome.the-variants.{Good, Bad}
 use Rattle.rules.specs.declared.Place.{Place}
@@ -21,72 +15,76 @@ use Rattle.rules.specs.declared.Place.the-variants.{At}
 use Rattle.rules.specs.declared.Connection.{Connection}
 use Rattle.rules.specs.declared.State.{State}
 use Rattle.octets.specs.Tests.{tests, first}
-use Rattle.rules.specs.Segment.{isBareSyn}
-use Rattle.rules.specs.Connection.{isOpen, placeOn, value}
-use Rattle.rules.specs.Calls.{refuse, unrefused, addedBytes, freshTests, growthTests, signStageTests, sentPlaceTests, signTests}
-use Rattle.checks.specs.SignGroups.{inputTests, segmentTests, outputTests}
-use Rattle.checks.specs.GroupLaws.{yes, no, Else, stop, pass, refusal-final}
+use Rattle.rules.specs.Connection.{placeOn, value}
+use Rattle.rules.specs.Calls.{refuse, unrefused}
+use Rattle.checks.specs.SignGroups.{freshLines, growthLines, placeLines, segmentLines, outputLines, signed}
+use Rattle.checks.specs.GroupLaws.{yes, no, Else, stop, pass}
 
--- 31
-pub bad-options : (s : List ℕ) {o : Options} → o ≡ optionsOf (area s) → o ≡ Malformed → Bad 31 0 ≡ first (freshTests s) unrefused
-bad-options s e m = rw (sym e ∙ m)
-
-pub read-options : (s : List ℕ) {o : Options} {w : Outcome} (x : Seen) → o ≡ optionsOf (area s) → o ≡ Found x
-    → w ≡ first (tests (refuse 31) (ltb 0 (x .ao .count) ∷ ltb 0 (x .md5 .count) ∷ [])) unrefused → w ≡ first (freshTests s) unrefused
-read-options s x e m h = rw (sym e ∙ m) h
+-- 31 by what was read
+pub fresh-is : {x : Options} (y : Options) → x ≡ y → {z : Outcome} → z ≡ first (freshLines y) unrefused → z ≡ first (freshLines x) unrefused
+fresh-is y e q = q ∙ ap (λ (k : Options). first (freshLines k) unrefused) (sym e)
 
 -- 32
-module _ (s : List ℕ) (added e : ℕ) (q : e ≡ headerEnd s) where
-  pub long-header : 60 < e + added → Bad 32 0 ≡ first (growthTests added s) unrefused
-  long-header h = yes _ _ (lt-ltb 60 (headerEnd s + added) (omega arith)) refl
+module _ (added end len : ℕ) where
+  pub too-wide : 60 < added → Bad 32 0 ≡ first (growthLines added end len) unrefused
+  too-wide h = yes _ _ (lt-ltb 60 (end + added) (omega arith)) refl
 
-  pub long-segment : e + added ≤ 60 → 65535 < length s + added → Bad 32 0 ≡ first (growthTests added s) unrefused
-  long-segment h k = no _ _ (le-ltb 60 (headerEnd s + added) (omega arith)) (yes _ _ (lt-ltb _ _ k) refl)
+  pub long-header : added ≤ 60 → 60 - added < end → Bad 32 0 ≡ first (growthLines added end len) unrefused
+  long-header h k = yes _ _ (lt-ltb 60 (end + added) (omega arith)) refl
 
-  pub grows : e + added ≤ 60 → length s + added ≤ 65535 → unrefused ≡ first (growthTests added s) unrefused
-  grows h k = no _ _ (le-ltb 60 (headerEnd s + added) (omega arith)) (no _ _ (le-ltb _ _ k) refl)
+  pub long-segment : added ≤ 60 → end ≤ 60 - added → 65535 - added < len → Bad 32 0 ≡ first (growthLines added end len) unrefused
+  long-segment h k l = no _ _ (le-ltb 60 (end + added) (omega arith)) (yes _ _ (lt-ltb 65535 (len + added) (omega arith)) refl)
 
--- 34
-pub stage : (l : Connection) (s : List ℕ) (b o : Bool) → b ≡ isBareSyn s → o ≡ isOpen l
-    → cond (cond o b (not b)) (Bad 34 0) unrefused ≡ first (signStageTests l s) unrefused
-stage l s b o p q = λ i. cond (cond (q i) (p i) (not (p i))) (refuse 34) unrefused
+  pub grows : added ≤ 60 → end ≤ 60 - added → len ≤ 65535 - added → unrefused ≡ first (growthLines added end len) unrefused
+  grows h k l = no _ _ (le-ltb 60 (end + added) (omega arith)) (no _ _ (le-ltb 65535 (len + added) (omega arith)) refl)
 
 -- 36
-pub placed : (l : Connection) (s : List ℕ) (p : Place) (x : ℕ) (b : Bool) → p ≡ At x → b ≡ syn s
-    → cond (b && not (eqb x (l .isn))) (Bad 36 0) unrefused ≡ first (sentPlaceTests l p s) unrefused
-placed l s p x b e q =
-    (λ i. cond (q i && not (eqb x (l .isn))) (refuse 36) unrefused) ∙ ap (λ (p : Place). first (sentPlaceTests l p s) unrefused) (sym e)
+pub placed : (l : Connection) (p : Place) (x : ℕ) (b s : Bool) → p ≡ At x → b ≡ s
+    → cond (b && not (eqb x (l .isn))) (Bad 36 0) unrefused ≡ first (placeLines l p s) unrefused
+placed l p x b s e q =
+    (λ i. cond (q i && not (eqb x (l .isn))) (refuse 36) unrefused) ∙ ap (λ (p : Place). first (placeLines l p s) unrefused) (sym e)
 
--- all of them in their order
-module _ (t : Tables) (s : List ℕ) (room : ℕ) (q : State) (f : Search) where
+-- 37
+module _ (room added len : ℕ) where
+  pub no-room : room < added → Bad 37 0 ≡ first (tests (refuse 37) (ltb room (len + added) ∷ [])) unrefused
+  no-room h = yes _ _ (lt-ltb room (len + added) (omega arith)) refl
+
+  pub little-room : added ≤ room → room - added < len → Bad 37 0 ≡ first (tests (refuse 37) (ltb room (len + added) ∷ [])) unrefused
+  little-room h k = yes _ _ (lt-ltb room (len + added) (omega arith)) refl
+
+  pub room-enough : added ≤ room → len ≤ room - added → unrefused ≡ first (tests (refuse 37) (ltb room (len + added) ∷ [])) unrefused
+  room-enough h k = no _ _ (le-ltb room (len + added) (omega arith)) refl
+
+-- 31 to 37 in their order
+module _ (room added : ℕ) (there : Bool) (q : State) (h : Header) where
   abbrev place : Place
-  place = placeOn (q .conn) (q .sent) (sequence s)
+  place = placeOn (q .conn) (q .sent) (h .sequence)
 
   abbrev given : Outcome
-  given = first (signTests t s room q f) (Good (value place) (q .«ask_id»))
+  given = signed room added there q h
 
-  module _ {a : Outcome} (ea : a ≡ first (inputTests t s (q .conn)) unrefused) where
-    pub at-input : Else a → a ≡ given
-    at-input = stop (inputTests t s (q .conn)) _ ea
+  module _ {a : Outcome} (ea : a ≡ first (freshLines (h .options)) unrefused) where
+    pub at-fresh : Else a → a ≡ given
+    at-fresh = stop (freshLines (h .options)) _ ea
 
-    module _ {b : Outcome} {n x r : ℕ} (ga : a ≡ Good x r) (en : n ≡ addedBytes f) (eb : b ≡ first (segmentTests n (q .conn) s) unrefused) where
-      added : b ≡ first (segmentTests (addedBytes f) (q .conn) s) unrefused
-      added = eb ∙ ap (λ (n : ℕ). first (segmentTests n (q .conn) s) unrefused) en
-
-      behind : {w y : Outcome} → w ≡ y → w ≡ first (inputTests t s (q .conn)) y
-      behind = pass (inputTests t s (q .conn)) (rw (refusal-final (checked t))) ea ga
+    module _ {b : Outcome} {x r : ℕ} (ga : a ≡ Good x r) (eb : b ≡ first (segmentLines added (q .conn) h) unrefused) where
+      behind : {w y : Outcome} → w ≡ y → w ≡ first (freshLines (h .options)) y
+      behind = pass (freshLines (h .options)) refl ea ga
 
       pub at-segment : Else b → b ≡ given
-      at-segment h = behind (stop (segmentTests (addedBytes f) (q .conn) s) _ added h)
+      at-segment e = behind (stop (segmentLines added (q .conn) h) _ eb e)
 
-      module _ {o : Outcome} {p : Place} {y u : ℕ} (gb : b ≡ Good y u) (ep : p ≡ place) (eo : o ≡ first (outputTests room n (f .there) (q .conn) p s) unrefused) where
-        located : o ≡ first (outputTests room (addedBytes f) (f .there) (q .conn) place s) unrefused
-        located = eo ∙ (λ i. first (outputTests room (en i) (f .there) (q .conn) (ep i) s) unrefused)
+      module _ {o : Outcome} {p : Place} {y u : ℕ} (gb : b ≡ Good y u) (ep : p ≡ place)
+          (eo : o ≡ first (outputLines room added there (q .conn) p h) unrefused) where
+        located : o ≡ first (outputLines room added there (q .conn) place h) unrefused
+        located = eo ∙ (λ i. first (outputLines room added there (q .conn) (ep i) h) unrefused)
 
         pub at-output : Else o → o ≡ given
-        at-output h = behind (pass (segmentTests (addedBytes f) (q .conn) s) refl added gb (stop (outputTests room (addedBytes f) (f .there) (q .conn) place s) _ located h))
+        at-output e =
+            behind (pass (segmentLines added (q .conn) h) refl eb gb (stop (outputLines room added there (q .conn) place h) _ located e))
 
         pub may-sign : {k j v : ℕ} → o ≡ Good k j → v ≡ value p → Good v (q .«ask_id») ≡ given
         may-sign go ev =
-            behind (pass (segmentTests (addedBytes f) (q .conn) s) refl added gb
-            (pass (outputTests room (addedBytes f) (f .there) (q .conn) place s) refl located go (ap (λ (n : ℕ). Good n (q .«ask_id»)) (ev ∙ ap value ep))))
+            behind (pass (segmentLines added (q .conn) h) refl eb gb
+            (pass (outputLines room added there (q .conn) place h) refl located go
+            (ap (λ (n : ℕ). Good n (q .«ask_id»)) (ev ∙ ap value ep))))

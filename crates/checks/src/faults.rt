@@ -140,16 +140,7 @@ fn pair_faults(pair: Pair, source: &[u8], destination: &[u8], header: Header) ->
 }
 
 // "a bare SYN (SYN set, ACK clear)"
-pub fn is_bare_syn(segment: &[u8]) -> bool
-    ensures { λ r. ⌜ r ≡ isBareSyn (now (segment .entry)) ⌝ }
-{
-    if wire::header::syn(segment) {
-        return !wire::header::ack(segment);
-    }
-    false
-}
-
-fn bare_syn(header: Header) -> bool
+pub(crate) fn bare_syn(header: Header) -> bool
     ensures { λ r. ⌜ r ≡ (header .syn && not (header .ack)) ⌝ }
 {
     if header.syn {

@@ -1,65 +1,122 @@
--- What signing answers, by the outcome of its tests; and what a good outcome leaves for the writer. Assumes nothing.
+-- What signing answers, by the outcome of its tests; and what a good outcome leaves for what comes behind it. Assumes nothing.
 use Prim.Native.Nat.{ℕ, _+_, _≤_}
-use mathlib.Core.Path.{_≡_, sym, ap, _∙_, subst⁻¹}
-use mathlib.Core.Bool.{Bool, cond}
+use mathlib.Core.Path.{_≡_, refl, sym, ap, ap₂, _∙_, subst, subst⁻¹}
+use mathlib.Core.Bool.{Bool, true}
 use mathlib.Core.List.{List}
 use native.Mathlib.Omega.{arith}
-use lib.ListN.{length}
+use lib.ListN.{length, replicate, length-replicate}
 use borrow.Author.Tests.{ltb-false}
-use Rattle.wire.specs.Header.{sequence}
+use Rattle.wire.specs.Header.{headerEnd, headerOf}
+use Rattle.wire.specs.declared.header.Header.{Header}
+use Rattle.keys.specs.declared.entry.Secret.{Secret}
 use Rattle.keys.specs.declared.table.Found.{Found}
-use Rattle.keys.specs.Algorithm.{macBytes}
 use Rattle.keys.specs.Table.{Tables, checked}
-use Rattle.keys.specs.SearchLaws.{valid-proper, send-holder}
 use Rattle.rules.specs.declared.Outcome.{Outcome}
 use Rattle.rules.specs.declared.Outcome.the-variants.{Good}
 use Rattle.rules.specs.declared.State.{State}
 use Rattle.rules.specs.declared.Signed.{Signed}
-use Rattle.octets.specs.Tests.{first}
 use Rattle.octets.specs.TestLaws.{NoneApplies, none-applied}
 use Rattle.rules.specs.JudgeLaws.{isBad, refusal-bad}
-use Rattle.rules.specs.Connection.{placeOn, value}
-use Rattle.rules.specs.Calls.{outgoing, addedBytes, signTests, checkSign, signedBy, outputBy, signed, output}
-use Rattle.rules.specs.SigningLaws.{signs-good}
+use Rattle.rules.specs.Segment.{optionBytes}
+use Rattle.rules.specs.Calls.{outgoing, addedBytes, signTests, checkSign, signedBy, outputBy, written, signed, output}
+use Rattle.rules.specs.SigningLaws.{Signs, signs-good}
+use Rattle.rules.specs.GrowthLaws.{added-under, fits-found}
+use Rattle.checks.specs.GroupLaws.{isFinal, Else, else-final}
 use Rattle.tcpao.specs.SignedBytes.{Signable}
+use Rattle.tcpao.specs.SignBegin.{Ready, Starts, SignBegins, Writable, finished}
+use Rattle.tcpao.specs.declared.sign_begun.SignBegun.{SignBegun}
+use Rattle.tcpao.proofs.SignedLaws.{finished-is, writable}
 
-module _ (t : Tables) (s out : List ℕ) (q : State) where
-  -- what the code's tests come to, where f is the entry found
-  abbrev tested : Found → Outcome
-  tested f = first (signTests t s (length out) q f) (Good (value (placeOn (q .conn) (q .sent) (sequence s))) (q .«ask_id»))
+module _ (t : Tables) (s : List ℕ) (room : ℕ) (q : State) where
+  abbrev entry : Secret
+  entry = outgoing t q .entry .secret
 
-  module _ {f : Found} {o : Outcome} (is : f ≡ outgoing t q) (e : o ≡ tested f) where
-    checks : o ≡ checkSign t s (length out) q
-    unfolding checkSign
-    checks = e ∙ ap tested is
-
-    pub answers : (z : Outcome) {r : Signed} → o ≡ z → r ≡ signedBy q s f z → r ≡ signed t s out q
-    unfolding signed
-    answers z g h = h ∙ (λ i. signedBy q s (is i) ((sym g ∙ checks) i))
-
-    pub outputs : (z : Outcome) {c : List ℕ} → o ≡ z → c ≡ outputBy q s out (f .entry) z → c ≡ output t s out q
-    unfolding output
-    outputs z g h = h ∙ (λ i. outputBy q s out (is i .entry) ((sym g ∙ checks) i))
-
-  room-of : NoneApplies (signTests t s (length out) q (outgoing t q)) → length s + addedBytes (outgoing t q) ≤ length out
-  room-of n = ltb-false (length out) (length s + addedBytes (outgoing t q)) (search)
-
-  -- 30, 32, 35 and 37 have let the segment by
-  can : {x r : ℕ} → checkSign t s (length out) q ≡ Good x r → Signable s out (outgoing t q .entry .secret)
-  unfolding checkSign
-  can {x} {r} e =
-      let g = signs-good t s out q x r e .0 in
-      let n = none-applied isBad (signTests t s (length out) q (outgoing t q)) _ (rw (refusal-bad (checked t))) (ap isBad e) in
-      let m = valid-proper t (g .valid) (send-holder t (q .conn .pair) (q .«send_id») (g .entry) .0 .place) .mac in
-      let a : addedBytes (outgoing t q) ≡ 4 + outgoing t q .entry .secret .«mac_bytes» = ap (λ (w : Bool). 4 + cond w (outgoing t q .entry .secret .«mac_bytes») (macBytes 1)) (g .entry) in
+  -- a number begins nothing
+  pub nothing-begins : {o : Outcome} {b : SignBegun} → b .outcome ≡ o → o ≡ checkSign t s room q → Else o → SignBegins t s room q b
+  nothing-begins {o = o} is gave h =
       record {
-        low = g .fresh .low;
-        inside = g .fresh .inside;
-        header = omega (arith, g .header);
-        room = omega (arith, room-of n);
-        words = omega arith;
-        short = omega arith;
+        outcome = is ∙ gave;
+        ready = λ x r g. let z : _≡_ {A = ℕ} 0 1 = cc (sym (ap isFinal (gave ∙ g)) ∙ else-final o h) in absurd (omega arith);
       }
 
-  pub signable : {f : Found} {o : Outcome} {x r : ℕ} → f ≡ outgoing t q → o ≡ tested f → o ≡ Good x r → Signable s out (f .entry .secret)
-  signable is e g = subst⁻¹ (λ (f : Found). Signable s out (f .entry .secret)) is (can (sym (checks is e) ∙ g))
+  -- what Good leaves: 30, 32, 35 and 37 have let the segment by
+  module _ {x r : ℕ} (good : checkSign t s room q ≡ Good x r) where
+    left : Signs t s (replicate room 0) q × (q .«ask_id» ≡ r)
+    left =
+        let g = signs-good t s (replicate room 0) q x r (ap (λ (n : ℕ). checkSign t s n q) (length-replicate room 0) ∙ good) in (g .0, g .2)
+
+    added-is : addedBytes (outgoing t q) ≡ optionBytes (entry .«mac_bytes»)
+    added-is = added-under (outgoing t q) (left .0 .entry)
+
+    can : Signable s entry
+    can =
+        let g = left .0 in
+        record {
+          low = g .fresh .low;
+          inside = g .fresh .inside;
+          header = omega (arith, g .header, added-is);
+          fits = fits-found t (q .conn .pair) (q .«send_id») (g .valid) (g .entry);
+        }
+
+    room-of : NoneApplies (signTests t s room q (outgoing t q)) → length s + addedBytes (outgoing t q) ≤ room
+    room-of n = ltb-false room (length s + addedBytes (outgoing t q)) (search)
+
+    enough : length s + optionBytes (entry .«mac_bytes») ≤ room
+    unfolding checkSign
+    enough =
+        let n = none-applied isBad (signTests t s room q (outgoing t q)) _ (rw (refusal-bad (checked t))) (ap isBad good) in
+        omega (arith, room-of n, added-is)
+
+  -- begin goes on
+  module _ {f : Found} {o : Outcome} {x r : ℕ} (is : f ≡ outgoing t q) (gave : o ≡ checkSign t s room q) (good : o ≡ Good x r) where
+    signs : checkSign t s room q ≡ Good x r
+    signs = sym gave ∙ good
+
+    pub may-start : {added : ℕ} {h : Header} → added ≡ addedBytes f → h ≡ headerOf (length s) s
+        → Signable s (f .entry .secret) × (h .end ≡ headerEnd s) × (added ≡ optionBytes (f .entry .secret .«mac_bytes»))
+    may-start adds reads = (
+      subst⁻¹ (λ (f : Found). Signable s (f .entry .secret)) is (can signs),
+      ap (λ (h : Header). h .end) reads,
+      adds ∙ subst⁻¹ (λ (f : Found). addedBytes f ≡ optionBytes (f .entry .secret .«mac_bytes»)) is (added-is signs),
+    )
+
+    pub begins : {b : SignBegun} → Starts x (f .entry .secret) q s b → SignBegins t s room q b
+    begins {b = b} starts =
+        record {
+          outcome = starts .outcome ∙ ap (Good x) (left signs .1) ∙ sym signs;
+          ready = λ y u g.
+              let at : x ≡ y = cc (sym signs ∙ g) in
+              subst (λ (y : ℕ). Ready y entry q s b) at (subst (λ (f : Found). Ready x (f .entry .secret) q s b) is (starts .ready));
+        }
+
+-- the whole call, by the outcome of what has begun
+module _ (t : Tables) (s out : List ℕ) (q : State) (b : SignBegun) (begun : SignBegins t s (length out) q b) where
+  module _ {x r : ℕ} (good : b .outcome ≡ Good x r) where
+    signs-at : checkSign t s (length out) q ≡ Good x r
+    signs-at = sym (begun .outcome) ∙ good
+
+    its-ready : Ready x (outgoing t q .entry .secret) q s b
+    its-ready = begun .ready x r signs-at
+
+    pub may-write : Writable b s out
+    may-write =
+        writable x (outgoing t q .entry .secret) q s (can t s (length out) q signs-at) b its-ready out (enough t s (length out) q signs-at)
+
+    pub adds : b .added ≡ addedBytes (outgoing t q)
+    adds = its-ready .added ∙ sym (added-is t s (length out) q signs-at)
+
+    pub sum-fits : length s + b .added ≤ 65535
+    sum-fits = omega (arith, adds, left t s (length out) q signs-at .0 .whole)
+
+    pub writes : {c : List ℕ} → c ≡ written (finished b s) out → c ≡ outputBy q s out (outgoing t q .entry) (Good x r)
+    writes e =
+        e ∙ ap (λ (l : List ℕ). written l out)
+        (finished-is x (outgoing t q .entry .secret) q s (can t s (length out) q signs-at) b its-ready (outgoing t q .entry) refl)
+
+  pub answers : (z : Outcome) {r : Signed} → b .outcome ≡ z → r ≡ signedBy q s (outgoing t q) z → r ≡ signed t s out q
+  unfolding signed
+  answers z g h = h ∙ ap (signedBy q s (outgoing t q)) (sym g ∙ begun .outcome)
+
+  pub outputs : (z : Outcome) {c : List ℕ} → b .outcome ≡ z → c ≡ outputBy q s out (outgoing t q .entry) z → c ≡ output t s out q
+  unfolding output
+  outputs z g h = h ∙ ap (outputBy q s out (outgoing t q .entry)) (sym g ∙ begun .outcome)

@@ -1,2 +1,3 @@
 pub mod Arriving
 pub mod SignedBytes
+pub mod SignBegin

@@ -4,3 +4,4 @@ pub mod judge;
 pub mod open;
 pub mod operator;
 pub mod sign;
+pub mod sign_begun;

@@ -1,12 +1,10 @@
 // The MAC of a segment, before it is cut to the entry's MAC bytes: document 01, "What the MAC covers". The laws in specs/TagLaws say what
-// its first bytes are in terms of the crate `rules`. Begin takes all that needs no data; data go in by MacContext::update, from where they
-// lie. Both assume that TCP-AO and its MAC lie in a header of at most 60 bytes: judging knows it behind 20, 21 and 27, signing behind 30,
-// 31 and 32.
+// its first bytes are in terms of the crate `rules`. Begin takes all that needs no data; data go in by MacContext::update, from where they lie.
+// It assumes that TCP-AO and its MAC lie in a header of at most 60 bytes: judging knows it behind 20, 21 and 27, signing behind 30, 31 and 32.
 ghost use mathlib.Core.Path.{_≡_};
-ghost use mathlib.Core.List.{_++_};
 ghost use Prim.Native.Nat.{_+_, _≤_};
 ghost use lib.ListN.{length};
-ghost use Rattle.rules.specs.Mac.{applied, trafficKey, front as frontOf};
+ghost use Rattle.rules.specs.Mac.{trafficKey, front as frontOf};
 ghost use Rattle.traffic.specs.MacContext.{macView, macStart, macAbsorb};
 ghost use Rattle.traffic.specs.Padded.{padded, digestRoom};
 ghost use Rattle.traffic.specs.Flow.{flowOf};
@@ -32,22 +30,4 @@ pub fn begin(
     let bytes = a.bytes;
     let end = a.len;
     MacContext::new(secret.algorithm, key).update(&bytes[..end])
-}
-
-pub fn segment_tag(
-    secret: Secret,
-    flow: Flow,
-    extension: u32,
-    at: usize,
-    len: usize,
-    header: &[u8],
-    data: &[u8],
-) -> [u8; DIGEST_ROOM]
-    requires { ⌜ (20 ≤ at) × (at + 4 + secret .«mac_bytes» ≤ length (now header)) × (length (now header) ≤ 60) ⌝ }
-    ensures { λ r. ⌜ r ≡ padded digestRoom (applied (secret .algorithm) (trafficKey secret (flowOf flow))
-        (frontOf secret (flowOf flow) extension at len (now (header .entry)) ++ now («data» .entry))) ⌝ }
-{
-    begin(secret, flow, extension, at, len, header)
-        .update(data)
-        .finish()
 }

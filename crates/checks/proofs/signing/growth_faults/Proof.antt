@@ -1,17 +1,21 @@
--- The two tests, in their order. A header end is at most 60, so the sum fits.
+-- The tests, in their order; the first is the header's too.
 use borrow.Author.Needs.{needs}
-use native.Mathlib.Omega.{arith}
-use Rattle.checks.proofs.SignNumbers.{long-header, long-segment, grows}
+use Rattle.checks.proofs.SignNumbers.{too-wide, long-header, long-segment, grows}
 use Rattle.checks.proofs.signing.growth_faults.Statement.{statement}
 use Rattle.checks.proofs.signing.growth_faults.Tie as tie
 
+returns : tie.Need-returns
+returns c = too-wide _ _ _ (c .if1 .taken)
+
+returns-2 : tie.Need-returns-2
+returns-2 c = long-header _ _ _ (c .before .if1 .left) (c .if2 .taken)
+
+returns-3 : tie.Need-returns-3
+returns-3 c = long-segment _ _ _ (c .before .before .if1 .left) (c .before .if2 .left) (c .if3 .taken)
+
+returns-4 : tie.Need-returns-4
+returns-4 c = grows _ _ _ (c .before .before .if1 .left) (c .before .if2 .left) (c .if3 .left)
+
 pub growth-faults-spec : {M : Type 1} → statement M
 growth-faults-spec =
-    tie.close
-    (tie.spec
-    (λ c κs. search needs)
-    (λ c. omega (arith, c .before .shared-slice-known .given 12, c .header-end .ensures))
-    (λ c. long-header (c .before .before .before .args .segment .now) _ _ (c .before .header-end .ensures) (c .if1 .taken))
-    (λ c. search needs)
-    (λ c. long-segment (c .before .before .before .before .args .segment .now) _ _ (c .before .before .header-end .ensures) (c .before .if1 .left) (c .if2 .taken))
-    (λ c. grows (c .before .before .before .before .args .segment .now) _ _ (c .before .before .header-end .ensures) (c .before .if1 .left) (c .if2 .left)))
+    tie.close (tie.spec returns returns-2 (λ c. search needs) returns-3 returns-4)

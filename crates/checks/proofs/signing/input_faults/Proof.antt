@@ -19,10 +19,20 @@ returns-2 c =
 returns-3 : tie.Need-returns-3
 returns-3 c =
     let a = c .before .before .before .before .before .before .before .before .before .args in
-    pass (familyTests (a .conn)) refl (c .before .before .before .before .before .before .family-faults .ensures) (c .before .before .before .before .enum-told .given .1)
-    (pass (tableTests (a .table .now)) (rw (refusal-final (checked (a .table .now)))) (c .before .before .before .table-faults .ensures) (c .before .enum-told2 .given .1) (c .plain-faults .ensures))
+    pass (familyTests (a .conn)) refl (c .before .before .before .before .before .before .family-faults .ensures)
+    (c .before .before .before .before .enum-told .given .1)
+    (pass (tableTests (a .table .now)) (rw (refusal-final (checked (a .table .now)))) (c .before .before .before .table-faults .ensures)
+    (c .before .enum-told2 .given .1) (c .length-faults .ensures))
 
 pub input-faults-spec : {M : Type 1} → statement M
 input-faults-spec =
     tie.close
-    (tie.spec (λ c κs. search needs) (λ c. search needs) returns (λ c κs. search needs) (λ c. search needs) returns-2 (λ c κs. search needs) returns-3)
+    (tie.spec
+    (λ c κs. search needs)
+    (λ c. search needs)
+    returns
+    (λ c κs. search needs)
+    (λ c. search needs)
+    returns-2
+    (λ c κs. search needs)
+    returns-3)

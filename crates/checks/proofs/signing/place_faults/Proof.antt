@@ -1,6 +1,6 @@
 -- No position; then the two cases of a SYN; then no SYN.
 use borrow.Author.Needs.{needs}
-use mathlib.Core.Path.{sym, _∙_}
+use mathlib.Core.Path.{sym}
 use borrow.Author.Tests.{eq-eqb, ne-eqb}
 use Rattle.checks.proofs.SignNumbers.{placed}
 use Rattle.checks.proofs.signing.place_faults.Statement.{statement}
@@ -8,31 +8,24 @@ use Rattle.checks.proofs.signing.place_faults.Tie as tie
 
 returns-2 : tie.Need-returns-2
 returns-2 c =
-    let a = c .before .before .before .before .before .before .before .before .args in
-    let x = c .before .before .before .before .before .place .given in
-    rw (eq-eqb (x .0 .0) (a .conn .isn) (c .if2 .taken)) at (placed (a .conn) (a .segment .now) _ (x .0 .0) _ (x .1) (sym (c .before .before .if1 .taken) ∙ c .before .before .before .syn .ensures))
+    let a = c .before .before .before .before .before .before .args in
+    let x = c .before .before .before .before .place .given in
+    rw (eq-eqb (x .0 .0) (a .conn .isn) (c .if2 .taken))
+    at (placed (a .conn) (a .place) (x .0 .0) _ _ (x .1) (sym (c .before .before .if1 .taken)))
 
 returns-3 : tie.Need-returns-3
 returns-3 c =
-    let a = c .before .before .before .before .before .before .before .before .args in
-    let x = c .before .before .before .before .before .place .given in
-    rw (ne-eqb (x .0 .0) (a .conn .isn) (c .if2 .left)) at (placed (a .conn) (a .segment .now) _ (x .0 .0) _ (x .1) (sym (c .before .before .if1 .taken) ∙ c .before .before .before .syn .ensures))
+    let a = c .before .before .before .before .before .before .args in
+    let x = c .before .before .before .before .place .given in
+    rw (ne-eqb (x .0 .0) (a .conn .isn) (c .if2 .left))
+    at (placed (a .conn) (a .place) (x .0 .0) _ _ (x .1) (sym (c .before .before .if1 .taken)))
 
 returns-4 : tie.Need-returns-4
 returns-4 c =
-    let a = c .before .before .before .before .before .before .args in
-    let x = c .before .before .before .place .given in
-    placed (a .conn) (a .segment .now) _ (x .0 .0) _ (x .1) (sym (c .if1 .left) ∙ c .before .syn .ensures)
+    let a = c .before .before .before .before .args in
+    let x = c .before .before .place .given in
+    placed (a .conn) (a .place) (x .0 .0) _ _ (x .1) (sym (c .if1 .left))
 
 pub place-faults-spec : {M : Type 1} → statement M
 place-faults-spec =
-    tie.close
-    (tie.spec
-    (λ c. search needs)
-    (λ c. search needs)
-    (λ c. search needs)
-    (λ c κs. search needs)
-    (λ c. search needs)
-    returns-2
-    returns-3
-    returns-4)
+    tie.close (tie.spec (λ c. search needs) (λ c. search needs) (λ c. search needs) (λ c. search needs) returns-2 returns-3 returns-4)

@@ -1,7 +1,6 @@
--- One return for each of the four cases.
+-- By the stage, then by the flags.
 use borrow.Author.Needs.{needs}
 use mathlib.Core.Path.{sym, _∙_}
-use Rattle.checks.proofs.SignNumbers.{stage}
 use Rattle.checks.proofs.signing.stage_faults.Statement.{statement}
 use Rattle.checks.proofs.signing.stage_faults.Tie as tie
 
@@ -11,8 +10,20 @@ stage-faults-spec =
     (tie.spec
     (λ c κs. search needs)
     (λ c κs. search needs)
-    (λ c. stage (c .before .before .before .before .before .args .conn) (c .before .before .before .before .before .args .segment .now) _ _ (sym (c .before .before .if1 .taken) ∙ c .before .before .before .is-bare-syn .ensures) (sym (c .if2 .taken) ∙ c .before .is-open .ensures))
-    (λ c. stage (c .before .before .before .before .before .args .conn) (c .before .before .before .before .before .args .segment .now) _ _ (sym (c .before .before .if1 .taken) ∙ c .before .before .before .is-bare-syn .ensures) (sym (c .if2 .left) ∙ c .before .is-open .ensures))
+    (λ c. rw (
+      sym (c .before .before .before .is-open .ensures) ∙ c .before .before .if1 .taken,
+      sym (c .before .bare-syn .ensures) ∙ c .if2 .taken,
+    ))
+    (λ c. rw (
+      sym (c .before .before .before .is-open .ensures) ∙ c .before .before .if1 .taken,
+      sym (c .before .bare-syn .ensures) ∙ c .if2 .left,
+    ))
     (λ c κs. search needs)
-    (λ c. stage (c .before .before .before .before .before .args .conn) (c .before .before .before .before .before .args .segment .now) _ _ (sym (c .before .before .if1 .left) ∙ c .before .before .before .is-bare-syn .ensures) (sym (c .if3 .taken) ∙ c .before .is-open2 .ensures))
-    (λ c. stage (c .before .before .before .before .before .args .conn) (c .before .before .before .before .before .args .segment .now) _ _ (sym (c .before .before .if1 .left) ∙ c .before .before .before .is-bare-syn .ensures) (sym (c .if3 .left) ∙ c .before .is-open2 .ensures)))
+    (λ c. rw (
+      sym (c .before .before .before .is-open .ensures) ∙ c .before .before .if1 .left,
+      sym (c .before .bare-syn2 .ensures) ∙ c .if3 .taken,
+    ))
+    (λ c. rw (
+      sym (c .before .before .before .is-open .ensures) ∙ c .before .before .if1 .left,
+      sym (c .before .bare-syn2 .ensures) ∙ c .if3 .left,
+    )))

@@ -2,59 +2,68 @@
 use borrow.Author.Needs.{needs}
 use Prim.Native.Nat.{_+_}
 use mathlib.Core.Path.{refl}
+use native.Mathlib.Omega.{arith}
 use lib.ListN.{length}
 use Rattle.rules.specs.declared.Outcome.the-variants.{Passed}
 use Rattle.rules.specs.declared.Signing.the-variants as S
-use Rattle.tcpao.proofs.SignAnswers.{answers, outputs, signable}
+use Rattle.tcpao.proofs.SignAnswers.{may-write, sum-fits, adds, writes, answers, outputs}
 use Rattle.tcpao.proofs.Numbered.{signed-numbered}
 use Rattle.tcpao.proofs.sign.sign.Statement.{statement}
 use Rattle.tcpao.proofs.sign.sign.Tie as tie
 
-write-signed-requires : tie.Need-write-signed-requires
-write-signed-requires c κs =
-    let a = c .before .before .before .before .before .before .before .before .before .before .args in
-    signable (a .table .now) (a .segment .now) (a .out .now) (a .state) (c .before .before .before .before .before .find-send .ensures)
-    (c .before .before .before .before .check-sign .ensures) (c .before .before .x .given .1)
+finish-requires : tie.Need-finish-requires
+finish-requires c κs =
+    let o = c .before .before .before .before .begin in
+    let a = c .before .before .before .before .before .before .before .before .args in
+    may-write (a .table .now) (a .segment .now) (a .out .now) (a .state) (o .result) (o .ensures) (c .before .before .outcome .given .1)
+
+add-t17 : tie.Need-add-t17
+add-t17 c =
+    let p = c .before .before .before .before .before in
+    let o = p .before .before .begin in
+    let a = p .before .before .before .before .before .before .args in
+    let w = sum-fits (a .table .now) (a .segment .now) (a .out .now) (a .state) (o .result) (o .ensures) (p .outcome .given .1) in
+    record { fits = omega (arith, w) }
 
 returns : tie.Need-returns
 returns c =
-    let a = c .before .before .before .before .before .before .before .before .before .before .before .before .before .before .before .args in
-    let f = c .before .before .before .before .before .before .before .before .before .before .find-send .ensures in
-    let o = c .before .before .before .before .before .before .before .before .before .check-sign .ensures in
-    let x = c .before .before .before .before .before .before .before .x .given in
-    let e =
-    answers (a .table .now) (a .segment .now) (a .out .now) (a .state) f o _ (x .1)
-    (λ i. record { answer = S.Signed (length (a .segment .now) + c .before .added-bytes .ensures i); index = 0; state = c .with-sent .ensures i }) in (
+    let p = c .before .before .before .before .before .before in
+    let o = p .before .before .begin in
+    let a = p .before .before .before .before .before .before .args in
+    let n = adds (a .table .now) (a .segment .now) (a .out .now) (a .state) (o .result) (o .ensures) (p .outcome .given .1) in
+    let b = writes (a .table .now) (a .segment .now) (a .out .now) (a .state) (o .result) (o .ensures) (p .outcome .given .1)
+    (c .before .before .before .finish .ensures) in
+    let e = answers (a .table .now) (a .segment .now) (a .out .now) (a .state) (o .result) (o .ensures) _ (p .outcome .given .1)
+    (λ i. record { answer = S.Signed (length (a .segment .now) + n i); index = 0; state = c .with-sent .ensures i }) in (
       e,
       (
-        outputs (a .table .now) (a .segment .now) (a .out .now) (a .state) f o _ (x .1) (c .before .before .before .before .write-signed .ensures),
+        outputs (a .table .now) (a .segment .now) (a .out .now) (a .state) (o .result) (o .ensures) _ (p .outcome .given .1) b,
         signed-numbered (a .table .now) (a .segment .now) (a .out .now) (a .state) e,
       ),
     )
 
 returns-2 : tie.Need-returns-2
 returns-2 c =
-    let a = c .before .before .before .before .before .before .before .before .before .args in
-    let f = c .before .before .before .before .find-send .ensures in
-    let o = c .before .before .before .check-sign .ensures in
-    let e = answers (a .table .now) (a .segment .now) (a .out .now) (a .state) f o Passed (c .before .enum-told .given .1) (c .refused .ensures) in (
+    let o = c .before .before .before .begin in
+    let a = c .before .before .before .before .before .before .before .args in
+    let g = c .before .enum-told .given .1 in
+    let e = answers (a .table .now) (a .segment .now) (a .out .now) (a .state) (o .result) (o .ensures) Passed g (c .refused .ensures) in (
       e,
       (
-        outputs (a .table .now) (a .segment .now) (a .out .now) (a .state) f o Passed (c .before .enum-told .given .1) refl,
+        outputs (a .table .now) (a .segment .now) (a .out .now) (a .state) (o .result) (o .ensures) Passed g refl,
         signed-numbered (a .table .now) (a .segment .now) (a .out .now) (a .state) e,
       ),
     )
 
 returns-3 : tie.Need-returns-3
 returns-3 c =
-    let a = c .before .before .before .before .before .before .before .before .before .before .args in
-    let f = c .before .before .before .before .before .find-send .ensures in
-    let o = c .before .before .before .before .check-sign .ensures in
-    let n = c .before .before .n .given in
-    let e = answers (a .table .now) (a .segment .now) (a .out .now) (a .state) f o _ (n .1) (c .refused2 .ensures) in (
+    let o = c .before .before .before .before .begin in
+    let a = c .before .before .before .before .before .before .before .before .args in
+    let g = c .before .before .outcome2 .given .1 in
+    let e = answers (a .table .now) (a .segment .now) (a .out .now) (a .state) (o .result) (o .ensures) _ g (c .refused2 .ensures) in (
       e,
       (
-        outputs (a .table .now) (a .segment .now) (a .out .now) (a .state) f o _ (n .1) refl,
+        outputs (a .table .now) (a .segment .now) (a .out .now) (a .state) (o .result) (o .ensures) _ g refl,
         signed-numbered (a .table .now) (a .segment .now) (a .out .now) (a .state) e,
       ),
     )
@@ -63,6 +72,5 @@ pub sign-spec : {M : Type 1} → statement M
 sign-spec =
     tie.close
     (tie.spec
-    (λ c κs. search needs) (λ c κs. search needs) (λ c. search needs) write-signed-requires (λ c κs. search needs) (λ c. search needs)
-    (λ c. search needs) (λ c κs. search needs) (λ c. search needs) (λ c κs. search needs) (λ c. search needs)
-    (λ c κs. search needs) (λ c. search needs) returns returns-2 returns-3)
+    (λ c κs. search needs) (λ c. search needs) finish-requires add-t17 (λ c κs. search needs) (λ c. search needs) (λ c κs. search needs)
+    (λ c. search needs) (λ c κs. search needs) (λ c. search needs) returns returns-2 returns-3)

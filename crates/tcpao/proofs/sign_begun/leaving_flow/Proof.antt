@@ -1,8 +1,8 @@
 -- Field by field.
 use borrow.Author.Needs.{needs}
 use Rattle.rules.specs.Connection.{localAddress, remoteAddress}
-use Rattle.tcpao.proofs.sign.leaving_flow.Statement.{statement}
-use Rattle.tcpao.proofs.sign.leaving_flow.Tie as tie
+use Rattle.tcpao.proofs.sign_begun.leaving_flow.Statement.{statement}
+use Rattle.tcpao.proofs.sign_begun.leaving_flow.Tie as tie
 
 returns : tie.Need-returns
 returns c =

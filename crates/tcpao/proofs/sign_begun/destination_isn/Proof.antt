@@ -2,8 +2,8 @@
 use borrow.Author.Needs.{needs}
 use mathlib.Core.Path.{refl, sym, _∙_}
 use Rattle.checks.specs.GroupLaws.{yes, no}
-use Rattle.tcpao.proofs.sign.destination_isn.Statement.{statement}
-use Rattle.tcpao.proofs.sign.destination_isn.Tie as tie
+use Rattle.tcpao.proofs.sign_begun.destination_isn.Statement.{statement}
+use Rattle.tcpao.proofs.sign_begun.destination_isn.Tie as tie
 
 pub destination-isn-spec : {M : Type 1} → statement M
 destination-isn-spec =

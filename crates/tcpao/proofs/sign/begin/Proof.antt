@@ -1,0 +1,66 @@
+-- The input, then the rest of the tests; behind them what waits for the data.
+use borrow.Author.Needs.{needs}
+use Rattle.checks.specs.SignLaws.{at-input, at-signing}
+use Rattle.tcpao.proofs.SignAnswers.{nothing-begins, may-start, begins}
+use Rattle.tcpao.proofs.sign.begin.Statement.{statement}
+use Rattle.tcpao.proofs.sign.begin.Tie as tie
+
+returns : tie.Need-returns
+returns c =
+    let a = c .before .before .before .before .before .before .args in
+    let gave =
+    at-input (a .table .now) (a .segment .now) (a .room) (a .state) (c .before .before .input-faults .ensures) (c .before .match .keys2) in
+    nothing-begins (a .table .now) (a .segment .now) (a .room) (a .state) (c .nothing .ensures) gave (c .before .match .keys2)
+
+returns-2 : tie.Need-returns-2
+returns-2 c =
+    let p = c .before .before in
+    let i = p .before .before .before .before .before .before in
+    let a = i .before .before .before .before .args in
+    let gave =
+    at-signing (a .table .now) (a .segment .now) (a .room) (a .state) (i .input-faults .ensures)
+    (p .before .before .before .before .enum-told .given .1) (p .before .before .find-send .ensures)
+    (p .before .added-bytes .ensures) (p .before .before .before .header-of .ensures) (p .sign-faults .ensures) in
+    nothing-begins (a .table .now) (a .segment .now) (a .room) (a .state) (c .nothing2 .ensures) gave (c .before .match2 .keys2)
+
+ready-requires : tie.Need-ready-requires
+ready-requires c κs =
+    let p = c .before .before .before .before in
+    let i = p .before .before .before .before .before .before in
+    let a = i .before .before .before .before .args in
+    let gave =
+    at-signing (a .table .now) (a .segment .now) (a .room) (a .state) (i .input-faults .ensures)
+    (p .before .before .before .before .enum-told .given .1) (p .before .before .find-send .ensures)
+    (p .before .added-bytes .ensures) (p .before .before .before .header-of .ensures) (p .sign-faults .ensures) in
+    may-start (a .table .now) (a .segment .now) (a .room) (a .state) (p .before .before .find-send .ensures) gave
+    (c .before .before .outcome .given .1) (p .before .added-bytes .ensures) (p .before .before .before .header-of .ensures)
+
+returns-3 : tie.Need-returns-3
+returns-3 c =
+    let p = c .before .before .before .before .before in
+    let i = p .before .before .before .before .before .before in
+    let a = i .before .before .before .before .args in
+    let gave =
+    at-signing (a .table .now) (a .segment .now) (a .room) (a .state) (i .input-faults .ensures)
+    (p .before .before .before .before .enum-told .given .1) (p .before .before .find-send .ensures)
+    (p .before .added-bytes .ensures) (p .before .before .before .header-of .ensures) (p .sign-faults .ensures) in
+    begins (a .table .now) (a .segment .now) (a .room) (a .state) (p .before .before .find-send .ensures) gave
+    (c .before .before .before .outcome .given .1) (c .ready .ensures)
+
+pub begin-spec : {M : Type 1} → statement M
+begin-spec =
+    tie.close
+    (tie.spec
+    (λ c κs. search needs)
+    (λ c. search needs)
+    (λ c κs. search needs)
+    returns
+    (λ c κs. search needs)
+    (λ c κs. search needs)
+    (λ c κs. search needs)
+    (λ c κs. search needs)
+    (λ c. search needs)
+    (λ c κs. search needs)
+    returns-2
+    ready-requires
+    returns-3)

@@ -1,0 +1,59 @@
+-- What `Signable` says is what the parts ask; the header is the front of its array.
+use borrow.Author.Needs.{needs}
+use Prim.Native.Nat.{_+_}
+use mathlib.Core.Path.{_≡_, sym}
+use native.Mathlib.Omega.{arith}
+use lib.ListN.{length}
+use lib.Seq.{length-take-le}
+use Rattle.tcpao.proofs.SignedLaws.{cut, has-room, starts-is}
+use Rattle.tcpao.proofs.sign_begun.ready.Statement.{statement}
+use Rattle.tcpao.proofs.sign_begun.ready.Tie as tie
+
+slice-aggregate-blank-header : tie.Need-slice-aggregate-blank-header
+slice-aggregate-blank-header c =
+    let b = c .before .before in
+    cut (b .args .x) (b .args .secret) (b .args .state) (b .args .segment .now) (b .pre .0) (b .pre .1)
+
+blank-header-requires : tie.Need-blank-header-requires
+blank-header-requires c κs =
+    let b = c .before .before in
+    has-room (b .args .x) (b .args .secret) (b .args .state) (b .args .segment .now) (b .pre .0) (b .pre .1) (b .pre .2)
+
+-- the header's part of the array
+slice-aggregate-begin : tie.Need-slice-aggregate-begin
+slice-aggregate-begin c =
+    let b = c .before .before .before .before .before .before in
+    let h = c .before .before .before .blank-header .result in
+    let k : length h ≡ 60 = search needs in
+    sym (length-take-le (b .args .end + b .args .added) h (omega (arith, b .pre .0 .header, b .pre .1, b .pre .2)))
+
+begin-requires : tie.Need-begin-requires
+begin-requires c κs =
+    let b = c .before .before .before .before .before .before in
+    let h = c .before .before .before .blank-header .result in
+    let k : length h ≡ 60 = search needs in
+    let l = length-take-le (b .args .end + b .args .added) h (omega (arith, b .pre .0 .header, b .pre .1, b .pre .2)) in
+    (omega arith, omega (arith, b .pre .0 .low, b .pre .1, b .pre .2), omega (arith, b .pre .0 .header, b .pre .1, b .pre .2))
+
+returns : tie.Need-returns
+returns c =
+    let p = c .before .before .before .before in
+    let b = p .before .before .before in
+    starts-is (b .args .x) (b .args .secret) (b .args .state) (b .args .segment .now) (b .pre .0) (c .begin .result)
+    (p .blank-header .result) (b .pre .1) (b .pre .2) (c .before .before .before .leaving-flow .ensures)
+    (c .before .before .extension-of .ensures) (p .blank-header .ensures) (c .begin .ensures)
+
+pub ready-spec : {M : Type 1} → statement M
+ready-spec =
+    tie.close
+    (tie.spec
+    slice-aggregate-blank-header
+    blank-header-requires
+    (λ c. search needs)
+    (λ c. search needs)
+    (λ c κs. search needs)
+    (λ c κs. search needs)
+    (λ c. search needs)
+    slice-aggregate-begin
+    begin-requires
+    returns)

@@ -1,0 +1,69 @@
+-- Signing that has begun (src/sign_begun.rt): what a value of the code's SignBegun stands for, once every number is tested. A reader need
+-- not believe these: the calls cite the crate `rules` alone.
+use Prim.Native.Nat.{ℕ, _+_, _≤_}
+use mathlib.Core.Path.{_≡_}
+use mathlib.Core.List.{List, _++_}
+use lib.ListN.{length, take, drop, replicate}
+use lib.Seq.{paste}
+use Rattle.wire.specs.Header.{headerEnd}
+use Rattle.keys.specs.declared.entry.Secret.{Secret}
+use Rattle.keys.specs.Table.{Tables}
+use Rattle.rules.specs.declared.Outcome.the-variants.{Good}
+use Rattle.rules.specs.declared.State.{State}
+use Rattle.rules.specs.Mac.{trafficKey, front}
+use Rattle.rules.specs.Segment.{inserted, optionOf, optionBytes}
+use Rattle.rules.specs.Connection.{leaving, extensionOf}
+use Rattle.rules.specs.Calls.{outgoing, checkSign}
+use Rattle.traffic.specs.Padded.{padded, digestRoom}
+use Rattle.traffic.specs.MacContext.{MacView, macView, macStart, macAbsorb, macFinished}
+use Rattle.tcpao.specs.declared.sign_begun.SignBegun.{SignBegun}
+
+-- the signed header with zeros for the MAC
+abbrev pub blankHeader : Secret → State → List ℕ → List ℕ
+blankHeader e q s = inserted (optionOf (q .«send_id») (q .«ask_id») (replicate (e .«mac_bytes») 0)) (take (headerEnd s) s)
+
+-- the MAC that the front leaves, under the entry's traffic key
+abbrev pub fronted : ℕ → Secret → State → List ℕ → MacView
+fronted x e q s =
+    macAbsorb (macStart (e .algorithm) (padded digestRoom (trafficKey e (leaving (q .conn)))))
+    (front e (leaving (q .conn)) (extensionOf x) 20 (length s + optionBytes (e .«mac_bytes»)) (blankHeader e q s))
+
+-- what waits for the data, at the position x under the secret e
+pub record Ready (x : ℕ) (e : Secret) (q : State) (s : List ℕ) (b : SignBegun) : Type 0 where
+  pub bytes : b .«mac_bytes» ≡ e .«mac_bytes»
+  pub added : b .added ≡ optionBytes (e .«mac_bytes»)
+  pub header : b .header ≡ padded 60 (blankHeader e q s)
+  pub mac : macView (b .mac) ≡ fronted x e q s
+
+pub record Starts (x : ℕ) (e : Secret) (q : State) (s : List ℕ) (b : SignBegun) : Type 0 where
+  pub outcome : b .outcome ≡ Good x (q .«ask_id»)
+  pub ready : Ready x e q s b
+
+-- only where the outcome is Good does the rest mean something
+pub record SignBegins (t : Tables) (s : List ℕ) (room : ℕ) (q : State) (b : SignBegun) : Type 0 where
+  pub outcome : b .outcome ≡ checkSign t s room q
+  pub ready : (x r : ℕ) → checkSign t s room q ≡ Good x r → Ready x (outgoing t q .entry .secret) q s b
+
+-- data go into the MAC, and nothing else changes
+pub record Fed (b : SignBegun) (d : List ℕ) (c : SignBegun) : Type 0 where
+  pub outcome : c .outcome ≡ b .outcome
+  pub added : c .added ≡ b .added
+  pub header : c .header ≡ b .header
+  pub bytes : c .«mac_bytes» ≡ b .«mac_bytes»
+  pub mac : macView (c .mac) ≡ macAbsorb (macView (b .mac)) d
+
+-- the MAC goes where its zeros stood
+abbrev pub ended : SignBegun → MacView → List ℕ
+ended b v = paste (b .header) 24 (take (b .«mac_bytes») (macFinished v)) (length (take (b .«mac_bytes») (macFinished v)))
+
+-- data and end of a segment that is there whole
+abbrev pub finished : SignBegun → List ℕ → List ℕ
+finished b s =
+    take (headerEnd s + b .added) (ended b (macAbsorb (macView (b .mac)) (drop (headerEnd s) s))) ++ drop (headerEnd s) s
+
+-- an output that has room for it
+pub record Writable (b : SignBegun) (s out : List ℕ) : Type 0 where
+  pub short : b .«mac_bytes» ≤ 16
+  pub inside : headerEnd s ≤ length s
+  pub header : headerEnd s + b .added ≤ 60
+  pub room : length s + b .added ≤ length out
