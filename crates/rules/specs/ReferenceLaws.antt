@@ -33,7 +33,7 @@ use Rattle.rules.specs.SigningLaws.{signs-good, signed-good}
 use Rattle.rules.specs.CountLaws.{slot-is, slot-none}
 use Rattle.rules.specs.GroupLaws.{first-clear}
 use Rattle.rules.specs.GivenNumberLaws.{ask-not-passed, open-not-passed}
-use Rattle.rules.specs.References.{oneMore, zeroCounts, passivelyOpened, SignedOpen, SignedOpening, OpensActively, OpensPassively}
+use Rattle.rules.specs.References.{countUp, zeroCounts, passivelyOpened, SignedOpen, SignedOpening, OpensActively, OpensPassively}
 use Rattle.rules.specs.References.{SynAckOpens, AcceptedOpen, DropCounted, DropUncounted, DropOpening, SigningRefused, Asks}
 use Rattle.rules.specs.References.{AskingRefused, droppedTo}
 
@@ -187,10 +187,10 @@ syn-ack-opens t a q e opens v = (rw opens at (after-good t a q e v)) .1
 
 -- Judging, once open.
 
-bump-one : (n : ℕ) → n < 18446744073709551616 → bump n ≡ oneMore n
+bump-one : (n : ℕ) → n < 18446744073709551616 → bump n ≡ countUp n
 bump-one n h = go (ltb n stop) refl
   where
-    go : (b : Bool) → ltb n stop ≡ b → bump n ≡ oneMore n
+    go : (b : Bool) → ltb n stop ≡ b → bump n ≡ countUp n
     go true e = rw e (omega (arith, ltb-true n stop e))
     go false e = rw e (omega (arith, ltb-false n stop e))
 

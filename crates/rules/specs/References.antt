@@ -23,8 +23,8 @@ abbrev pub zeroCounts : List ℕ
 zeroCounts = 0 ∷ 0 ∷ 0 ∷ 0 ∷ 0 ∷ 0 ∷ 0 ∷ 0 ∷ 0 ∷ 0 ∷ []
 
 -- "Counts of acceptances and of each drop stop at 2^64-1."
-abbrev pub oneMore : ℕ → ℕ
-oneMore n = min 18446744073709551615 (n + 1)
+abbrev pub countUp : ℕ → ℕ
+countUp n = min 18446744073709551615 (n + 1)
 
 -- Signing.
 
@@ -111,7 +111,7 @@ seenTo x t rnext q =
       seen = max (q .seen) x;
       «send_id» = nextKey t (q .conn .pair) rnext (q .«send_id»);
       «ask_id» = q .«ask_id»;
-      accepted = oneMore (q .accepted);
+      accepted = countUp (q .accepted);
       drops = q .drops;
     }
 
@@ -140,7 +140,7 @@ droppedTo drops q =
 abbrev pub DropCounted : Type 0
 DropCounted = (t : Tables) (a : Arrival) (q : State) (i : ℕ) → isOpen (q .conn) ≡ true → i < 10 → getD (q .drops) i 0 < 18446744073709551616
     → judged t a q .verdict ≡ Drop (20 + i)
-    → judged t a q .state ≡ droppedTo (set (q .drops) i (oneMore (getD (q .drops) i 0))) q
+    → judged t a q .state ≡ droppedTo (set (q .drops) i (countUp (getD (q .drops) i 0))) q
 
 -- "A refusal leaves outputs and state alike": any other drop, and every drop while opening
 abbrev pub DropUncounted : Type 0

@@ -29,12 +29,12 @@ use Rattle.rules.specs.Answers.{verdictAnswer}
 use Rattle.rules.specs.MacLaws.{length-context, length-traffic-key}
 use Rattle.rules.specs.SigningLaws.{valid-of}
 use Rattle.rules.specs.GrowthLaws.{added-16, above-11}
-use Rattle.rules.specs.Sentences.{Row, row, given, badSize, judgeRows, synRows, signRows, tableRow, JudgeTable, SynTable, SignTable}
+use Rattle.rules.specs.Sentences.{NumberRow, row, firstOf, badSize, judgeRows, synRows, signRows, entriesRow, JudgeTable, SynTable, SignTable}
 use Rattle.rules.specs.Sentences.{OpenTable, AskTable, EntryOrder, AnswerNumbers, CountsStop, Context, Contexts, TrafficKeys}
 use Rattle.rules.specs.Sentences.{PseudoHeaders, MessageOrder, Lengths, SegmentMacs, SignedExample, Covered}
 
 -- the tests of rows, one behind another
-abbrev flat : List Row → List (Test Outcome)
+abbrev flat : List NumberRow → List (Test Outcome)
 flat [] = []
 flat (r ∷ l) = tests (r .gives) (r .tests) ++ flat l
 
@@ -43,7 +43,7 @@ first-tests o z [] = refl
 first-tests o z (true ∷ l) = refl
 first-tests o z (false ∷ l) = first-tests o z l
 
-first-flat : (l : List Row) (o : Outcome) → first (flat l) o ≡ given l o
+first-flat : (l : List NumberRow) (o : Outcome) → first (flat l) o ≡ firstOf l o
 first-flat [] o = refl
 first-flat (r ∷ l) o =
     first-append (tests (r .gives) (r .tests)) (flat l) o ∙ first-tests (r .gives) (first (flat l) o) (r .tests)
@@ -62,10 +62,10 @@ syn-table t a strict =
     (Good (sequence (a .segment)) (rnextKeyId (a .segment)))
 
 -- the rows of signing by the tests of 32 and 37
-abbrev signRowsBy : K.Tables → List ℕ → State → Place → List Bool → Bool → List Row
+abbrev signRowsBy : K.Tables → List ℕ → State → Place → List Bool → Bool → List NumberRow
 signRowsBy t s q x tests32 test37 =
     row 18 (not (isFamily (q .conn .pair .family)) ∷ [])
-    ∷ tableRow t
+    ∷ entriesRow t
     ∷ row 30 (badSize s)
     ∷ row 31 (malformed s ∷ ltb 0 (ao s .count) ∷ ltb 0 (md5 s .count) ∷ [])
     ∷ row 32 tests32
@@ -89,29 +89,29 @@ sign-table t s room q =
     place = placeOn (q .conn) (q .sent) (sequence s)
 
     go : (b : Bool) → isRefused (K.checked t) ≡ b
-        → given
+        → firstOf
         (signRowsBy t s q (placeOn (q .conn) (q .sent) (sequence s))
         (ltb 60 (headerEnd s + addedBytes (outgoing t q)) ∷ ltb 65535 (length s + addedBytes (outgoing t q)) ∷ [])
         (ltb room (length s + addedBytes (outgoing t q))))
         (Good (value (placeOn (q .conn) (q .sent) (sequence s))) (q .«ask_id»))
-        ≡ given (signRows t s room q (placeOn (q .conn) (q .sent) (sequence s)))
+        ≡ firstOf (signRows t s room q (placeOn (q .conn) (q .sent) (sequence s)))
         (Good (value (placeOn (q .conn) (q .sent) (sequence s))) (q .«ask_id»))
     go true e = rw e
     go false e =
         let n = added-16 t q (valid-of t e) in
-        λ j. given
+        λ j. firstOf
         (signRowsBy t s q (placeOn (q .conn) (q .sent) (sequence s))
         ((ap (λ (k : ℕ). ltb 60 (headerEnd s + k)) n ∙ above-11 s) j ∷ ltb 65535 (length s + n j) ∷ []) (ltb room (length s + n j)))
         (Good (value (placeOn (q .conn) (q .sent) (sequence s))) (q .«ask_id»))
 
 pub open-table : OpenTable
 open-table t local remote p sendId =
-    first-flat (row 19 (not (sized local remote) ∷ []) ∷ tableRow t ∷ row 35 (not (K.sendEntry t p sendId .there) ∷ []) ∷ []) unrefused
+    first-flat (row 19 (not (sized local remote) ∷ []) ∷ entriesRow t ∷ row 35 (not (K.sendEntry t p sendId .there) ∷ []) ∷ []) unrefused
 
 pub ask-table : AskTable
 ask-table t id l =
     first-flat
-    (row 18 (not (isFamily (l .pair .family)) ∷ []) ∷ tableRow t ∷ row 35 (not (K.recvEntry t (l .pair) id .there) ∷ []) ∷ []) unrefused
+    (row 18 (not (isFamily (l .pair .family)) ∷ []) ∷ entriesRow t ∷ row 35 (not (K.recvEntry t (l .pair) id .there) ∷ []) ∷ []) unrefused
 
 pub entry-order : EntryOrder
 entry-order limit i before x = refl

@@ -36,20 +36,20 @@ use Rattle.rules.specs.Answers.{answer, verdictAnswer, placeAnswer}
 -- The table of numbers. "The first that applies, in this order, is given."
 
 -- a row: what is given if one of its tests applies
-pub record Row : Type 0 where
+pub record NumberRow : Type 0 where
   pub gives : Outcome
   pub tests : List Bool
 
-abbrev pub row : ℕ → List Bool → Row
+abbrev pub row : ℕ → List Bool → NumberRow
 row n l = record { gives = Bad n 0; tests = l }
 
 -- the row of 10 to 17, with the entry's index
-abbrev pub tableRow : K.Tables → Row
-tableRow t = record { gives = refusal (K.checked t); tests = isRefused (K.checked t) ∷ [] }
+abbrev pub entriesRow : K.Tables → NumberRow
+entriesRow t = record { gives = refusal (K.checked t); tests = isRefused (K.checked t) ∷ [] }
 
-abbrev pub given : List Row → Outcome → Outcome
-given [] o = o
-given (r ∷ l) o = cond (any (r .tests)) (r .gives) (given l o)
+abbrev pub firstOf : List NumberRow → Outcome → Outcome
+firstOf [] o = o
+firstOf (r ∷ l) o = cond (any (r .tests)) (r .gives) (firstOf l o)
 
 -- "A segment has 20 to 65,535 bytes. The data offset is 5 to 15 words and its header lies inside the segment."
 abbrev pub badSize : List ℕ → List Bool
@@ -60,11 +60,11 @@ abbrev pub wrongMac : Entry → Flow → Place → List ℕ → Bool
 wrongMac e f x s = not (sameBytes (macIn s) (segmentMac (e .secret) f (extensionOf (value x)) (aoAt s) s))
 
 -- Judging with a state, its connection l.
-abbrev pub judgeRows : K.Tables → Connection → Found → Place → Arrival → List Row
+abbrev pub judgeRows : K.Tables → Connection → Found → Place → Arrival → List NumberRow
 judgeRows t l found x a =
     row 18 (not (isFamily (l .pair .family)) ∷ [])
     ∷ row 19 (not (sized (a .source) (a .destination)) ∷ [])
-    ∷ tableRow t
+    ∷ entriesRow t
     ∷ row 20 (badSize (a .segment))
     ∷ row 21 (malformed (a .segment) ∷ [])
     ∷ row 22 (ltb 1 (ao (a .segment) .count) ∷ (ltb 0 (ao (a .segment) .count) && ltb 0 (md5 (a .segment) .count)) ∷ [])
@@ -85,15 +85,15 @@ judgeRows t l found x a =
 abbrev pub JudgeTable : Type 0
 JudgeTable = (t : K.Tables) (l : Connection) (reference : ℕ) (a : Arrival)
     → check t l reference a
-    ≡ given (judgeRows t l (K.recvEntry t (l .pair) (keyId (a .segment))) (placeOn l reference (sequence (a .segment))) a)
+    ≡ firstOf (judgeRows t l (K.recvEntry t (l .pair) (keyId (a .segment))) (placeOn l reference (sequence (a .segment))) a)
     (Good (value (placeOn l reference (sequence (a .segment)))) (rnextKeyId (a .segment)))
 
 -- A bare SYN, without a state: "25 if any entry matches the pair, otherwise pass"; "If there is none, a setting decides: pass .. or drop
 -- 26."
-abbrev pub synRows : K.Tables → Bool → Found → Arrival → List Row
+abbrev pub synRows : K.Tables → Bool → Found → Arrival → List NumberRow
 synRows t strict found a =
     row 19 (not (sized (a .source) (a .destination)) ∷ [])
-    ∷ tableRow t
+    ∷ entriesRow t
     ∷ row 20 (badSize (a .segment))
     ∷ row 21 (malformed (a .segment) ∷ [])
     ∷ row 22 (ltb 1 (ao (a .segment) .count) ∷ (ltb 0 (ao (a .segment) .count) && ltb 0 (md5 (a .segment) .count)) ∷ [])
@@ -107,14 +107,14 @@ synRows t strict found a =
 abbrev pub SynTable : Type 0
 SynTable = (t : K.Tables) (a : Arrival) (strict : Bool)
     → checkSyn t a strict
-    ≡ given (synRows t strict (K.recvEntry t (arrivalPair a) (keyId (a .segment))) a)
+    ≡ firstOf (synRows t strict (K.recvEntry t (arrivalPair a) (keyId (a .segment))) a)
     (Good (sequence (a .segment)) (rnextKeyId (a .segment)))
 
 -- Signing the segment s into an output of `room` bytes: TCP-AO takes 16.
-abbrev pub signRows : K.Tables → List ℕ → ℕ → State → Place → List Row
+abbrev pub signRows : K.Tables → List ℕ → ℕ → State → Place → List NumberRow
 signRows t s room q x =
     row 18 (not (isFamily (q .conn .pair .family)) ∷ [])
-    ∷ tableRow t
+    ∷ entriesRow t
     ∷ row 30 (badSize s)
     ∷ row 31 (malformed s ∷ ltb 0 (ao s .count) ∷ ltb 0 (md5 s .count) ∷ [])
     ∷ row 32 (ltb 11 (dataOffset s) ∷ ltb 65535 (length s + 16) ∷ [])
@@ -128,20 +128,20 @@ signRows t s room q x =
 abbrev pub SignTable : Type 0
 SignTable = (t : K.Tables) (s : List ℕ) (room : ℕ) (q : State)
     → checkSign t s room q
-    ≡ given (signRows t s room q (placeOn (q .conn) (q .sent) (sequence s)))
+    ≡ firstOf (signRows t s room q (placeOn (q .conn) (q .sent) (sequence s)))
     (Good (value (placeOn (q .conn) (q .sent) (sequence s))) (q .«ask_id»))
 
 -- 35: "no entry matching the pair has the outgoing SendID (opening ..) or the RecvID to ask (operator call)"
 abbrev pub OpenTable : Type 0
 OpenTable = (t : K.Tables) (local remote : List ℕ) (p : Pair) (sendId : ℕ)
     → first (openTests t local remote (K.sendEntry t p sendId)) unrefused
-    ≡ given (row 19 (not (sized local remote) ∷ []) ∷ tableRow t ∷ row 35 (not (K.sendEntry t p sendId .there) ∷ []) ∷ []) unrefused
+    ≡ firstOf (row 19 (not (sized local remote) ∷ []) ∷ entriesRow t ∷ row 35 (not (K.sendEntry t p sendId .there) ∷ []) ∷ []) unrefused
 
 abbrev pub AskTable : Type 0
 AskTable = (t : K.Tables) (id : ℕ) (l : Connection)
     → first (askTests t id l) unrefused
-    ≡ given
-    (row 18 (not (isFamily (l .pair .family)) ∷ []) ∷ tableRow t ∷ row 35 (not (K.recvEntry t (l .pair) id .there) ∷ []) ∷ []) unrefused
+    ≡ firstOf
+    (row 18 (not (isFamily (l .pair .family)) ∷ []) ∷ entriesRow t ∷ row 35 (not (K.recvEntry t (l .pair) id .there) ∷ []) ∷ []) unrefused
 
 -- "12, 11, 10", then 13 to 17: the numbers of the entry with the index i, in order
 abbrev pub EntryOrder : Type 0
