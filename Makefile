@@ -4,6 +4,9 @@
 # make soak    compares the archive with the reference for a minute, or make soak TIME=3600 for an hour
 # make clean   removes what the others made
 #
+# make guard, make house       the gate's cheap checks by themselves
+# make expected                writes the numbers that the gate holds edits and tests to (.ci/expected)
+#
 # Needs the Rattle kit (rt), gcc, cargo and make, and no network.
 
 SHELL := bash
@@ -11,7 +14,7 @@ SHELL := bash
 MAKEFLAGS += --no-print-directory
 .NOTPARALLEL:
 .DELETE_ON_ERROR:
-.PHONY: all proved archive demonstration test bench soak clean
+.PHONY: all proved archive demonstration test guard house expected bench soak clean
 
 ARCHIVE := target/staticlib/libembankery.a
 SOURCES := crates.txt $(shell find crates -name '*.rt' -o -name '*.antt')
@@ -41,17 +44,44 @@ TIME ?= 60
 soak: archive
 	cd rust && cargo run --offline --locked --release --quiet --package compare -- $(TIME) $(if $(SEED),--seed $(SEED))
 
-# rt ci's last line, its verdict, is held back until the tests on the archive have passed too; if
-# anything fails on the way, it is not printed as a line at all.
+# A second: what would make the gate say more than it did.
+guard:
+	@.ci/guard
+
+# Some seconds: the documents against the tree. The gate runs it with the other tests again.
+house:
+	@cd rust && cargo test --offline --locked --quiet --package house
+
+# The tests on the archive that is there. What they print is kept, to be held to .ci/expected.
+TESTS := rust/target/tests.log
+run_tests = mkdir -p rust/target; (cd rust && cargo test --offline --locked) | tee $(TESTS)
+compare_tests = .ci/count $(TESTS) | diff - .ci/expected
+
+# The gate runs in an environment of its own: called from elsewhere, make test has .ci/run make one and call it again.
+ifndef GATE
 test:
+	@.ci/run
+else
+# The cheap checks come first. rt ci's last line, its verdict, is held back until the tests on the archive have
+# passed too; if anything fails on the way, it is not printed as a line at all. It counts crates and edits.
+test: guard house
 	@verdict=$$(mktemp); trap 'rm -f "$$verdict"' EXIT; \
+	failed() { echo "make test: FAILED$$*"; exit 1; }; \
 	rt ci | awk -v keep="$$verdict" 'NR > 1 { print last; fflush() } { last = $$0 } END { print last > keep }' \
-	    || { echo "make test: FAILED in rt ci: $$(cat "$$verdict")"; exit 1; }; \
-	grep -Eqx '[1-9][0-9]* passed, 0 failed' "$$verdict" \
-	    || { echo "make test: FAILED: rt ci ended with: $$(cat "$$verdict")"; exit 1; }; \
-	rt staticlib embankery || { echo "make test: FAILED: no archive"; exit 1; }; \
-	(cd rust && cargo test --offline --locked) || { echo "make test: FAILED in the Rust tests"; exit 1; }; \
+	    || failed " in rt ci: $$(cat "$$verdict")"; \
+	all=$$(($$(grep -c '^[a-z0-9_]*:' crates.txt) + $$(.ci/count edits | sed 's/ .*//'))); \
+	grep -qx "$$all passed, 0 failed" "$$verdict" \
+	    || failed ": rt ci ended with: $$(cat "$$verdict"), and not with $$all, the crates and edits"; \
+	rt staticlib embankery || failed ": no archive"; \
+	$(run_tests) || failed " in the Rust tests"; \
+	$(compare_tests) || failed ": what the tests say (<) is not what .ci/expected has (>)"; \
 	cat "$$verdict"
+endif
+
+# After a change of the number of edits or tests: runs the tests and writes their numbers. Look at the difference.
+expected: archive
+	@$(run_tests)
+	@.ci/count $(TESTS) > .ci/expected; git diff --unified=0 .ci/expected; .ci/guard
 
 clean:
 	rm -rf target rust/target

@@ -32,52 +32,52 @@ extern "C" {
  * 32 to 63. Bits 8 to 31 are zero; bits 8 to 15 are kept for later versions, so take the number by
  * EMBANKERY_NUMBER.
  *
- *   no.  meaning                                              value
- *    0   accept, or done                                      of tcpao_judge, tcpao_judge_syn and
- *                                                             tcpao_open_passive the segment's sequence
- *                                                             number extension; of tcpao_sign the signed
- *                                                             length; of tcpao_check_table how many
- *                                                             entries; else 0
- *    1   pass: a bare SYN without TCP-AO whose pair no entry  0
- *        matches, or, with setting 0, one whose KeyID has no
- *        entry for the pair
+ *   no.  meaning
+ *    0   accept, or done
+ *    1   pass: a bare SYN without TCP-AO whose pair no entry matches, or, with setting 0, one
+ *        whose KeyID no entry that matches the pair has as its RecvID
  *
- *   The table of keys is refused:                             the entry's index, from 0
- *   10   an entry is cut
- *   11   an entry's kind is unknown
+ *   The table of keys is refused:
+ *   10   the entry is cut off before its end
+ *   11   the entry's kind is neither 4 (IPv4) nor 6 (IPv6)
  *   12   a 65th entry begins
- *   13   an entry's flags or algorithm are not listed
- *   14   a low port is above the high one
- *   15   a prefix is above 32 or 128, or address bits are set past it
- *   16   a key's length is 0 or above 80, or its padding is not zero
- *   17   this entry and one before it share SendID or RecvID, and a socket pair exists that both match
+ *   13   the entry's flags or its algorithm are not listed
+ *   14   a low port is above its high port
+ *   15   a prefix length is above 32 (IPv4) or 128 (IPv6), or address bits are set past it
+ *   16   the key's length is 0 or above 80, or its padding is not zero
+ *   17   a socket pair exists that this entry and an earlier one both match, and they share SendID
+ *        or RecvID
  *
- *   The call is refused:                                      0
- *   18   the state buffer has not EMBANKERY_STATE_BYTES bytes, or the state's family is neither 4 nor 6
- *   19   the addresses are not both 4 or both 16 bytes
+ *   The call is refused:
+ *   18   the state is not 152 bytes long, or its family is neither 4 (IPv4) nor 6 (IPv6)
+ *   19   the addresses are not both 4 or both 16 bytes long
  *
- *   An arriving segment is dropped:                           0
- *   20   its length or data offset is bad
- *   21   its options are malformed
- *   22   it has two TCP-AO, or TCP-AO and TCP MD5 together
- *   23   its socket pair is not the state's
- *   24   it is the wrong segment for the stage
- *   25   TCP-AO is missing
- *   26   no entry for its KeyID
- *   27   its MAC has the wrong length
- *   28   its sequence number has no position by the reference
- *   29   its MAC differs
+ *   An arriving segment is dropped:
+ *   20   the segment's length or data offset is bad
+ *   21   the segment's options are malformed
+ *   22   the segment has two TCP-AO, or TCP-AO and TCP MD5 together
+ *   23   the segment's addresses and ports are not the connection's
+ *   24   the segment is the wrong one for the connection's stage
+ *   25   the segment has no TCP-AO
+ *   26   no entry that matches the pair has the segment's KeyID as its RecvID
+ *   27   the MAC has the wrong length
+ *   28   the sequence number has no position
+ *   29   the MAC differs
  *
- *   A segment is not signed, or a call not done:              0
- *   30   its length or data offset is bad
- *   31   its options are malformed, or TCP-AO or TCP MD5 is in it already
- *   32   its data offset is above 11, or the result would have more than 65,535 bytes
- *   33   its ports are not the state's
- *   34   it is the wrong segment for the stage
- *   35   no entry that matches the pair has the SendID (opening, signing) or the RecvID to ask
- *   36   its sequence number has no position, or it is a SYN (bare or with ACK) whose position is not
- *        our ISN
- *   37   the output is too short
+ *   A segment is not signed, or a call not done:
+ *   30   signing: the segment's length or data offset is bad
+ *   31   signing: the options are malformed, or TCP-AO or TCP MD5 is there already
+ *   32   signing: the data offset is above 11, or the result would be longer than 65,535 bytes
+ *   33   signing: the segment's ports are not the connection's
+ *   34   signing: the segment is the wrong one for the connection's stage
+ *   35   no entry that matches the pair has the outgoing SendID (opening, signing) or the RecvID
+ *        to ask for
+ *   36   signing: the sequence number has no position, or a SYN's (bare or with ACK) is not our ISN
+ *   37   signing: the output is too short
+ *
+ * The value beside 0 is, of tcpao_judge, tcpao_judge_syn and tcpao_open_passive, the segment's sequence
+ * number extension; of tcpao_sign the signed length; of tcpao_check_table how many entries. Beside 10 to
+ * 17 it is the entry's index, from 0. Else it is 0. 152 is EMBANKERY_STATE_BYTES.
  *
  * Where several apply, 18 is given before 19, then 10 to 17, and then the others in the order of this
  * list. Of the table's entries the first that is refused counts; of one entry 12 comes first, then 11,

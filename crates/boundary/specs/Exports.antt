@@ -1,6 +1,6 @@
--- What the calls on a key table and on a connection answer, and what they leave in the buffers lent to them: BOUNDARY.md, "The calls" and
--- "The state". What the calls do is defined in Calls.antt of `rules`, and a state's bytes in Layout.antt of `states`; here are the rules of
--- the boundary alone, and then each export, one definition. Assumes nothing.
+-- What the calls on a key table and on a connection answer, and what they leave in the buffers lent to them: docs/BOUNDARY.md, "The calls"
+-- and "The state". What the calls do is defined in Calls.antt of `rules`, and a state's bytes in Layout.antt of `states`; here are the
+-- rules of the boundary alone, and then each export, one definition. Assumes nothing.
 use Prim.Native.Nat.{ℕ}
 use mathlib.Core.Bool.{Bool, true, false, cond, not}
 use mathlib.Core.List.{List, []}
@@ -85,7 +85,7 @@ afterAsked b s = leaves (answered b (ofSettled s)) (stateAfter b (s .state))
 abbrev pub afterSigned : (b x out : List ℕ) → Signed → Export
 afterSigned b x out s = writes (answered b (ofSigned s)) (stateAfter b (s .state)) (changed b x out)
 
--- The calls of BOUNDARY.md, by their names there.
+-- The calls of docs/BOUNDARY.md, by their names there.
 
 unfoldable pub checkTableExport : Tables → Export
 checkTableExport t = answers (word (tableAnswer (checked t)))

@@ -1,6 +1,6 @@
--- BOUNDARY.md, "The answer", of every call: the number fits its eight bits, an index and a signed length their thirty-two, and the value is
--- 0 beside every number but 0 and 10 to 17; the number is 0 exactly on accept or done, and 1 exactly on pass. (That an extension fits is
--- known by its type, and by the contract, since the answer is a u64.) Assumes nothing.
+-- docs/BOUNDARY.md, "The answer", of every call: the number fits its eight bits, an index and a signed length their thirty-two, and the
+-- value is 0 beside every number but 0 and 10 to 17; the number is 0 exactly on accept or done, and 1 exactly on pass. (That an
+-- extension fits is known by its type, and by the contract, since the answer is a u64.) Assumes nothing.
 use Prim.Native.Nat.{ℕ, _^_, _%_, _≤_, _<_}
 use mathlib.Core.Path.{_≡_, refl, subst, subst⁻¹}
 use mathlib.Core.Bool.{Bool, true, false, cond, not, _&&_, _||_}
@@ -24,8 +24,8 @@ use Rattle.rules.specs.declared.Done.{Done}
 use Rattle.rules.specs.declared.Done.the-variants as D
 use Rattle.rules.specs.declared.Connection.{Connection}
 use Rattle.rules.specs.declared.State.{State}
-use Rattle.rules.specs.Numbers.{Test, first}
-use Rattle.rules.specs.NumberLaws.{eachGives, first-passes}
+use Rattle.octets.specs.Tests.{Test, first}
+use Rattle.octets.specs.TestLaws.{eachGives, first-passes}
 use Rattle.rules.specs.Answers.{Answer, answer, tableAnswer, verdictAnswer, signingAnswer, doneAnswer}
 use Rattle.rules.specs.Connection.{Arrival, arrivalPair, pairOf, empty}
 use Rattle.rules.specs.Calls.{refuse, isRefused, refusal, verdictOf, indexOf, judgeTests, check, judged, judgeSynTests, checkSyn, judgedSyn}

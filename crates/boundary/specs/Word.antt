@@ -1,5 +1,5 @@
--- The answer of a call as one number: BOUNDARY.md, "The answer". What number and value each answer has stands in Answers.antt of `rules`.
--- Assumes nothing.
+-- The answer of a call as one number: docs/BOUNDARY.md, "The answer". What number and value each answer has stands in Answers.antt of
+-- `rules`. Assumes nothing.
 use Prim.Native.Nat.{ℕ, _+_, _*_, _^_, _/_, _%_, _<_}
 use mathlib.Core.Path.{_≡_}
 use native.Mathlib.Omega.{arith}

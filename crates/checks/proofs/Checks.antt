@@ -21,8 +21,8 @@ use Rattle.keys.specs.declared.table.Loaded.the-variants.{Valid, Refused}
 use Rattle.rules.specs.declared.Connection.{Connection}
 use Rattle.rules.specs.declared.Place.{Place}
 use Rattle.rules.specs.declared.Outcome.{Outcome}
-use Rattle.rules.specs.Numbers.{first}
-use Rattle.rules.specs.NumberLaws.{NoneApplies, none-split, eachGives}
+use Rattle.octets.specs.Tests.{first}
+use Rattle.octets.specs.TestLaws.{NoneApplies, none-split, eachGives}
 use Rattle.rules.specs.GroupLaws.{sized-of}
 use Rattle.rules.specs.Mac.{Flow}
 use Rattle.rules.specs.Connection.{sized, arrivalPair, arrivingSyn}

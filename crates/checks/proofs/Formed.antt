@@ -5,11 +5,10 @@ use mathlib.Core.Bool.{Bool, true, false}
 use mathlib.Core.List.{List, [], _∷_, _++_}
 use native.Mathlib.Omega.{arith}
 use borrow.Author.Tests.{not-true, not-false}
-use Rattle.wire.specs.Tests.{any}
+use Rattle.octets.specs.Tests.{any, Test, tests, first}
 use Rattle.wire.specs.Header.{sizeFaults, wellSized}
 use Rattle.wire.specs.declared.options.Options.{Options}
 use Rattle.rules.specs.declared.Outcome.{Outcome}
-use Rattle.rules.specs.Numbers.{Test, tests, first}
 use Rattle.rules.specs.Calls.{refuse, unrefused, lengthTests}
 use Rattle.checks.specs.Groups.{optionLines}
 

@@ -10,8 +10,8 @@ use Rattle.keys.specs.Table.{Tables, recvEntry}
 use Rattle.rules.specs.declared.Connection.{Connection}
 use Rattle.rules.specs.declared.Place.the-variants.{At}
 use Rattle.rules.specs.declared.Outcome.{Outcome}
-use Rattle.rules.specs.Numbers.{first}
-use Rattle.rules.specs.NumberLaws.{NoneApplies, first-none, first-append, first-joined}
+use Rattle.octets.specs.Tests.{first}
+use Rattle.octets.specs.TestLaws.{NoneApplies, first-none, first-append, first-joined}
 use Rattle.rules.specs.Mac.{Flow}
 use Rattle.rules.specs.Segment.{keyId}
 use Rattle.rules.specs.Connection.{Arrival, arrivalPair, arriving, arrivingSyn, placeOn}

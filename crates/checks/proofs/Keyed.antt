@@ -19,7 +19,7 @@ use Rattle.rules.specs.declared.Place.{Place}
 use Rattle.rules.specs.declared.Place.the-variants.{At, Nowhere}
 use Rattle.rules.specs.declared.Outcome.{Outcome}
 use Rattle.rules.specs.declared.Outcome.the-variants.{Good}
-use Rattle.rules.specs.Numbers.{first}
+use Rattle.octets.specs.Tests.{first}
 use Rattle.rules.specs.Segment.{ao}
 use Rattle.rules.specs.Connection.{located, value}
 use Rattle.rules.specs.Calls.{refuse, keyTests}

@@ -20,7 +20,7 @@ use Rattle.rules.specs.declared.Place.{Place}
 use Rattle.rules.specs.declared.Place.the-variants.{At}
 use Rattle.rules.specs.declared.Connection.{Connection}
 use Rattle.rules.specs.declared.State.{State}
-use Rattle.rules.specs.Numbers.{tests, first}
+use Rattle.octets.specs.Tests.{tests, first}
 use Rattle.rules.specs.Segment.{isBareSyn}
 use Rattle.rules.specs.Connection.{isOpen, placeOn, value}
 use Rattle.rules.specs.Calls.{refuse, unrefused, addedBytes, freshTests, growthTests, signStageTests, sentPlaceTests, signTests}

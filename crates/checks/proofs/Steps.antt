@@ -18,7 +18,7 @@ use Rattle.rules.specs.Mac.{Flow, trafficKey, front}
 use Rattle.rules.specs.Segment.{ao, macIn}
 use Rattle.rules.specs.Connection.{extensionOf}
 use Rattle.rules.specs.Calls.{refuse}
-use Rattle.traffic.specs.Filled.{padded20}
+use Rattle.traffic.specs.Padded.{padded, digestRoom}
 use Rattle.traffic.specs.MacContext.{MacView, macView, macStart, macAbsorb, macFinished}
 use Rattle.traffic.specs.declared.context.MacContext.{MacContext}
 use Rattle.checks.specs.GroupLaws.{Else}
@@ -35,7 +35,8 @@ front-of n x e =
 module _ (x rnext : ℕ) (e : Entry) (f : Flow) (s : List ℕ) {o : Occurrence} (is : o ≡ ao s) (formed : wellSized s ≡ true) (long : o .len ≡ 4 + e .secret .«mac_bytes»)
     (short : e .secret .«mac_bytes» ≤ 16) {end ext n : ℕ} (m : MacContext) (k : List ℕ) where
   pub ready-is : end ≡ headerEnd s → ext ≡ extensionOf x → n ≡ e .secret .«mac_bytes»
-      → macView m ≡ macAbsorb (macStart (e .secret .algorithm) (padded20 (trafficKey (e .secret) f))) (front (e .secret) f ext (20 + o .at) (length s) (take end s))
+      → macView m ≡ macAbsorb (macStart (e .secret .algorithm) (padded digestRoom (trafficKey (e .secret) f)))
+      (front (e .secret) f ext (20 + o .at) (length s) (take end s))
       → take (length (take n (drop (20 + o .at + 4) s))) k ≡ take n (drop (20 + o .at + 4) s)
       → Begins (Good x rnext) e f s (record { outcome = Good x rnext; ids = e .ids; mac = m; carried = k; «mac_bytes» = e .secret .«mac_bytes» })
   ready-is ends extends counts macs carries =
@@ -49,7 +50,8 @@ module _ (x rnext : ℕ) (e : Entry) (f : Flow) (s : List ℕ) {o : Occurrence} 
               ids = refl;
               bytes = refl;
               carried = ap (λ (j : ℕ). take j k) (sym all) ∙ carries ∙ (λ i. take (cut i) (drop (20 + is i .at + 4) s));
-              mac = macs ∙ (λ i. macAbsorb (macStart (e .secret .algorithm) (padded20 (trafficKey (e .secret) f))) (front (e .secret) f ((extends ∙ ap extensionOf at) i) (20 + is i .at) (length s) (take (ends i) s)));
+              mac = macs ∙ (λ i. macAbsorb (macStart (e .secret .algorithm) (padded digestRoom (trafficKey (e .secret) f)))
+                  (front (e .secret) f ((extends ∙ ap extensionOf at) i) (20 + is i .at) (length s) (take (ends i) s)));
             };
       }
     where

@@ -14,12 +14,12 @@ use Rattle.rules.specs.declared.Connection.{Connection}
 use Rattle.rules.specs.declared.Place.the-variants.{At}
 use Rattle.rules.specs.declared.Outcome.{Outcome}
 use Rattle.rules.specs.declared.Outcome.the-variants.{Good, Passed, Bad}
-use Rattle.rules.specs.Numbers.{first}
+use Rattle.octets.specs.Tests.{first}
 use Rattle.rules.specs.Mac.{Flow, trafficKey, front}
 use Rattle.rules.specs.Segment.{aoAt, keyId, macIn}
 use Rattle.rules.specs.Connection.{Arrival, arrivalPair, arriving, arrivingSyn, placeOn, extensionOf}
 use Rattle.rules.specs.Calls.{refuse, keyTests, judgeGroups, synMissing, synUnknown, synGroups}
-use Rattle.traffic.specs.Filled.{padded20}
+use Rattle.traffic.specs.Padded.{padded, digestRoom}
 use Rattle.traffic.specs.MacContext.{MacView, macView, macStart, macAbsorb, macFinished}
 use Rattle.checks.specs.Groups.{untilMac, goodAt, arrivingOn}
 use Rattle.checks.specs.declared.begun.Begun.{Begun}
@@ -27,7 +27,7 @@ use Rattle.checks.specs.declared.begun.Begun.{Begun}
 -- the MAC that the front leaves, under the entry's traffic key
 abbrev pub fronted : Entry → Flow → ℕ → List ℕ → MacView
 fronted e f x s =
-    macAbsorb (macStart (e .secret .algorithm) (padded20 (trafficKey (e .secret) f)))
+    macAbsorb (macStart (e .secret .algorithm) (padded digestRoom (trafficKey (e .secret) f)))
     (front (e .secret) f (extensionOf x) (aoAt s) (length s) (take (headerEnd s) s))
 
 -- what waits for the data, at the position x under the entry e

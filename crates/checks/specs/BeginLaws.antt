@@ -15,8 +15,8 @@ use Rattle.rules.specs.declared.Place.{Place}
 use Rattle.rules.specs.declared.Outcome.{Outcome}
 use Rattle.rules.specs.declared.Place.the-variants.{At}
 use Rattle.rules.specs.declared.Outcome.the-variants.{Good, Passed, Bad}
-use Rattle.rules.specs.Numbers.{Test, first}
-use Rattle.rules.specs.NumberLaws.{first-none, first-append, first-joined, eachGives, none-applied}
+use Rattle.octets.specs.Tests.{Test, first}
+use Rattle.octets.specs.TestLaws.{first-none, first-append, first-joined, eachGives, none-applied}
 use Rattle.rules.specs.Mac.{Flow, front, segmentMac}
 use Rattle.rules.specs.Segment.{aoAt, keyId, macIn}
 use Rattle.rules.specs.Connection.{Arrival, arrivalPair, arriving, arrivingSyn, placeOn, value, extensionOf}

@@ -12,8 +12,8 @@ use Rattle.keys.specs.declared.table.Loaded.{Loaded}
 use Rattle.keys.specs.declared.table.Loaded.the-variants.{Valid, Refused}
 use Rattle.rules.specs.declared.Outcome.{Outcome}
 use Rattle.rules.specs.declared.Outcome.the-variants.{Good, Passed, Bad}
-use Rattle.rules.specs.Numbers.{Test, first}
-use Rattle.rules.specs.NumberLaws.{NoneApplies, first-none, first-append, eachGives, none-applied}
+use Rattle.octets.specs.Tests.{Test, first}
+use Rattle.octets.specs.TestLaws.{NoneApplies, first-none, first-append, eachGives, none-applied}
 use Rattle.rules.specs.Calls.{unrefused, refusal}
 
 -- an answer that is decided by a test

@@ -13,7 +13,7 @@ use Rattle.rules.specs.declared.Place.{Place}
 use Rattle.rules.specs.declared.Outcome.{Outcome}
 use Rattle.rules.specs.declared.Outcome.the-variants.{Good}
 use Rattle.rules.specs.declared.Connection.{Connection}
-use Rattle.rules.specs.Numbers.{Test, test, tests, joined}
+use Rattle.octets.specs.Tests.{Test, test, tests, joined}
 use Rattle.rules.specs.Mac.{Flow}
 use Rattle.rules.specs.Segment.{rnextKeyId}
 use Rattle.rules.specs.Connection.{localAddress, remoteAddress, isOpen, value}

@@ -9,7 +9,7 @@ use Rattle.keys.specs.Table.{Tables}
 use Rattle.rules.specs.declared.Outcome.{Outcome}
 use Rattle.rules.specs.declared.Place.{Place}
 use Rattle.rules.specs.declared.Connection.{Connection}
-use Rattle.rules.specs.Numbers.{Test, test}
+use Rattle.octets.specs.Tests.{Test, test}
 use Rattle.rules.specs.Calls.{refuse, familyTests, tableTests, lengthTests, freshTests, growthTests, portTests, signStageTests, sentPlaceTests}
 
 -- 18, 10 to 17, 30 and 31

@@ -6,7 +6,7 @@ ghost use mathlib.Core.Bool.{true, false};
 ghost use Prim.Native.Nat.{ℕ, _+_, _≤_};
 ghost use lib.ListN.{length, take, drop};
 ghost use Rattle.wire.specs.Header.{headerEnd, wellSized};
-ghost use Rattle.rules.specs.Numbers.{first};
+ghost use Rattle.octets.specs.Tests.{first};
 ghost use Rattle.rules.specs.Segment.{ao};
 ghost use Rattle.rules.specs.Calls.{keyTests};
 ghost use Rattle.rules.specs.declared.Outcome.the-variants.{Good};

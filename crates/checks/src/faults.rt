@@ -3,7 +3,7 @@
 ghost use mathlib.Core.Path.{_≡_};
 ghost use mathlib.Core.Bool.{not, _&&_};
 ghost use mathlib.Core.List.{_++_};
-ghost use Rattle.rules.specs.Numbers.{first};
+ghost use Rattle.octets.specs.Tests.{first};
 ghost use Rattle.rules.specs.Segment.{isBareSyn};
 ghost use Rattle.rules.specs.Calls.{unrefused, familyTests, addressTests, tableTests, inputTests, stateTests, lengthTests};
 ghost use Rattle.checks.specs.Groups.{countTests, optionLines, pairLines, stageLines, synLines, arrivalLines};

@@ -4,7 +4,7 @@ ghost use mathlib.Core.Path.{_≡_};
 ghost use mathlib.Core.List.{[], _∷_, _++_};
 ghost use lib.Dec.{ltb};
 ghost use Rattle.wire.specs.Header.{sequence as sequenceOf};
-ghost use Rattle.rules.specs.Numbers.{tests, first};
+ghost use Rattle.octets.specs.Tests.{tests, first};
 ghost use Rattle.rules.specs.Connection.{placeOn, value};
 ghost use Rattle.rules.specs.declared.Outcome.the-variants.{Good};
 ghost use Rattle.rules.specs.Calls.{refuse, unrefused, addedBytes, lengthTests, freshTests, growthTests, portTests, signStageTests, sentPlaceTests, signTests};

@@ -1,10 +1,10 @@
 // A text in lines, and a line in columns with one space between: what the vector files are made of.
-// `find` assumes that it starts inside the text; the others assume nothing.
+// `find` asks that its place lies in the text, and a private step that its end does; the others assume nothing.
 ghost use mathlib.Core.Path.{_≡_};
 ghost use Prim.Native.Nat.{_+_, _≤_, min};
 ghost use lib.Dec.{eqb};
 ghost use lib.ListN.{length, drop};
-ghost use Rattle.columns.specs.Lines.{before, lineAt, column as columnOf, isRemark};
+ghost use Rattle.columns.specs.Lines.{before, lineAt, column as columnOf};
 
 // The index of the first b from `at` on, or the length where there is none.
 pub fn find(s: &[u8], at: usize, b: u8) -> usize
@@ -64,9 +64,7 @@ pub fn ends(line: &[u8], k: usize) -> bool
 }
 
 // A line that only speaks to the reader.
-pub fn is_remark(line: &[u8]) -> bool
-    ensures { λ r. ⌜ r ≡ isRemark (now (line .entry)) ⌝ }
-{
+pub fn is_remark(line: &[u8]) -> bool {
     if line.len() == 0 {
         return false;
     }

@@ -1,4 +1,4 @@
-// The MAC library on lent bytes: BOUNDARY.md, "The calls". Each call gives how many bytes it wrote at the front of out: 20, 20, 16, 16.
+// The MAC library on lent bytes: docs/BOUNDARY.md, "The calls". Each call gives how many bytes it wrote at the front of out: 20, 20, 16, 16.
 // Where out is shorter, or an AES key or block has not 16 bytes, it gives 0 and writes nothing. Assumes nothing.
 ghost use mathlib.Core.Path.{_≡_};
 ghost use Prim.Native.Nat.{_≤_};

@@ -8,10 +8,11 @@ use lib.ListN.{length, getD, take, set, replicate, length-set}
 use lib.Seq.{getD-set-same, getD-set-other}
 use lib.Dec.{eqb}
 use borrow.Author.Tests.{eqb-true, eqb-false, ne-eqb}
+use Rattle.octets.specs.Each.{Each}
+use Rattle.octets.specs.Tests.{test}
 use Rattle.keys.specs.Entry.{size, itemAt, entries}
-use Rattle.keys.specs.EntryLaws.{Each}
 use Rattle.keys.specs.Match.{share, clash}
-use Rattle.keys.specs.Table.{line, first, ownLines, itemLines, clashing, loaded}
+use Rattle.keys.specs.Table.{numberOf, ownTests, itemTests, clashing, loaded}
 use Rattle.keys.proofs.Walk.{Walking, walk-start, walk-refused, walk-sound, walk-more, walk-next}
 use Rattle.keys.specs.declared.entry.Ids.{Ids}
 use Rattle.keys.specs.declared.entry.Entry.{Entry}
@@ -77,13 +78,13 @@ load-start t limit = record { walking = walk-start t limit; sends-long = refl; r
 
 -- what begins at `at` has these IDs, and so many entries before it were compared
 module _ {t : List ℕ} {limit : ℕ} {sends recvs : List ℕ} {at i : ℕ} (w : Loading t limit sends recvs at i) (ids : Ids) (de : ids ≡ itemAt t at .entry .ids) (k : ℕ) (ke : k ≡ compared sends recvs ids i)
-    (n : ℕ) (ne : n ≡ first (itemLines (take k (entries t)) (itemAt t at))) where
+    (n : ℕ) (ne : n ≡ numberOf (itemTests (take k (entries t)) (itemAt t at))) where
   -- the number is as if all had been
-  number : n ≡ first (itemLines (take i (entries t)) (itemAt t at))
+  number : n ≡ numberOf (itemTests (take i (entries t)) (itemAt t at))
   number =
       ne
-      ∙ ap (λ (j : ℕ). first (itemLines (take j (entries t)) (itemAt t at))) (ke ∙ ap (λ (y : Ids). compared sends recvs y i) de)
-      ∙ ap (λ (b : Bool). first (ownLines (itemAt t at) ++ (line 17 b ∷ []))) (enough sends recvs (entries t) (itemAt t at .entry) i (w .marked))
+      ∙ ap (λ (j : ℕ). numberOf (itemTests (take j (entries t)) (itemAt t at))) (ke ∙ ap (λ (y : Ids). compared sends recvs y i) de)
+      ∙ ap (λ (b : Bool). numberOf (ownTests (itemAt t at) ++ (test 17 b ∷ []))) (enough sends recvs (entries t) (itemAt t at .entry) i (w .marked))
 
   pub load-refused : at < length t → (i ≡ limit → ⊥) → (n ≡ 0 → ⊥) → Refused n i ≡ loaded limit t
   load-refused h e z = walk-refused (w .walking) n h e number z

@@ -1,4 +1,4 @@
--- Laws for functions that go through tests or lines one after another.
+-- Laws for functions that go through tests one after another.
 use Prim.Native.Nat.{ℕ, _+_, _*_, _≤_, _<_, max, min}
 use mathlib.Core.Bool.{Bool, true, false, cond, not, _&&_}
 use mathlib.Core.Path.{_≡_, refl, sym, ap, _∙_, subst}
@@ -11,11 +11,12 @@ use lib.Bits.{bitOr, and-le-l, and-le-r, or-add-and}
 use lib.Dec.{eqb, leb}
 use borrow.Author.Tests.{eq-eqb, ne-eqb, eqb-true, eqb-false, lt-ltb, le-ltb}
 use Rattle.octets.specs.Octets.{get16}
+use Rattle.octets.specs.Tests.{Test}
 use Rattle.wire.specs.Prefix.{agree, clearPast}
 use Rattle.keys.specs.Entry.{width, padded, sideOf, selectorOf}
 use Rattle.keys.specs.Match.{fixed, meet, overlap}
-use Rattle.keys.specs.Table.{Line, first, zeros, sideLines}
-use Rattle.keys.specs.LineLaws.{lacks, passed-first, first-passed, first-given}
+use Rattle.keys.specs.Table.{numberOf, zeros, sideTests}
+use Rattle.keys.specs.FaultLaws.{lacks, number-none, number-past, number-given}
 use Rattle.keys.proofs.Bytes.{tail, agree-padded}
 use Rattle.keys.specs.declared.entry.Side.{Side}
 use Rattle.keys.specs.declared.entry.Selector.{Selector}
@@ -32,12 +33,12 @@ and-no a b r e h = rw (sym e ∙ h)
 pub and-yes : (a b r q : Bool) → r ≡ a → r ≡ true → q ≡ b → q ≡ (a && b)
 and-yes a b r q e h g = rw (sym e ∙ h) g
 
--- a number that lines give, and what follows where they give none
-pub given : (a b : List Line) (n : ℕ) → n ≡ first a → (n ≡ 0 → ⊥) → n ≡ first (a ++ b)
-given a b n e h = e ∙ sym (first-given a b (λ z. h (e ∙ z)))
+-- a number that tests give, and what follows where they give none
+pub given : (a b : List (Test ℕ)) (n : ℕ) → n ≡ numberOf a → (n ≡ 0 → ⊥) → n ≡ numberOf (a ++ b)
+given a b n e h = e ∙ sym (number-given a b (λ z. h (e ∙ z)))
 
-pub passing : (a b : List Line) (n m : ℕ) → lacks 0 a ≡ true → n ≡ first a → n ≡ 0 → m ≡ first b → m ≡ first (a ++ b)
-passing a b n m l e z q = q ∙ sym (first-passed a b (passed-first a l (sym e ∙ z)))
+pub passing : (a b : List (Test ℕ)) (n m : ℕ) → lacks 0 a ≡ true → n ≡ numberOf a → n ≡ 0 → m ≡ numberOf b → m ≡ numberOf (a ++ b)
+passing a b n m l e z q = q ∙ sym (number-past a b (number-none a l (sym e ∙ z)))
 
 -- two addresses agree in so many bits, by a number that the code computed
 pub agree-by : (a b : List ℕ) (n m : ℕ) (r : Bool) → r ≡ agree n a b → n ≡ m → r ≡ agree m a b
@@ -82,12 +83,12 @@ module _ (e : List ℕ) where
 
 -- 15 of one side, whose family's addresses have w bytes
 
-pub side-long : (f : ℕ) (s : Side) (w : ℕ) → w ≡ width f → 8 * w < s .bits → 15 ≡ first (sideLines f s)
-unfolding first
+pub side-long : (f : ℕ) (s : Side) (w : ℕ) → w ≡ width f → 8 * w < s .bits → 15 ≡ numberOf (sideTests f s)
+unfolding numberOf
 side-long f s w e h = rw (lt-ltb (8 * width f) (s .bits) (omega arith))
 
-pub side-set : (f : ℕ) (s : Side) (w : ℕ) (r b : Bool) → w ≡ width f → s .bits ≤ 8 * w → r ≡ clearPast (s .bits) (s .address) → r ≡ b → cond b 0 15 ≡ first (sideLines f s)
-unfolding first
+pub side-set : (f : ℕ) (s : Side) (w : ℕ) (r b : Bool) → w ≡ width f → s .bits ≤ 8 * w → r ≡ clearPast (s .bits) (s .address) → r ≡ b → cond b 0 15 ≡ numberOf (sideTests f s)
+unfolding numberOf
 side-set f s w r b e h q g = rw (le-ltb (8 * width f) (s .bits) (omega arith), sym q ∙ g) (flip b)
   where
     flip : (b : Bool) → _≡_ {A = ℕ} (cond b 0 15) (cond (not b) 15 0)

@@ -10,11 +10,12 @@ use lib.ListN.{length, getD, take, drop, drop-of-length-le, length-drop, length-
 use lib.Seq.{take-all, take-nil, take-append-add, append-snoc}
 use lib.Dec.{leb}
 use borrow.Author.Tests.{eq-eqb, ne-eqb, le-leb, lt-leb}
+use Rattle.octets.specs.Tests.{Test, test}
 use Rattle.keys.specs.Entry.{knownKind, size, width, idsOf, selectorOf, entryOf, Item, item, itemAt, sound, items, entries}
 use Rattle.keys.specs.EntryLaws.{kind-is, items-at, items-end, sound-inside, entries-next, entries-stop}
 use Rattle.keys.specs.Match.{overlap, share, clash}
-use Rattle.keys.specs.Table.{Line, line, first, entryLines, clashing, itemLines, lines, refusing, judged, loaded, nobody, found}
-use Rattle.keys.specs.LineLaws.{first-passed, item-good}
+use Rattle.keys.specs.Table.{numberOf, entryTests, clashing, itemTests, loadTests, refusing, loadedFrom, loaded, nobody, found}
+use Rattle.keys.specs.FaultLaws.{number-past, item-good}
 use Rattle.keys.proofs.Bytes.{tail, tail-is}
 use Rattle.keys.proofs.Tests.{given, passing}
 use Rattle.keys.specs.declared.entry.Ids.{Ids}
@@ -190,7 +191,7 @@ pub record Walking (t : List ℕ) (limit at i : ℕ) : Type 0 where
   pub counted : i ≤ at
   pub taken : length (take i (entries t)) ≡ i
   pub split : entries t ≡ take i (entries t) ++ entries (drop at t)
-  pub rest : judged limit i (take i (entries t)) (items 0 (drop at t)) ≡ loaded limit t
+  pub rest : loadedFrom limit i (take i (entries t)) (items 0 (drop at t)) ≡ loaded limit t
 
 pub walk-start : (t : List ℕ) (limit : ℕ) → Walking t limit 0 0
 unfolding loaded
@@ -198,32 +199,32 @@ walk-start t limit = record { within = omega arith; counted = omega arith; taken
 
 module _ {t : List ℕ} {limit at i : ℕ} (w : Walking t limit at i) where
   begin : at < length t
-      → refusing (first (lines limit i (take i (entries t)) (itemAt t at))) i
-      (judged limit (i + 1) (take i (entries t) ++ (itemAt t at .entry ∷ [])) (cond (sound (itemAt t at)) (items 0 (drop (at + size (getD t at 0)) t)) []))
+      → refusing (numberOf (loadTests limit i (take i (entries t)) (itemAt t at))) i
+      (loadedFrom limit (i + 1) (take i (entries t) ++ (itemAt t at .entry ∷ [])) (cond (sound (itemAt t at)) (items 0 (drop (at + size (getD t at 0)) t)) []))
       ≡ loaded limit t
-  unfolding judged
-  begin h = sym (ap (judged limit i (take i (entries t))) (items-at t at h)) ∙ w .rest
+  unfolding loadedFrom
+  begin h = sym (ap (loadedFrom limit i (take i (entries t))) (items-at t at h)) ∙ w .rest
 
   pub walk-full : at < length t → i ≡ limit → Refused 12 i ≡ loaded limit t
-  unfolding first
+  unfolding numberOf
   walk-full h e = rw (eq-eqb i limit e) at (begin h)
 
-  pub walk-refused : (n : ℕ) → at < length t → (i ≡ limit → ⊥) → n ≡ first (itemLines (take i (entries t)) (itemAt t at)) → (n ≡ 0 → ⊥) → Refused n i ≡ loaded limit t
-  unfolding first
+  pub walk-refused : (n : ℕ) → at < length t → (i ≡ limit → ⊥) → n ≡ numberOf (itemTests (take i (entries t)) (itemAt t at)) → (n ≡ 0 → ⊥) → Refused n i ≡ loaded limit t
+  unfolding numberOf
   walk-refused n h e q k = refused-by n i _ (loaded limit t) k (rw (ne-eqb i limit e, sym q) at (begin h))
 
-  pub walk-sound : (n : ℕ) → n ≡ first (itemLines (take i (entries t)) (itemAt t at)) → n ≡ 0 → at + size (getD t at 0) ≤ length t
+  pub walk-sound : (n : ℕ) → n ≡ numberOf (itemTests (take i (entries t)) (itemAt t at)) → n ≡ 0 → at + size (getD t at 0) ≤ length t
   walk-sound n q z = sound-inside t at (item-good (take i (entries t)) (itemAt t at) (sym q ∙ z))
 
   -- the entry that begins here is one more of those taken
-  pub walk-more : (n : ℕ) → n ≡ first (itemLines (take i (entries t)) (itemAt t at)) → n ≡ 0 → take (i + 1) (entries t) ≡ take i (entries t) ++ (itemAt t at .entry ∷ [])
+  pub walk-more : (n : ℕ) → n ≡ numberOf (itemTests (take i (entries t)) (itemAt t at)) → n ≡ 0 → take (i + 1) (entries t) ≡ take i (entries t) ++ (itemAt t at .entry ∷ [])
   walk-more n q z =
       let b = take i (entries t) in
       let x = itemAt t at in
       taken-more (entries t) b (entries (drop (at + size (getD t at 0)) t)) (x .entry) i (w .taken) (w .split ∙ ap (λ (m : List Entry). b ++ m) (entries-next t at (item-good b x (sym q ∙ z))))
 
-  pub walk-next : (n s : ℕ) → at < length t → (i ≡ limit → ⊥) → n ≡ first (itemLines (take i (entries t)) (itemAt t at)) → n ≡ 0 → s ≡ size (getD t at 0) → Walking t limit (at + s) (i + 1)
-  unfolding first
+  pub walk-next : (n s : ℕ) → at < length t → (i ≡ limit → ⊥) → n ≡ numberOf (itemTests (take i (entries t)) (itemAt t at)) → n ≡ 0 → s ≡ size (getD t at 0) → Walking t limit (at + s) (i + 1)
+  unfolding numberOf
   walk-next n s h e q z y =
       let b = take i (entries t) in
       let x = itemAt t at in
@@ -239,62 +240,62 @@ module _ {t : List ℕ} {limit at i : ℕ} (w : Walking t limit at i) where
         taken = ap length d ∙ length-append b (x .entry ∷ []) ∙ ap (λ (m : ℕ). m + 1) (w .taken);
         split = c ∙ sym (append-snoc b (x .entry) (entries (drop (at + s) t))) ∙ ap (λ (m : List Entry). m ++ entries (drop (at + s) t)) (sym d);
         rest =
-            (λ m. judged limit (i + 1) (d m) (cond (sym g m) (items 0 (sym v m)) []))
-            ∙ passed-by (first (itemLines b x)) i _ (loaded limit t) (sym q ∙ z) (rw (ne-eqb i limit e) at (begin h));
+            (λ m. loadedFrom limit (i + 1) (d m) (cond (sym g m) (items 0 (sym v m)) []))
+            ∙ passed-by (numberOf (itemTests b x)) i _ (loaded limit t) (sym q ∙ z) (rw (ne-eqb i limit e) at (begin h));
       }
 
   pub walk-done : length t ≤ at → Valid i ≡ loaded limit t
-  unfolding judged
-  walk-done h = sym (ap (judged limit i (take i (entries t))) (items-end t at h)) ∙ w .rest
+  unfolding loadedFrom
+  walk-done h = sym (ap (loadedFrom limit i (take i (entries t))) (items-end t at h)) ∙ w .rest
 
--- the lines of one item
+-- the tests of one item
 
 module _ (before : List Entry) (x : Item) where
-  abbrev begins : List Line
-  begins = line 11 (not (x .kind-known)) ∷ line 10 (not (x .whole)) ∷ []
+  abbrev begins : List (Test ℕ)
+  begins = test 11 (not (x .kind-known)) ∷ test 10 (not (x .whole)) ∷ []
 
-  abbrev goes-on : List Line
-  goes-on = entryLines (x .entry) ++ (line 17 (clashing (x .entry) before) ∷ [])
+  abbrev goes-on : List (Test ℕ)
+  goes-on = entryTests (x .entry) ++ (test 17 (clashing (x .entry) before) ∷ [])
 
-  line-unknown : x .kind-known ≡ false → 11 ≡ first (itemLines before x)
-  unfolding first
-  line-unknown h = rw h
+  item-unknown : x .kind-known ≡ false → 11 ≡ numberOf (itemTests before x)
+  unfolding numberOf
+  item-unknown h = rw h
 
-  line-cut : x .kind-known ≡ true → x .whole ≡ false → 10 ≡ first (itemLines before x)
-  unfolding first
-  line-cut h w = rw (h, w)
+  item-cut : x .kind-known ≡ true → x .whole ≡ false → 10 ≡ numberOf (itemTests before x)
+  unfolding numberOf
+  item-cut h w = rw (h, w)
 
-  past-begin : x .kind-known ≡ true → x .whole ≡ true → first goes-on ≡ first (itemLines before x)
-  past-begin h w = sym (first-passed begins goes-on (ap not h, (ap not w, tt)))
+  past-begin : x .kind-known ≡ true → x .whole ≡ true → numberOf goes-on ≡ numberOf (itemTests before x)
+  past-begin h w = sym (number-past begins goes-on (ap not h, (ap not w, tt)))
 
-  line-wrong : (e : Entry) (n : ℕ) → x .kind-known ≡ true → x .whole ≡ true → e ≡ x .entry → n ≡ first (entryLines e) → (n ≡ 0 → ⊥) → n ≡ first (itemLines before x)
-  line-wrong e n h w q f k =
-      given (entryLines (x .entry)) (line 17 (clashing (x .entry) before) ∷ []) n (f ∙ ap (λ (y : Entry). first (entryLines y)) q) k ∙ past-begin h w
+  item-wrong : (e : Entry) (n : ℕ) → x .kind-known ≡ true → x .whole ≡ true → e ≡ x .entry → n ≡ numberOf (entryTests e) → (n ≡ 0 → ⊥) → n ≡ numberOf (itemTests before x)
+  item-wrong e n h w q f k =
+      given (entryTests (x .entry)) (test 17 (clashing (x .entry) before) ∷ []) n (f ∙ ap (λ (y : Entry). numberOf (entryTests y)) q) k ∙ past-begin h w
 
-  line-last : (e : Entry) (n : ℕ) (r b : Bool) → x .kind-known ≡ true → x .whole ≡ true → e ≡ x .entry → n ≡ first (entryLines e) → n ≡ 0
-      → r ≡ clashing e before → r ≡ b → cond b 17 0 ≡ first (itemLines before x)
-  unfolding first
-  line-last e n r b h w q f z c d =
-      passing (entryLines (x .entry)) (line 17 (clashing (x .entry) before) ∷ []) n (cond b 17 0) refl (f ∙ ap (λ (y : Entry). first (entryLines y)) q) z
+  item-last : (e : Entry) (n : ℕ) (r b : Bool) → x .kind-known ≡ true → x .whole ≡ true → e ≡ x .entry → n ≡ numberOf (entryTests e) → n ≡ 0
+      → r ≡ clashing e before → r ≡ b → cond b 17 0 ≡ numberOf (itemTests before x)
+  unfolding numberOf
+  item-last e n r b h w q f z c d =
+      passing (entryTests (x .entry)) (test 17 (clashing (x .entry) before) ∷ []) n (cond b 17 0) refl (f ∙ ap (λ (y : Entry). numberOf (entryTests y)) q) z
       (ap (λ (y : Bool). cond y 17 0) (sym d ∙ c ∙ ap (λ (y : Entry). clashing y before) q))
       ∙ past-begin h w
 
 module _ (t : List ℕ) (at : ℕ) (before : List Entry) where
-  pub number-unknown : (r : Bool) → r ≡ knownKind (getD t at 0) → r ≡ false → 11 ≡ first (itemLines before (itemAt t at))
-  number-unknown r e h = line-unknown before (itemAt t at) (known-is t at r false e h)
+  pub number-unknown : (r : Bool) → r ≡ knownKind (getD t at 0) → r ≡ false → 11 ≡ numberOf (itemTests before (itemAt t at))
+  number-unknown r e h = item-unknown before (itemAt t at) (known-is t at r false e h)
 
-  pub number-cut : (r : Bool) (n : ℕ) → r ≡ knownKind (getD t at 0) → r ≡ true → n ≡ size (getD t at 0) → at < length t → length t - at < n → 10 ≡ first (itemLines before (itemAt t at))
-  number-cut r n e h q k l = line-cut before (itemAt t at) (known-is t at r true e h) (sym (whole-is t at n q (omega arith)) ∙ lt-leb n (length t - at) l)
+  pub number-cut : (r : Bool) (n : ℕ) → r ≡ knownKind (getD t at 0) → r ≡ true → n ≡ size (getD t at 0) → at < length t → length t - at < n → 10 ≡ numberOf (itemTests before (itemAt t at))
+  number-cut r n e h q k l = item-cut before (itemAt t at) (known-is t at r true e h) (sym (whole-is t at n q (omega arith)) ∙ lt-leb n (length t - at) l)
 
 -- an entry e that is there whole, of a known kind
 
 module _ (t : List ℕ) (at : ℕ) (before : List Entry) (k : Bool) (s : ℕ) (e : Entry)
-    (ke : k ≡ knownKind (getD t at 0)) (kt : k ≡ true) (se : s ≡ size (getD t at 0)) (i : at < length t) (w : s ≤ length t - at) (ee : e ≡ entryOf (tail t at)) (n : ℕ) (ne : n ≡ first (entryLines e)) where
+    (ke : k ≡ knownKind (getD t at 0)) (kt : k ≡ true) (se : s ≡ size (getD t at 0)) (i : at < length t) (w : s ≤ length t - at) (ee : e ≡ entryOf (tail t at)) (n : ℕ) (ne : n ≡ numberOf (entryTests e)) where
   there-whole : itemAt t at .whole ≡ true
   there-whole = sym (whole-is t at s se (omega arith)) ∙ le-leb s (length t - at) w
 
-  pub number-wrong : (n ≡ 0 → ⊥) → n ≡ first (itemLines before (itemAt t at))
-  number-wrong z = line-wrong before (itemAt t at) e n (known-is t at k true ke kt) there-whole (entry-at t at e ee) ne z
+  pub number-wrong : (n ≡ 0 → ⊥) → n ≡ numberOf (itemTests before (itemAt t at))
+  number-wrong z = item-wrong before (itemAt t at) e n (known-is t at k true ke kt) there-whole (entry-at t at e ee) ne z
 
-  pub number-last : (r b : Bool) → n ≡ 0 → r ≡ clashing e before → r ≡ b → cond b 17 0 ≡ first (itemLines before (itemAt t at))
-  number-last r b z c d = line-last before (itemAt t at) e n r b (known-is t at k true ke kt) there-whole (entry-at t at e ee) ne z c d
+  pub number-last : (r b : Bool) → n ≡ 0 → r ≡ clashing e before → r ≡ b → cond b 17 0 ≡ numberOf (itemTests before (itemAt t at))
+  number-last r b z c d = item-last before (itemAt t at) e n r b (known-is t at k true ke kt) there-whole (entry-at t at e ee) ne z c d

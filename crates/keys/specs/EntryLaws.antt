@@ -10,9 +10,10 @@ use lib.ListN.{length, getD, take, drop, replicate, length-append, length-take, 
 use lib.Seq.{drop-nil, drop-drop, getD-drop}
 use lib.Dec.{leb, eqb}
 use borrow.Author.Tests.{eqb-true, leb-true, leb-false}
+use Rattle.octets.specs.Each.{Each, Octets}
 use Rattle.keys.specs.Algorithm.{macBytes}
 use Rattle.keys.specs.Entry.{knownKind, familyOf, body, size, width, sideOf, selectorOf, secretOf, entryOf, Item, item, itemAt, sound, items, entriesOf, entries}
-use Rattle.keys.specs.MatchLaws.{or-true, and-true, Octets, Family, SideFields, Fields}
+use Rattle.keys.specs.MatchLaws.{or-true, and-true, Family, SideFields, Fields}
 use Rattle.keys.specs.declared.entry.Entry.{Entry}
 
 -- sizes
@@ -148,10 +149,6 @@ entry-fields s o h =
       remote = side-fields w 9 (14 + w) s (width-le (getD s 0 0)) o;
     }
 
-abbrev pub Each : (Entry → Type 0) → List Entry → Type 0
-Each P [] = Unit {0}
-Each P (e ∷ l) = P e × Each P l
-
 -- what holds of each entry's own bytes holds of the table's entries
 module _ (Q : List ℕ → Type 0) (P : Entry → Type 0) (tail : (b : ℕ) (t : List ℕ) → Q (b ∷ t) → Q t) (of : (s : List ℕ) → Q s → sound (item s) ≡ true → P (entryOf s)) where
   each-item : (n : ℕ) (t : List ℕ) → Q t → Each P (entriesOf (items n t))
@@ -167,5 +164,5 @@ module _ (Q : List ℕ → Type 0) (P : Entry → Type 0) (tail : (b : ℕ) (t :
 pub entries-shape : (t : List ℕ) → Each Shape (entries t)
 entries-shape t = each-item (λ s. Unit {0}) Shape (λ b s q. tt) (λ s q h. entry-shape s h) 0 t tt
 
-pub entries-fields : (t : List ℕ) → Octets t → Each (λ e. Fields (e .selector)) (entries t)
+pub entries-fields : (t : List ℕ) → Octets t → Each (λ (e : Entry). Fields (e .selector)) (entries t)
 entries-fields t o = each-item Octets (λ e. Fields (e .selector)) (λ b s q i. q (suc i)) entry-fields 0 t o

@@ -4,7 +4,7 @@ pub mod EntryLaws
 pub mod Match
 pub mod MatchLaws
 pub mod Table
-pub mod LineLaws
+pub mod FaultLaws
 pub mod PlaceLaws
 pub mod LoadLaws
 pub mod SearchLaws

@@ -11,78 +11,81 @@ use lib.ListN.{length}
 use lib.Seq.{append-snoc}
 use lib.Dec.{eqb, ltb}
 use borrow.Author.Tests.{ne-eqb, eqb-false, ltb-true, ltb-false, not-false}
+use Rattle.octets.specs.Each.{Each, Octets}
 use Rattle.keys.specs.Entry.{Item, sound, items, entriesOf, entries}
-use Rattle.keys.specs.EntryLaws.{Each, entries-fields}
-use Rattle.keys.specs.MatchLaws.{and-true, Octets, Fields, Conflict, clash-conflict, conflict-clash}
-use Rattle.keys.specs.Table.{Line, line, first, clashing, ownLines, lines, judged, loaded}
+use Rattle.octets.specs.Tests.{Test, test}
+use Rattle.octets.specs.TestLaws.{NoneApplies, none-split}
+use Rattle.keys.specs.EntryLaws.{entries-fields}
+use Rattle.keys.specs.MatchLaws.{and-true, Fields, Conflict, clash-conflict, conflict-clash}
+use Rattle.keys.specs.Table.{numberOf, clashing, ownTests, loadTests, loadedFrom, loaded}
 use Rattle.keys.specs.declared.entry.Entry.{Entry}
 use Rattle.keys.specs.declared.table.Loaded.the-variants.{Valid, Refused}
-use Rattle.keys.specs.LineLaws.{Passed, passed-first, last-first, first-last, passed-split, Formed}
+use Rattle.keys.specs.FaultLaws.{number-none, last-given, given-last, Formed}
 use Rattle.keys.specs.PlaceLaws.{At, each-at, at-seam, at-left, at-below, Apart, Clear, NoConflict, clear-apart, apart-clear, clashing-in, in-clashing, apart-no-conflict, no-conflict-apart}
 
 -- the walk
 
--- the lines before 17
-abbrev frontLines : ℕ → ℕ → Item → List Line
-frontLines limit i x = line 12 (eqb i limit) ∷ ownLines x
+-- the tests before 17
+abbrev frontTests : ℕ → ℕ → Item → List (Test ℕ)
+frontTests limit i x = test 12 (eqb i limit) ∷ ownTests x
 
--- every line is passed, to the end
+-- no test applies, to the end
 abbrev Good : ℕ → ℕ → List Entry → List Item → Type 0
 Good limit i before [] = Unit {0}
-Good limit i before (x ∷ l) = Passed (frontLines limit i x) × (clashing (x .entry) before ≡ false) × Good limit (i + 1) (before ++ (x .entry ∷ [])) l
+Good limit i before (x ∷ l) = NoneApplies (frontTests limit i x) × (clashing (x .entry) before ≡ false) × Good limit (i + 1) (before ++ (x .entry ∷ [])) l
 
--- every line is passed up to a 17 at k
+-- no test applies up to a 17 at k
 data Stops (limit : ℕ) : ℕ → List Entry → List Item → ℕ → Type 0 where
-  stop : {i : ℕ} {before : List Entry} {x : Item} {l : List Item} → Passed (frontLines limit i x) → clashing (x .entry) before ≡ true → Stops limit i before (x ∷ l) i
-  go-on : {i k : ℕ} {before : List Entry} {x : Item} {l : List Item} → Passed (frontLines limit i x) → clashing (x .entry) before ≡ false
+  stop : {i : ℕ} {before : List Entry} {x : Item} {l : List Item} → NoneApplies (frontTests limit i x) → clashing (x .entry) before ≡ true → Stops limit i before (x ∷ l) i
+  go-on : {i k : ℕ} {before : List Entry} {x : Item} {l : List Item} → NoneApplies (frontTests limit i x) → clashing (x .entry) before ≡ false
       → Stops limit (i + 1) (before ++ (x .entry ∷ [])) l k → Stops limit i before (x ∷ l) k
 
 module _ (limit : ℕ) where
-  good-step : (i : ℕ) (before : List Entry) (x : Item) → Passed (frontLines limit i x) → clashing (x .entry) before ≡ false → first (lines limit i before x) ≡ 0
-  good-step i before x p c = first-last 17 (clashing (x .entry) before) (frontLines limit i x) p ∙ ap (λ (b : Bool). cond b 17 0) c
+  good-step : (i : ℕ) (before : List Entry) (x : Item) → NoneApplies (frontTests limit i x) → clashing (x .entry) before ≡ false → numberOf (loadTests limit i before x) ≡ 0
+  good-step i before x p c = given-last 17 (clashing (x .entry) before) (frontTests limit i x) p ∙ ap (λ (b : Bool). cond b 17 0) c
 
-  stop-step : (i : ℕ) (before : List Entry) (x : Item) → Passed (frontLines limit i x) → clashing (x .entry) before ≡ true → first (lines limit i before x) ≡ 17
-  stop-step i before x p c = first-last 17 (clashing (x .entry) before) (frontLines limit i x) p ∙ ap (λ (b : Bool). cond b 17 0) c
+  stop-step : (i : ℕ) (before : List Entry) (x : Item) → NoneApplies (frontTests limit i x) → clashing (x .entry) before ≡ true → numberOf (loadTests limit i before x) ≡ 17
+  stop-step i before x p c = given-last 17 (clashing (x .entry) before) (frontTests limit i x) p ∙ ap (λ (b : Bool). cond b 17 0) c
 
-  step-good : (i : ℕ) (before : List Entry) (x : Item) → first (lines limit i before x) ≡ 0 → Passed (frontLines limit i x) × (clashing (x .entry) before ≡ false)
-  step-good i before x e = let p = passed-split (frontLines limit i x) (line 17 (clashing (x .entry) before) ∷ []) (passed-first (lines limit i before x) refl e) in (p .0, p .1 .0)
+  step-good : (i : ℕ) (before : List Entry) (x : Item) → numberOf (loadTests limit i before x) ≡ 0 → NoneApplies (frontTests limit i x) × (clashing (x .entry) before ≡ false)
+  step-good i before x e = let p = none-split (frontTests limit i x) (test 17 (clashing (x .entry) before) ∷ []) (number-none (loadTests limit i before x) refl e) in (p .0, p .1 .0)
 
-  judged-good : (l : List Item) (i n : ℕ) (before : List Entry) → judged limit i before l ≡ Valid n → Good limit i before l × (i + length l ≡ n)
-  unfolding judged
-  judged-good [] i n before e = (tt, let z : i ≡ n = cc in omega arith)
-  judged-good (x ∷ l) i n before e = go (first (lines limit i before x)) refl (λ k. judged-good l (i + 1) n (before ++ (x .entry ∷ [])) k)
+  from-good : (l : List Item) (i n : ℕ) (before : List Entry) → loadedFrom limit i before l ≡ Valid n → Good limit i before l × (i + length l ≡ n)
+  unfolding loadedFrom
+  from-good [] i n before e = (tt, let z : i ≡ n = cc in omega arith)
+  from-good (x ∷ l) i n before e = go (numberOf (loadTests limit i before x)) refl (λ k. from-good l (i + 1) n (before ++ (x .entry ∷ [])) k)
     where
-      go : (m : ℕ) → first (lines limit i before x) ≡ m
-          → (judged limit (i + 1) (before ++ (x .entry ∷ [])) l ≡ Valid n → Good limit (i + 1) (before ++ (x .entry ∷ [])) l × (i + 1 + length l ≡ n))
+      go : (m : ℕ) → numberOf (loadTests limit i before x) ≡ m
+          → (loadedFrom limit (i + 1) (before ++ (x .entry ∷ [])) l ≡ Valid n → Good limit (i + 1) (before ++ (x .entry ∷ [])) l × (i + 1 + length l ≡ n))
           → Good limit i before (x ∷ l) × (i + suc (length l) ≡ n)
       go zero q ih = let r = ih (rw q at e) in let s = step-good i before x q in ((s .0, s .1, r .0), omega arith)
       go (suc m) q ih = let z : _≡_ {A = ℕ} 0 1 = cc (rw q at e) in absurd (omega arith)
 
-  good-judged : (l : List Item) (i : ℕ) (before : List Entry) → Good limit i before l → judged limit i before l ≡ Valid (i + length l)
-  unfolding judged
-  good-judged [] i before g = ap Valid (sym (add-zero i))
-  good-judged (x ∷ l) i before g =
-      rw (good-step i before x (g .0) (g .1)) (good-judged l (i + 1) (before ++ (x .entry ∷ [])) (g .2) ∙ ap Valid (let e : i + 1 + length l ≡ i + suc (length l) = omega arith in e))
+  good-from : (l : List Item) (i : ℕ) (before : List Entry) → Good limit i before l → loadedFrom limit i before l ≡ Valid (i + length l)
+  unfolding loadedFrom
+  good-from [] i before g = ap Valid (sym (add-zero i))
+  good-from (x ∷ l) i before g =
+      rw (good-step i before x (g .0) (g .1)) (good-from l (i + 1) (before ++ (x .entry ∷ [])) (g .2) ∙ ap Valid (let e : i + 1 + length l ≡ i + suc (length l) = omega arith in e))
 
-  judged-stops : (l : List Item) (i k : ℕ) (before : List Entry) → judged limit i before l ≡ Refused 17 k → Stops limit i before l k
-  unfolding judged
-  judged-stops [] i k before e = let z : _≡_ {A = ℕ} 0 1 = cc in absurd (omega arith)
-  judged-stops (x ∷ l) i k before e = go (first (lines limit i before x)) refl (λ h. judged-stops l (i + 1) k (before ++ (x .entry ∷ [])) h)
+  from-stops : (l : List Item) (i k : ℕ) (before : List Entry) → loadedFrom limit i before l ≡ Refused 17 k → Stops limit i before l k
+  unfolding loadedFrom
+  from-stops [] i k before e = let z : _≡_ {A = ℕ} 0 1 = cc in absurd (omega arith)
+  from-stops (x ∷ l) i k before e = go (numberOf (loadTests limit i before x)) refl (λ h. from-stops l (i + 1) k (before ++ (x .entry ∷ [])) h)
     where
-      go : (m : ℕ) → first (lines limit i before x) ≡ m
-          → (judged limit (i + 1) (before ++ (x .entry ∷ [])) l ≡ Refused 17 k → Stops limit (i + 1) (before ++ (x .entry ∷ [])) l k) → Stops limit i before (x ∷ l) k
+      go : (m : ℕ) → numberOf (loadTests limit i before x) ≡ m
+          → (loadedFrom limit (i + 1) (before ++ (x .entry ∷ [])) l ≡ Refused 17 k → Stops limit (i + 1) (before ++ (x .entry ∷ [])) l k) → Stops limit i before (x ∷ l) k
       go zero q ih = let s = step-good i before x q in go-on (s .0) (s .1) (ih (rw q at e))
       go (suc m) q ih =
           let f : Refused (suc m) i ≡ Refused 17 k = rw q at e in
           let a : suc m ≡ 17 = cc in
           let b : i ≡ k = cc in
-          let r = last-first 17 (clashing (x .entry) before) (frontLines limit i x) refl (λ z. omega arith) (q ∙ a) in
+          let r = last-given 17 (clashing (x .entry) before) (frontTests limit i x) refl (λ z. omega arith) (q ∙ a) in
           subst (Stops limit i before (x ∷ l)) b (stop (r .0) (r .1))
 
-  stops-judged : {l : List Item} {i k : ℕ} {before : List Entry} → Stops limit i before l k → judged limit i before l ≡ Refused 17 k
-  unfolding judged
-  stops-judged (stop {i} {before} {x} p c) = rw (stop-step i before x p c)
-  stops-judged (go-on {i} {k} {before} {x} p c s) = rw (good-step i before x p c) (stops-judged s)
+  stops-from : {l : List Item} {i k : ℕ} {before : List Entry} → Stops limit i before l k → loadedFrom limit i before l ≡ Refused 17 k
+  unfolding loadedFrom
+  stops-from (stop {i} {before} {x} p c) = rw (stop-step i before x p c)
+  stops-from (go-on {i} {k} {before} {x} p c s) = rw (good-step i before x p c) (stops-from s)
 
 -- what a walk says of the entries
 
@@ -95,19 +98,19 @@ unfolding entriesOf
 sound-length [] s = refl
 sound-length (x ∷ l) s = rw (s .0) (ap suc (sound-length l (s .1)))
 
--- the lines before 17, at an item
+-- the tests before 17, at an item
 module _ (limit i : ℕ) (x : Item) where
-  front-sound : Passed (frontLines limit i x) → sound x ≡ true
+  front-sound : NoneApplies (frontTests limit i x) → sound x ≡ true
   front-sound p = rw (not-false (x .kind-known) (p .1 .0), not-false (x .whole) (p .1 .1 .0))
 
-  front-few : Passed (frontLines limit i x) → i ≤ limit → i < limit
+  front-few : NoneApplies (frontTests limit i x) → i ≤ limit → i < limit
   front-few p h = let n = eqb-false i limit (p .0) in go (ltb i limit) refl n
     where
       go : (b : Bool) → ltb i limit ≡ b → (i ≡ limit → ⊥) → i < limit
       go true q n = ltb-true i limit q
       go false q n = let k = ltb-false i limit q in absurd (n (omega arith))
 
-  front-of : sound x ≡ true → i < limit → Formed (x .entry) → Passed (frontLines limit i x)
+  front-of : sound x ≡ true → i < limit → Formed (x .entry) → NoneApplies (frontTests limit i x)
   front-of s h f =
       let k = and-true (x .kind-known) (x .whole) s in
       (ne-eqb i limit (λ e. omega arith), (ap not (k .0), (ap not (k .1), f)))
@@ -230,7 +233,7 @@ pub record WellFormed (limit : ℕ) (t : List ℕ) : Type 0 where
 pub valid-formed : (limit n : ℕ) (t : List ℕ) → loaded limit t ≡ Valid n → WellFormed limit t × (length (entries t) ≡ n) × Apart (entries t)
 unfolding loaded
 valid-formed limit n t e =
-    let g = judged-good limit (items 0 t) 0 n [] e in
+    let g = from-good limit (items 0 t) 0 n [] e in
     let p = good-parts limit (items 0 t) 0 [] (g .0) (omega arith) in
     let l = sound-length (items 0 t) (p .0) in
     let m = p .3 in
@@ -242,7 +245,7 @@ unfolding loaded
 formed-valid limit t w a =
     let l = sound-length (items 0 t) (w .sound) in
     let h = w .few in
-    good-judged limit (items 0 t) 0 [] (parts-good limit (items 0 t) 0 [] (w .sound) (w .formed) (apart-clear [] (entries t) a) (omega arith))
+    good-from limit (items 0 t) 0 [] (parts-good limit (items 0 t) 0 [] (w .sound) (w .formed) (apart-clear [] (entries t) a) (omega arith))
     ∙ ap Valid (let e : 0 + length (items 0 t) ≡ length (entries t) = omega arith in e)
 
 -- 17 at the entry i: it and those before it are well formed, none of those before it are in conflict, and one of them is in conflict with it
@@ -274,7 +277,7 @@ fields-split t a b e o q = each-split FieldsOf a b e (subst (Each FieldsOf) q (e
 pub refused-clash : (limit i : ℕ) (t : List ℕ) → Octets t → loaded limit t ≡ Refused 17 i → ClashAt limit t i
 unfolding loaded
 refused-clash limit i t o e =
-    let p = stops-parts limit (judged-stops limit (items 0 t) 0 i [] e) (omega arith) in
+    let p = stops-parts limit (from-stops limit (items 0 t) 0 i [] e) (omega arith) in
     let h = clashing-in (p .entry) (p .before) (p .hit) in
     let f = fields-split t (p .before) (p .after) (p .entry) o (p .split) in
     let n = p .index in
@@ -300,7 +303,7 @@ clash-refused limit i t o c =
     let f = fields-split t (c .before) (c .after) (c .entry) o (c .split) in
     let n = c .index in
     let h = c .few in
-    stops-judged limit
+    stops-from limit
     (parts-stops limit (items 0 t) (c .before) (c .entry) (c .after) 0 [] (c .split) (omega arith) (c .formed) (c .itself)
     (apart-clear [] (c .before) (no-conflict-apart (c .before) (f .0) (c .apart)))
     (in-clashing (c .entry) (c .at-place) (conflict-clash (c .other) (c .entry) (c .conflict))))
@@ -339,7 +342,7 @@ unfolding loaded
 conflicting-refused limit t w c =
     let l = sound-length (items 0 t) (w .sound) in
     let h = w .few in
-    ⊎-elim (λ g. absurd (none g)) (λ s. (s .0, stops-judged limit (s .1))) (good-or-stops limit (items 0 t) 0 [] (w .sound) (w .formed) (omega arith))
+    ⊎-elim (λ g. absurd (none g)) (λ s. (s .0, stops-from limit (s .1))) (good-or-stops limit (items 0 t) 0 [] (w .sound) (w .formed) (omega arith))
   where
     none : Good limit 0 [] (items 0 t) → ⊥
     none g =

@@ -9,6 +9,7 @@ use native.Mathlib.Omega.{arith}
 use lib.ListN.{length, getD}
 use lib.Dec.{leb, eqb}
 use borrow.Author.Tests.{eq-eqb, eqb-true, le-leb, leb-true, leb-false}
+use Rattle.octets.specs.Each.{Octets}
 use Rattle.wire.specs.Prefix.{agree}
 use Rattle.wire.specs.PrefixLaws.{agree-refl, agree-sym, agree-meet}
 use Rattle.keys.specs.Entry.{width}
@@ -41,11 +42,6 @@ or-true false b e = inr e
 pub and-true : (a b : Bool) → (a && b) ≡ true → (a ≡ true) × (b ≡ true)
 and-true true b e = (refl, e)
 and-true false b e = let z : _≡_ {A = ℕ} 0 1 = cc in absurd (omega arith)
-
--- bytes
-
-abbrev pub Octets : List ℕ → Type 0
-Octets s = (i : ℕ) → getD s i 0 < 256
 
 abbrev pub Family : ℕ → Type 0
 Family f = (f ≡ 4) ⊎ (f ≡ 6)

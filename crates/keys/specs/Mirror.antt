@@ -6,22 +6,11 @@ use Rattle.keys.specs.Match.{matches}
 use Rattle.keys.specs.declared.entry.Entry.{Entry}
 use Rattle.keys.specs.declared.entry.Pair.{Pair}
 
--- the same socket pair as the other end holds it
-abbrev pub exchanged : Pair → Pair
-exchanged p =
-    record {
-      family = p .family;
-      «local_port» = p .«remote_port»;
-      «remote_port» = p .«local_port»;
-      local = p .remote;
-      remote = p .local;
-    }
-
--- of the connection whose pair is p at e's end
-pub record Mirror (p : Pair) (e f : Entry) : Type 0 where
+-- of the connection whose pair e's end holds as p, and f's end as q
+pub record Mirror (p q : Pair) (e f : Entry) : Type 0 where
   -- "each matches the pair as its own end holds it"
   pub here : matches (e .selector) p ≡ true
-  pub there : matches (f .selector) (exchanged p) ≡ true
+  pub there : matches (f .selector) q ≡ true
   -- "SendID and RecvID are exchanged"
   pub sent : e .ids .send ≡ f .ids .recv
   pub received : e .ids .recv ≡ f .ids .send

@@ -7,7 +7,7 @@ use mathlib.Core.List.{List, [], _∷_, _++_, append-nil}
 use native.Mathlib.Omega.{arith}
 use lib.ListN.{length}
 use lib.Seq.{append-snoc}
-use Rattle.keys.specs.EntryLaws.{Each}
+use Rattle.octets.specs.Each.{Each}
 use Rattle.keys.specs.Match.{clash}
 use Rattle.keys.specs.MatchLaws.{Fields, Conflict, clash-conflict, conflict-clash}
 use Rattle.keys.specs.Table.{clashing}
@@ -42,7 +42,7 @@ at-below (there a) = let h = at-below a in omega arith
 -- no entry clashes with one before it
 
 abbrev pub Before : Entry → List Entry → Type 0
-Before f l = Each (λ e. clash f e ≡ false) l
+Before f l = Each (λ (e : Entry). clash f e ≡ false) l
 
 abbrev pub Apart : List Entry → Type 0
 Apart [] = Unit {0}
@@ -114,7 +114,7 @@ NoConflict l = (j k : ℕ) (e f : Entry) → At l j e → At l k f → j < k →
 pub apart-no-conflict : (l : List Entry) → Apart l → NoConflict l
 apart-no-conflict l a j k e f p q h c = let z : _≡_ {A = ℕ} 0 1 = cc (conflict-clash e f c, apart-at a p q h) in omega arith
 
-before-of : (e : Entry) (l : List Entry) → Fields (e .selector) → Each (λ f. Fields (f .selector)) l → ((k : ℕ) (f : Entry) → At l k f → Conflict e f → ⊥) → Before e l
+before-of : (e : Entry) (l : List Entry) → Fields (e .selector) → Each (λ (f : Entry). Fields (f .selector)) l → ((k : ℕ) (f : Entry) → At l k f → Conflict e f → ⊥) → Before e l
 before-of e [] fe fl n = tt
 before-of e (f ∷ l) fe fl n = (go (clash e f) refl, before-of e l fe (fl .1) (λ k g a. n (suc k) g (there a)))
   where
@@ -122,7 +122,7 @@ before-of e (f ∷ l) fe fl n = (go (clash e f) refl, before-of e l fe (fl .1) (
     go true q = absurd (n 0 f here (clash-conflict e f fe (fl .0) q))
     go false q = q
 
-pub no-conflict-apart : (l : List Entry) → Each (λ f. Fields (f .selector)) l → NoConflict l → Apart l
+pub no-conflict-apart : (l : List Entry) → Each (λ (f : Entry). Fields (f .selector)) l → NoConflict l → Apart l
 no-conflict-apart [] fl n = tt
 no-conflict-apart (e ∷ l) fl n =
     (before-of e l (fl .0) (fl .1) (λ k f a. n 0 (suc k) e f here (there a) (omega arith)), no-conflict-apart l (fl .1) (λ j k f g a b h. n (suc j) (suc k) f g (there a) (there b) (omega arith)))

@@ -17,7 +17,7 @@ use Rattle.keys.specs.EntryLaws.{Shape, entries-shape}
 use Rattle.keys.specs.Match.{matches, clash}
 use Rattle.keys.specs.MatchLaws.{and-true, Family, clash-of}
 use Rattle.keys.specs.Table.{zeros, ValidTable, nobody, found, anyOf, hasId, answers, sendEntry, recvEntry, anyEntry, maxEntries}
-use Rattle.keys.specs.LineLaws.{Formed}
+use Rattle.keys.specs.FaultLaws.{Formed}
 use Rattle.keys.specs.PlaceLaws.{At, here, there, each-at, Apart, apart-at}
 use Rattle.keys.specs.LoadLaws.{valid-formed}
 use Rattle.keys.specs.declared.entry.Ids.{Ids}

@@ -6,6 +6,7 @@ use mathlib.Core.Path.{_≡_}
 use mathlib.Core.List.{List, [], _∷_, _++_}
 use lib.ListN.{drop, replicate}
 use lib.Dec.{ltb, eqb}
+use Rattle.octets.specs.Tests.{Test, test, first}
 use Rattle.wire.specs.Prefix.{clearPast}
 use Rattle.keys.specs.Entry.{width, Item, items, entries}
 use Rattle.keys.specs.Match.{matches, clash}
@@ -21,47 +22,38 @@ use Rattle.keys.specs.declared.table.By.{By}
 use Rattle.keys.specs.declared.table.By.the-variants.{Any, Send, Recv}
 use Rattle.keys.specs.declared.table.Found.{Found}
 
--- a line of the table of numbers: the number is given if the test applies, and no line before it does
-pub record Line : Type 0 where
-  pub number : ℕ
-  pub applies : Bool
-
-abbrev pub line : ℕ → Bool → Line
-line n b = record { number = n; applies = b }
-
 -- "The first that applies, in this order, is given"; 0 if none does
-unfoldable pub first : List Line → ℕ
-first [] = 0
-first (x ∷ l) = cond (x .applies) (x .number) (first l)
+unfoldable pub numberOf : List (Test ℕ) → ℕ
+numberOf l = first l 0
 
 -- 13: "flags or algorithm not listed"
-abbrev pub secretLines : Secret → List Line
-secretLines s = line 13 (ltb 1 (s .flags)) ∷ line 13 (ltb (s .algorithm) 1) ∷ line 13 (ltb 2 (s .algorithm)) ∷ []
+abbrev pub secretTests : Secret → List (Test ℕ)
+secretTests s = test 13 (ltb 1 (s .flags)) ∷ test 13 (ltb (s .algorithm) 1) ∷ test 13 (ltb 2 (s .algorithm)) ∷ []
 
 -- 14: "low port above high"
-abbrev pub portLines : Selector → List Line
-portLines s = line 14 (ltb (s .local .high) (s .local .low)) ∷ line 14 (ltb (s .remote .high) (s .remote .low)) ∷ []
+abbrev pub portRangeTests : Selector → List (Test ℕ)
+portRangeTests s = test 14 (ltb (s .local .high) (s .local .low)) ∷ test 14 (ltb (s .remote .high) (s .remote .low)) ∷ []
 
 -- 15: "prefix above 32 or 128, or address bits set past it"
-abbrev pub sideLines : ℕ → Side → List Line
-sideLines f s = line 15 (ltb (8 * width f) (s .bits)) ∷ line 15 (not (clearPast (s .bits) (s .address))) ∷ []
+abbrev pub sideTests : ℕ → Side → List (Test ℕ)
+sideTests f s = test 15 (ltb (8 * width f) (s .bits)) ∷ test 15 (not (clearPast (s .bits) (s .address))) ∷ []
 
 abbrev pub zeros : List ℕ → Bool
 zeros [] = true
 zeros (x ∷ l) = eqb x 0 && zeros l
 
 -- 16: "key length 0 or above 80, or padding not zero"
-abbrev pub keyLines : Secret → List Line
-keyLines s = line 16 (ltb (s .«key_len») 1) ∷ line 16 (ltb 80 (s .«key_len»)) ∷ line 16 (not (zeros (drop (s .«key_len») (s .key)))) ∷ []
+abbrev pub masterKeyTests : Secret → List (Test ℕ)
+masterKeyTests s = test 16 (ltb (s .«key_len») 1) ∷ test 16 (ltb 80 (s .«key_len»)) ∷ test 16 (not (zeros (drop (s .«key_len») (s .key)))) ∷ []
 
 -- what is wrong with an entry by itself
-abbrev pub entryLines : Entry → List Line
-entryLines e =
-    secretLines (e .secret)
-    ++ (portLines (e .selector)
-    ++ (sideLines (e .selector .family) (e .selector .local)
-    ++ (sideLines (e .selector .family) (e .selector .remote)
-    ++ keyLines (e .secret))))
+abbrev pub entryTests : Entry → List (Test ℕ)
+entryTests e =
+    secretTests (e .secret)
+    ++ (portRangeTests (e .selector)
+    ++ (sideTests (e .selector .family) (e .selector .local)
+    ++ (sideTests (e .selector .family) (e .selector .remote)
+    ++ masterKeyTests (e .secret))))
 
 -- one of those before it clashes with an entry
 unfoldable pub clashing : Entry → List Entry → Bool
@@ -69,16 +61,16 @@ clashing e [] = false
 clashing e (f ∷ l) = clash f e || clashing e l
 
 -- 11, 10: "unknown kind; entry cut"; then the entry by itself
-abbrev pub ownLines : Item → List Line
-ownLines x = line 11 (not (x .kind-known)) ∷ line 10 (not (x .whole)) ∷ entryLines (x .entry)
+abbrev pub ownTests : Item → List (Test ℕ)
+ownTests x = test 11 (not (x .kind-known)) ∷ test 10 (not (x .whole)) ∷ entryTests (x .entry)
 
 -- 17: "ID clash, at the later entry"
-abbrev pub itemLines : List Entry → Item → List Line
-itemLines before x = ownLines x ++ (line 17 (clashing (x .entry) before) ∷ [])
+abbrev pub itemTests : List Entry → Item → List (Test ℕ)
+itemTests before x = ownTests x ++ (test 17 (clashing (x .entry) before) ∷ [])
 
 -- 12 before all: "a 65th entry begins"
-abbrev pub lines : ℕ → ℕ → List Entry → Item → List Line
-lines limit i before x = line 12 (eqb i limit) ∷ itemLines before x
+abbrev pub loadTests : ℕ → ℕ → List Entry → Item → List (Test ℕ)
+loadTests limit i before x = test 12 (eqb i limit) ∷ itemTests before x
 
 -- a number that is given refuses the table at the index; where it is 0, what follows decides
 abbrev pub refusing : ℕ → ℕ → Loaded → Loaded
@@ -86,12 +78,12 @@ refusing zero i o = o
 refusing (suc n) i o = Refused (suc n) i
 
 -- "table entries are taken one after another, each through to 17 against those before it, with the entry's index from 0"
-unfoldable pub judged : ℕ → ℕ → List Entry → List Item → Loaded
-judged limit i before [] = Valid i
-judged limit i before (x ∷ l) = refusing (first (lines limit i before x)) i (judged limit (i + 1) (before ++ (x .entry ∷ [])) l)
+unfoldable pub loadedFrom : ℕ → ℕ → List Entry → List Item → Loaded
+loadedFrom limit i before [] = Valid i
+loadedFrom limit i before (x ∷ l) = refusing (numberOf (loadTests limit i before x)) i (loadedFrom limit (i + 1) (before ++ (x .entry ∷ [])) l)
 
 unfoldable pub loaded : ℕ → List ℕ → Loaded
-loaded limit t = judged limit 0 [] (items 0 t)
+loaded limit t = loadedFrom limit 0 [] (items 0 t)
 
 -- "At most 64 entries; none is allowed."
 abbrev pub maxEntries : ℕ
@@ -127,12 +119,12 @@ nobody =
 
 -- the first entry that passes a test; the list's first has the index i
 unfoldable pub found : (Entry → Bool) → ℕ → List Entry → Found
-found test i [] = nobody
-found test i (e ∷ l) = cond (test e) (record { there = true; index = i; entry = e }) (found test (i + 1) l)
+found passes i [] = nobody
+found passes i (e ∷ l) = cond (passes e) (record { there = true; index = i; entry = e }) (found passes (i + 1) l)
 
 unfoldable pub anyOf : (Entry → Bool) → List Entry → Bool
-anyOf test [] = false
-anyOf test (e ∷ l) = test e || anyOf test l
+anyOf passes [] = false
+anyOf passes (e ∷ l) = passes e || anyOf passes l
 
 abbrev pub hasId : By → Ids → Bool
 hasId Any i = true

@@ -3,14 +3,14 @@
 ghost use mathlib.Core.Path.{_≡_};
 ghost use mathlib.Core.List.{_++_};
 ghost use lib.ListN.{drop};
-ghost use Rattle.keys.specs.Table.{first, zeros, secretLines, portLines, sideLines, keyLines, entryLines};
+ghost use Rattle.keys.specs.Table.{numberOf, zeros, secretTests, portRangeTests, sideTests, masterKeyTests, entryTests};
 use crate::entry::Entry;
 use crate::entry::Secret;
 use crate::entry::Selector;
 use crate::entry::Side;
 
 fn secret_number(s: Secret) -> u8
-    ensures { λ r. ⌜ r ≡ first (secretLines s) ⌝ }
+    ensures { λ r. ⌜ r ≡ numberOf (secretTests s) ⌝ }
 {
     if 1 < s.flags {
         return 13;
@@ -25,7 +25,7 @@ fn secret_number(s: Secret) -> u8
 }
 
 fn port_number(s: Selector) -> u8
-    ensures { λ r. ⌜ r ≡ first (portLines s) ⌝ }
+    ensures { λ r. ⌜ r ≡ numberOf (portRangeTests s) ⌝ }
 {
     let local = s.local;
     let remote = s.remote;
@@ -39,7 +39,7 @@ fn port_number(s: Selector) -> u8
 }
 
 fn side_number(family: u8, s: Side) -> u8
-    ensures { λ r. ⌜ r ≡ first (sideLines family s) ⌝ }
+    ensures { λ r. ⌜ r ≡ numberOf (sideTests family s) ⌝ }
 {
     if 8 * crate::entry::width_of(family) < s.bits as usize {
         return 15;
@@ -65,7 +65,7 @@ fn zero_from(s: &[u8], n: usize) -> bool
 }
 
 fn key_number(s: Secret) -> u8
-    ensures { λ r. ⌜ r ≡ first (keyLines s) ⌝ }
+    ensures { λ r. ⌜ r ≡ numberOf (masterKeyTests s) ⌝ }
 {
     if s.key_len < 1 {
         return 16;
@@ -81,7 +81,7 @@ fn key_number(s: Secret) -> u8
 }
 
 fn sides_number(s: Selector) -> u8
-    ensures { λ r. ⌜ r ≡ first (sideLines (s .family) (s .local) ++ sideLines (s .family) (s .remote)) ⌝ }
+    ensures { λ r. ⌜ r ≡ numberOf (sideTests (s .family) (s .local) ++ sideTests (s .family) (s .remote)) ⌝ }
 {
     let n = side_number(s.family, s.local);
     if n != 0 {
@@ -91,7 +91,7 @@ fn sides_number(s: Selector) -> u8
 }
 
 pub(crate) fn entry_number(e: Entry) -> u8
-    ensures { λ r. ⌜ r ≡ first (entryLines e) ⌝ }
+    ensures { λ r. ⌜ r ≡ numberOf (entryTests e) ⌝ }
 {
     let a = secret_number(e.secret);
     if a != 0 {

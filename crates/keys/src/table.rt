@@ -7,7 +7,7 @@ ghost use lib.ListN.{length, take, getD};
 ghost use lib.Dec.{eqb};
 ghost use Rattle.keys.specs.Entry.{size, itemAt, sound, entries};
 ghost use Rattle.keys.specs.Match.{share, overlap};
-ghost use Rattle.keys.specs.Table.{first, itemLines, clashing, loaded, checked, nobody, found, hasId, answers, sendEntry, recvEntry, anyEntry};
+ghost use Rattle.keys.specs.Table.{numberOf, itemTests, clashing, loaded, checked, nobody, found, hasId, answers, sendEntry, recvEntry, anyEntry};
 use crate::entry::Entry;
 use crate::entry::Ids;
 use crate::entry::Pair;
@@ -90,7 +90,7 @@ fn clashes_before(table: &[u8], i: usize, e: Entry) -> bool
 // The number, 11 or 10 and on to 17, of what begins at `at`, where the first i entries are compared with it; 0 if none applies.
 fn number_at(table: &[u8], at: usize, i: usize) -> u8
     requires { ⌜ at < length (now table) ⌝ }
-    ensures { λ r. ⌜ r ≡ first (itemLines (take i (entries (now (table .entry)))) (itemAt (now (table .entry)) at)) ⌝ }
+    ensures { λ r. ⌜ r ≡ numberOf (itemTests (take i (entries (now (table .entry)))) (itemAt (now (table .entry)) at)) ⌝ }
 {
     if !known_kind(table[at]) {
         return 11;

@@ -1,10 +1,12 @@
-// SHA-1's compression of one block: FIPS 180-4 §6.1.2.
-// Private to the crate, so that the schedule may be kept in another way later. Assumes a block of 64 bytes.
+// SHA-1's compression of one block: FIPS 180-4 §6.1.2, with sixteen words of the schedule in place of eighty, as in §6.1.3.
+// Private to the crate. Assumes a block of 64 bytes.
 ghost use mathlib.Core.Path.{_≡_};
-ghost use Prim.Native.Nat.{_/_};
-ghost use lib.ListN.{length, take};
+ghost use mathlib.Core.List.{_++_};
+ghost use Prim.Native.Nat.{_+_, _/_, _<_, _≤_};
+ghost use lib.ListN.{length, drop, replicate};
 ghost use Rattle.mac.specs.Blocks.{chained};
-ghost use Rattle.mac.specs.Sha1.{add32, ROTL, Ch, Parity, Maj, initial as initialOf, words, extended, round as roundOf, rounds, compress as compressOf, parts};
+ghost use Rattle.mac.specs.Sha1.{add32, ROTL, Ch, Parity, Maj, f as fOf, K};
+ghost use Rattle.mac.specs.Sha1.{initial as initialOf, words, extended, round as roundOf, rounds, compress as compressOf, parts};
 ghost use Rattle.mac.specs.HashContexts.{five};
 
 // The five working variables.
@@ -58,27 +60,61 @@ fn maj(x: u32, y: u32, z: u32) -> u32
     (x & y) ^ (x & z) ^ (y & z)
 }
 
-// The words of the block, in the first sixteen places.
-fn load(m: &[u8]) -> [u32; 80]
-    requires { ⌜ length (now m) ≡ 64 ⌝ }
-    ensures { λ r. ⌜ take 16 r ≡ words 16 (now (m .entry)) ⌝ }
+// f_t and K_t.
+fn function(t: usize, x: u32, y: u32, z: u32) -> u32
+    requires { ⌜ t < 80 ⌝ }
+    ensures { λ r. ⌜ r ≡ fOf t x y z ⌝ }
 {
-    let mut w = [0u32; 80];
+    if t < 20 {
+        return ch(x, y, z);
+    }
+    if t < 40 {
+        return parity(x, y, z);
+    }
+    if t < 60 {
+        return maj(x, y, z);
+    }
+    parity(x, y, z)
+}
+
+fn constant(t: usize) -> u32
+    requires { ⌜ t < 80 ⌝ }
+    ensures { λ r. ⌜ r ≡ K t ⌝ }
+{
+    if t < 20 {
+        return 0x5a82_7999;
+    }
+    if t < 40 {
+        return 0x6ed9_eba1;
+    }
+    if t < 60 {
+        return 0x8f1b_bcdc;
+    }
+    0xca62_c1d6
+}
+
+// The words of the block.
+fn load(m: &[u8]) -> [u32; 16]
+    requires { ⌜ length (now m) ≡ 64 ⌝ }
+    ensures { λ r. ⌜ r ≡ words 16 (now (m .entry)) ⌝ }
+{
+    let mut w = [0u32; 16];
     for t in 0..16 {
         w[t] = octets::load32(m, 4 * t);
     }
     w
 }
 
-// The words that follow from the first sixteen.
-fn extend(first: [u32; 80]) -> [u32; 80]
-    ensures { λ r. ⌜ r ≡ extended 64 (take 16 first) ⌝ }
+// Sixteen words of the schedule become the sixteen that follow them, each in the place of the one sixteen before it. This stands apart
+// from the rounds, so that no round has an index modulo 16: the compiler unrolls the loop, and every place is a constant.
+// The type of a lent array tells a contract no length, so it is asked for and given back.
+fn next_words(w: &mut [u32; 16])
+    requires { ⌜ length (now w) ≡ 16 ⌝ }
+    ensures { λ _. ⌜ (now (w .exit) ≡ drop 16 (extended 16 (now (w .entry)))) × (length (now (w .exit)) ≡ 16) ⌝ }
 {
-    let mut w = first;
-    for t in 16..80 {
-        w[t] = rotl1(w[t - 3] ^ w[t - 8] ^ w[t - 14] ^ w[t - 16]);
+    for i in 0..16 {
+        w[i] = rotl1(w[(i + 13) % 16] ^ w[(i + 8) % 16] ^ w[(i + 2) % 16] ^ w[i]);
     }
-    w
 }
 
 // One round, with the values of f_t, K_t and W_t.
@@ -94,45 +130,27 @@ fn round(s: Five, f: u32, k: u32, w: u32) -> Five
     }
 }
 
-// The rounds 0 to 19, 20 to 39, 40 to 59 and 60 to 79: each twenty have one function and one constant.
-fn quarter0(from: Five, w: &[u32; 80]) -> Five
-    ensures { λ r. ⌜ five r ≡ rounds 0 20 (now (w .entry)) (five from) ⌝ }
+// Rounds with the words w as W_at to W_(at+15): in the contracts zeros stand before them, where these rounds read nothing.
+// Four to a loop, which the compiler unrolls, so that t is a constant in each round.
+fn four_rounds(from: Five, w: &[u32; 16], at: usize, i: usize) -> Five
+    requires { ⌜ (at + 16 ≤ 80) × (i + 4 ≤ 16) ⌝ }
+    ensures { λ r. ⌜ five r ≡ rounds (at + i) 4 (replicate at 0 ++ now (w .entry)) (five from) ⌝ }
 {
     let mut s = from;
-    for t in 0..20 {
-        s = round(s, ch(s.b, s.c, s.d), 0x5a82_7999, w[t]);
+    for j in i..i + 4 {
+        s = round(s, function(at + j, s.b, s.c, s.d), constant(at + j), w[j]);
     }
     s
 }
 
-fn quarter1(from: Five, w: &[u32; 80]) -> Five
-    ensures { λ r. ⌜ five r ≡ rounds 20 20 (now (w .entry)) (five from) ⌝ }
+fn sixteen_rounds(s: Five, w: &[u32; 16], at: usize) -> Five
+    requires { ⌜ at + 16 ≤ 80 ⌝ }
+    ensures { λ r. ⌜ five r ≡ rounds at 16 (replicate at 0 ++ now (w .entry)) (five s) ⌝ }
 {
-    let mut s = from;
-    for t in 20..40 {
-        s = round(s, parity(s.b, s.c, s.d), 0x6ed9_eba1, w[t]);
-    }
-    s
-}
-
-fn quarter2(from: Five, w: &[u32; 80]) -> Five
-    ensures { λ r. ⌜ five r ≡ rounds 40 20 (now (w .entry)) (five from) ⌝ }
-{
-    let mut s = from;
-    for t in 40..60 {
-        s = round(s, maj(s.b, s.c, s.d), 0x8f1b_bcdc, w[t]);
-    }
-    s
-}
-
-fn quarter3(from: Five, w: &[u32; 80]) -> Five
-    ensures { λ r. ⌜ five r ≡ rounds 60 20 (now (w .entry)) (five from) ⌝ }
-{
-    let mut s = from;
-    for t in 60..80 {
-        s = round(s, parity(s.b, s.c, s.d), 0xca62_c1d6, w[t]);
-    }
-    s
+    let s = four_rounds(s, w, at, 0);
+    let s = four_rounds(s, w, at, 4);
+    let s = four_rounds(s, w, at, 8);
+    four_rounds(s, w, at, 12)
 }
 
 // The chaining value before the first block.
@@ -153,7 +171,7 @@ pub fn compress(h: [u32; 5], m: &[u8]) -> [u32; 5]
     requires { ⌜ length (now m) ≡ 64 ⌝ }
     ensures { λ r. ⌜ r ≡ compressOf h (now (m .entry)) ⌝ }
 {
-    let w = extend(load(m));
+    let mut w = load(m);
     let s = Five {
         a: h[0],
         b: h[1],
@@ -161,7 +179,15 @@ pub fn compress(h: [u32; 5], m: &[u8]) -> [u32; 5]
         d: h[3],
         e: h[4],
     };
-    let s = quarter3(quarter2(quarter1(quarter0(s, &w), &w), &w), &w);
+    let s = sixteen_rounds(s, &w, 0);
+    next_words(&mut w);
+    let s = sixteen_rounds(s, &w, 16);
+    next_words(&mut w);
+    let s = sixteen_rounds(s, &w, 32);
+    next_words(&mut w);
+    let s = sixteen_rounds(s, &w, 48);
+    next_words(&mut w);
+    let s = sixteen_rounds(s, &w, 64);
     [
         add(h[0], s.a),
         add(h[1], s.b),

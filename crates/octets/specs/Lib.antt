@@ -1,1 +1,4 @@
 pub mod Octets
+pub mod Each
+pub mod Tests
+pub mod TestLaws

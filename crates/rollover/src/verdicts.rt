@@ -1,5 +1,5 @@
 // Verdicts as numbers, so that those of two runs are kept and compared: document 01's number, and the extension in the upper 32 bits
-// (BOUNDARY.md, "The answer"). Assumes nothing.
+// (docs/BOUNDARY.md, "The answer"). Assumes nothing.
 ghost use mathlib.Core.Path.{_≡_};
 ghost use Rattle.rollover.specs.Codes.{code};
 use rules::Verdict;

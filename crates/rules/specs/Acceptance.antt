@@ -1,12 +1,12 @@
 -- Demand 2, of the definitions: what one end signs, the other end accepts. First what the three ways share.
-use Prim.Native.Nat.{ℕ, zero, suc, _+_, _-_, _^_, _<_}
+use Prim.Native.Nat.{ℕ, _+_, _-_, _^_, _<_}
 use mathlib.Core.Path.{_≡_, refl, ap, sym, _∙_}
 use mathlib.Core.Bool.{true, false, not}
-use mathlib.Core.List.{List, [], _∷_}
+use mathlib.Core.List.{List}
 use native.Mathlib.Omega.{arith}
-use lib.ListN.{getD}
 use lib.Dec.{ltb, eqb}
 use borrow.Author.Tests.{eq-eqb, eqb-true, not-false}
+use Rattle.octets.specs.Each.{Octets}
 use Rattle.wire.specs.BytesLaws.{same-of-eq}
 use Rattle.wire.specs.Header.{sequence, syn}
 use Rattle.wire.specs.declared.options.Occurrence.{Occurrence}
@@ -20,27 +20,22 @@ use Rattle.rules.specs.declared.Place.the-variants.{At}
 use Rattle.rules.specs.declared.Outcome.{Outcome}
 use Rattle.rules.specs.declared.State.{State}
 use Rattle.rules.specs.Position.{position}
-use Rattle.rules.specs.NumberLaws.{NoneApplies}
+use Rattle.octets.specs.TestLaws.{NoneApplies}
 use Rattle.rules.specs.Mac.{Flow, segmentMac}
 use Rattle.rules.specs.MacLaws.{Agree}
 use Rattle.rules.specs.Segment.{ao}
 use Rattle.rules.specs.Connection.{leaving, value, extensionOf}
 use Rattle.rules.specs.Calls.{keyTests, macTests, isRefused, macDiffers, formTests, lengthTests, tableTests}
-use Rattle.rules.specs.Ends.{Bytes, SignedAt}
+use Rattle.rules.specs.Ends.{SignedAt}
 use Rattle.rules.specs.RoundTrip.{Reads}
 use Rattle.rules.specs.Delivery.{signs, twelve, mac, length-its-mac, segment, reads, same-mac, sizes}
 
 -- bytes make a number below 2 ^ 32
-byte-at : (s : List ℕ) (i : ℕ) → Bytes s → getD s i 0 < 256
-byte-at [] i b = omega arith
-byte-at (x ∷ s) zero b = b .0
-byte-at (x ∷ s) (suc i) b = byte-at s i (b .1)
+pub sequence-below : (s : List ℕ) → Octets s → sequence s < 2 ^ 32
+sequence-below s b = omega (arith, b 4, b 5, b 6, b 7)
 
-pub sequence-below : (s : List ℕ) → Bytes s → sequence s < 2 ^ 32
-sequence-below s b = omega (arith, byte-at s 4 b, byte-at s 5 b, byte-at s 6 b, byte-at s 7 b)
-
-pub agree-of : (p : Pair) (ours theirs : Entry) → Mirror p ours theirs → Agree (ours .secret) (theirs .secret)
-agree-of p ours theirs m = record { flags = m .flags; algorithm = m .algorithm; mac = m .mac; key = m .key }
+pub agree-of : (p q : Pair) (ours theirs : Entry) → Mirror p q ours theirs → Agree (ours .secret) (theirs .secret)
+agree-of p q ours theirs m = record { flags = m .flags; algorithm = m .algorithm; mac = m .mac; key = m .key }
 
 -- a signed SYN: "(bare or with ACK) whose position is .. our ISN"
 pub syn-at : (q : State) (e : Entry) (x : ℕ) (b : List ℕ) (g : SignedAt q e x b) → syn (g .unsigned) ≡ true → x ≡ q .conn .isn

@@ -25,7 +25,7 @@ use Rattle.rules.specs.declared.Connection.{Connection}
 use Rattle.rules.specs.declared.State.{State}
 use Rattle.rules.specs.Position.{position, Near}
 use Rattle.rules.specs.PositionLaws.{complete, sound}
-use Rattle.rules.specs.NumberLaws.{NoneApplies, none-append}
+use Rattle.octets.specs.TestLaws.{NoneApplies, none-append}
 use Rattle.rules.specs.GroupLaws.{first-clear}
 use Rattle.rules.specs.Segment.{keyId, isBareSyn}
 use Rattle.rules.specs.Connection.{sized, Arrival, localAddress, remoteAddress, arrivalPair, isOpen, arriving, arrivingSyn, leaving, placeOn, value, extensionOf}
@@ -61,7 +61,8 @@ family-by f n a h = go (eqb f 4) (eqb f 6) refl refl
 -- With a state: the receiver's table t holds `ours`, which mirrors the sender's entry e; its connection l faces the sender's.
 module _ (q : State) (e : Entry) (x : ℕ) (b : List ℕ) (g : SignedAt q e x b) (c d : ℕ)
     (t : Tables) (valid : ValidTable t) (l : Connection) (allowed : Allowed l) (local : length (l .pair .local) ≡ 16) (remote : length (l .pair .remote) ≡ 16)
-    (facing : Facing (l .pair) (q .conn .pair)) (i : ℕ) (ours : Entry) (among : EntryAt (entries t) i ours) (mirror : Mirror (l .pair) ours e) where
+    (facing : Facing (l .pair) (q .conn .pair)) (i : ℕ) (ours : Entry) (among : EntryAt (entries t) i ours)
+    (mirror : Mirror (l .pair) (q .conn .pair) ours e) where
   abbrev came : List ℕ
   came = segment q e x b g c d
 
@@ -115,7 +116,8 @@ module _ (q : State) (e : Entry) (x : ℕ) (b : List ℕ) (g : SignedAt q e x b)
           × NoneApplies (macTests (recvEntry t (l .pair) (keyId came) .entry) (arriving l came) (placeOn l reference (sequence came)) came)
       keys =
           subst⁻¹ (λ (z : Place). NoneApplies (keyTests (refuse 25) (refuse 26) (recvEntry t (l .pair) (keyId came)) z came) × NoneApplies (macTests (recvEntry t (l .pair) (keyId came) .entry) (arriving l came) z came)) place
-          (keyed q e x b g c d (refuse 25) (refuse 26) i ours (arriving l came) y (recvEntry t (l .pair) (keyId came)) (agree-of (l .pair) ours e mirror) found flow ext)
+          (keyed q e x b g c d (refuse 25) (refuse 26) i ours (arriving l came) y (recvEntry t (l .pair) (keyId came))
+          (agree-of (l .pair) (q .conn .pair) ours e mirror) found flow ext)
 
   -- a segment that is no bare SYN arrives as none
   not-bare : (w : Bool) → isBareSyn (g .unsigned) ≡ w → isBareSyn came ≡ w
@@ -209,7 +211,8 @@ module _ (q : State) (typed : Typed q) (opening : isOpen (q .conn) ≡ false) (e
           ap (λ (n : ℕ). take (width n) (padded (take (width (q .conn .pair .family)) a))) family
           ∙ take-at (take (width (q .conn .pair .family)) a) _ (width (q .conn .pair .family)) (address-length (q .conn .pair .family) a h)
 
-  module _ (t : Tables) (valid : ValidTable t) (strict : Bool) (i : ℕ) (ours : Entry) (among : EntryAt (entries t) i ours) (mirror : Mirror (arrivalPair synArrival) ours e) where
+  module _ (t : Tables) (valid : ValidTable t) (strict : Bool) (i : ℕ) (ours : Entry) (among : EntryAt (entries t) i ours)
+      (mirror : Mirror (arrivalPair synArrival) (q .conn .pair) ours e) where
     abbrev syn-came : List ℕ
     syn-came = segment q e x b g c d
 
@@ -262,7 +265,8 @@ module _ (q : State) (typed : Typed q) (opening : isOpen (q .conn) ≡ false) (e
             × NoneApplies (macTests (recvEntry t (arrivalPair synArrival) (keyId syn-came) .entry) (arrivingSyn synArrival) (At (sequence syn-came)) syn-came)
         keys =
             keyed q e x b g c d (synMissing t (arrivalPair synArrival)) (synUnknown strict) i ours (arrivingSyn synArrival) (sequence syn-came)
-            (recvEntry t (arrivalPair synArrival) (keyId syn-came)) (agree-of (arrivalPair synArrival) ours e mirror) syn-found flow (ap extensionOf (syn-number ∙ sym (syn-at q e x b g its-syn)))
+            (recvEntry t (arrivalPair synArrival) (keyId syn-came)) (agree-of (arrivalPair synArrival) (q .conn .pair) ours e mirror)
+            syn-found flow (ap extensionOf (syn-number ∙ sym (syn-at q e x b g its-syn)))
 
 -- A true segment of demand 3 is such a one.
 pub true-good : (t : Tables) → ValidTable t → (l : Connection) → Allowed l → length (l .pair .local) ≡ 16 → length (l .pair .remote) ≡ 16

@@ -20,8 +20,8 @@ use Rattle.rules.specs.declared.Outcome.{Outcome}
 use Rattle.rules.specs.declared.Outcome.the-variants.{Good, Passed, Bad}
 use Rattle.rules.specs.declared.State.{State}
 use Rattle.rules.specs.declared.Settled.{Settled}
-use Rattle.rules.specs.Numbers.{first}
-use Rattle.rules.specs.NumberLaws.{first-passes}
+use Rattle.octets.specs.Tests.{first}
+use Rattle.octets.specs.TestLaws.{first-passes}
 use Rattle.rules.specs.Segment.{malformed, ao}
 use Rattle.rules.specs.Connection.{Arrival, pairOf, extensionOf, empty, opening, withAsked}
 use Rattle.rules.specs.Calls.{refusal, verdictOf, indexOf, check, judged, checkSyn, judgedSyn, openedPassively, unrefused}

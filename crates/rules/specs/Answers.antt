@@ -23,7 +23,7 @@ use Rattle.rules.specs.declared.Done.{Done}
 use Rattle.rules.specs.declared.Done.the-variants as D
 use Rattle.rules.specs.declared.Connection.{Connection}
 use Rattle.rules.specs.declared.State.{State}
-use Rattle.rules.specs.Numbers.{first}
+use Rattle.octets.specs.Tests.{first}
 use Rattle.rules.specs.Position.{position}
 use Rattle.rules.specs.Connection.{Arrival, pairOf, located, value, extensionOf}
 use Rattle.rules.specs.Calls.{unrefused, tableTests, check, checkSyn, openTests, askTests, outgoing, addedBytes, checkSign}

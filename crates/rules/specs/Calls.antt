@@ -30,10 +30,12 @@ use Rattle.rules.specs.declared.Signed.{Signed}
 use Rattle.rules.specs.declared.Done.{Done}
 use Rattle.rules.specs.declared.Done.the-variants as D
 use Rattle.rules.specs.declared.Settled.{Settled}
-use Rattle.rules.specs.Numbers.{Test, test, tests, joined, first}
+use Rattle.octets.specs.Tests.{Test, test, tests, joined, first}
 use Rattle.rules.specs.Mac.{Flow, segmentMac}
 use Rattle.rules.specs.Segment.{malformed, ao, md5, aoAt, keyId, rnextKeyId, macIn, isBareSyn, signedWith}
-use Rattle.rules.specs.Connection.{sized, pairOf, Arrival, arrivalPair, localAddress, remoteAddress, isOpen, arriving, leaving, arrivingSyn, placeOn, located, value, extensionOf, nextKey, opened, opening, empty, withAccepted, withDrop, withSent, withAsked}
+use Rattle.rules.specs.Connection.{sized, pairOf, Arrival, arrivalPair, localAddress, remoteAddress, isOpen}
+use Rattle.rules.specs.Connection.{arriving, leaving, arrivingSyn, placeOn, located, value, extensionOf, nextKey}
+use Rattle.rules.specs.Connection.{opened, opening, empty, withAccepted, withDrop, withSent, withAsked}
 
 abbrev pub refuse : ℕ → Outcome
 refuse n = Bad n 0
@@ -74,7 +76,9 @@ lengthTests n s = tests (refuse n) (sizeFaults s)
 -- 21: "malformed options"; 22: "two TCP-AO, or TCP-AO and MD5 together"
 abbrev pub formTests : List ℕ → List (Test Outcome)
 formTests s =
-    test (refuse 21) (malformed s) ∷ test (refuse 22) (ltb 1 (ao s .count)) ∷ test (refuse 22) (ltb 0 (ao s .count) && ltb 0 (md5 s .count)) ∷ []
+    test (refuse 21) (malformed s)
+    ∷ test (refuse 22) (ltb 1 (ao s .count))
+    ∷ test (refuse 22) (ltb 0 (ao s .count) && ltb 0 (md5 s .count)) ∷ []
 
 -- 23: "pair is not the state's"
 abbrev pub pairTests : Pair → Arrival → List (Test Outcome)
@@ -138,8 +142,12 @@ judgeGroups t l reference a =
       size = lengthTests 20 (a .segment);
       form = formTests (a .segment);
       arrival = arrivalTests l a;
-      key = keyTests (refuse 25) (refuse 26) (recvEntry t (l .pair) (keyId (a .segment))) (placeOn l reference (sequence (a .segment))) (a .segment);
-      mac = macTests (recvEntry t (l .pair) (keyId (a .segment)) .entry) (arriving l (a .segment)) (placeOn l reference (sequence (a .segment))) (a .segment);
+      key =
+          keyTests (refuse 25) (refuse 26) (recvEntry t (l .pair) (keyId (a .segment))) (placeOn l reference (sequence (a .segment)))
+          (a .segment);
+      mac =
+          macTests (recvEntry t (l .pair) (keyId (a .segment)) .entry) (arriving l (a .segment))
+          (placeOn l reference (sequence (a .segment))) (a .segment);
     }
 
 abbrev pub judgeTests : Tables → Connection → ℕ → Arrival → List (Test Outcome)
@@ -149,8 +157,8 @@ unfoldable pub check : Tables → Connection → ℕ → Arrival → Outcome
 check t l reference a =
     first (judgeTests t l reference a) (Good (value (placeOn l reference (sequence (a .segment)))) (rnextKeyId (a .segment)))
 
--- a bare SYN, without a state. "Bare SYN without TCP-AO: 25 if any entry matches the pair, otherwise pass. Bare SYN with TCP-AO: the entry is
--- found by pair and KeyID = RecvID. If there is none, a setting decides: pass (the RFC's first default) or drop 26."
+-- a bare SYN, without a state. "Bare SYN without TCP-AO: 25 if any entry matches the pair, otherwise pass. Bare SYN with TCP-AO: the entry
+-- is found by pair and KeyID = RecvID. If there is none, a setting decides: pass (the RFC's first default) or drop 26."
 abbrev pub synMissing : Tables → Pair → Outcome
 synMissing t p = cond (anyEntry t p) (refuse 25) Passed
 
@@ -164,7 +172,9 @@ synGroups t a strict =
       size = lengthTests 20 (a .segment);
       form = formTests (a .segment);
       arrival = synTests (a .segment);
-      key = keyTests (synMissing t (arrivalPair a)) (synUnknown strict) (recvEntry t (arrivalPair a) (keyId (a .segment))) (At (sequence (a .segment))) (a .segment);
+      key =
+          keyTests (synMissing t (arrivalPair a)) (synUnknown strict) (recvEntry t (arrivalPair a) (keyId (a .segment)))
+          (At (sequence (a .segment))) (a .segment);
       mac = macTests (recvEntry t (arrivalPair a) (keyId (a .segment)) .entry) (arrivingSyn a) (At (sequence (a .segment))) (a .segment);
     }
 
@@ -236,10 +246,12 @@ openTests t local remote found = addressTests local remote ++ (tableTests t ++ (
 
 abbrev pub openedWith : Tables → List ℕ → List ℕ → Pair → ℕ → ℕ → Settled
 openedWith t local remote p isn sendId =
-    settledBy (first (openTests t local remote (sendEntry t p sendId)) unrefused) empty (opening p isn sendId (sendEntry t p sendId .entry .ids .recv))
+    settledBy (first (openTests t local remote (sendEntry t p sendId)) unrefused) empty
+    (opening p isn sendId (sendEntry t p sendId .entry .ids .recv))
 
 unfoldable pub openedActively : Tables → List ℕ → List ℕ → ℕ → ℕ → ℕ → ℕ → Settled
-openedActively t local remote localPort remotePort isn sendId = openedWith t local remote (pairOf local remote localPort remotePort) isn sendId
+openedActively t local remote localPort remotePort isn sendId =
+    openedWith t local remote (pairOf local remote localPort remotePort) isn sendId
 
 -- 35: no entry matching the pair has "the RecvID to ask (operator call)"
 abbrev pub askTests : Tables → ℕ → Connection → List (Test Outcome)
@@ -250,8 +262,8 @@ asked t id q = settledBy (first (askTests t id (q .conn)) unrefused) q (withAske
 
 -- Signing. No test of it gives pass.
 
--- the bytes that TCP-AO adds: 4 and the entry's MAC bytes, which makes 16. Both algorithms add as many, so 32 is given as document 01 says also
--- where no entry is found and 35 would follow
+-- the bytes that TCP-AO adds: 4 and the entry's MAC bytes, which makes 16. Both algorithms add as many, so 32 is given as document 01 says
+-- also where no entry is found and 35 would follow
 abbrev pub addedBytes : Found → ℕ
 addedBytes found = 4 + cond (found .there) (found .entry .secret .«mac_bytes») (macBytes 1)
 
@@ -259,7 +271,8 @@ addedBytes found = 4 + cond (found .there) (found .entry .secret .«mac_bytes»)
 abbrev pub freshTests : List ℕ → List (Test Outcome)
 freshTests s = tests (refuse 31) (malformed s ∷ ltb 0 (ao s .count) ∷ ltb 0 (md5 s .count) ∷ [])
 
--- 32: "data offset above 11, or result above 65,535 bytes". A header has at most 15 words, 60 bytes: with 16 more, an offset above 11 passes that
+-- 32: "data offset above 11, or result above 65,535 bytes". A header has at most 15 words, 60 bytes: with 16 more, an offset above 11
+-- passes that
 abbrev pub growthTests : ℕ → List ℕ → List (Test Outcome)
 growthTests added s = tests (refuse 32) (ltb 60 (headerEnd s + added) ∷ ltb 65535 (length s + added) ∷ [])
 

@@ -10,13 +10,13 @@ use lib.ListN.{length, getD, set, length-set}
 use lib.Seq.{getD-set-same, getD-set-other}
 use lib.Dec.{ltb, eqb}
 use borrow.Author.Tests.{ltb-true, ltb-false, eqb-true, eqb-false}
+use Rattle.octets.specs.Each.{Each}
 use Rattle.rules.specs.declared.Place.{Place}
 use Rattle.rules.specs.declared.Place.the-variants.{At, Nowhere}
 use Rattle.rules.specs.declared.Verdict.{Verdict}
 use Rattle.rules.specs.declared.Verdict.the-variants.{Accept, Drop}
 use Rattle.rules.specs.declared.State.{State}
 use Rattle.rules.specs.Connection.{located, value, stop, bump, countedNumbers, slots, later, placeIn, slot, isCounted, countAt, countDrop, withAccepted, withDrop}
-use Rattle.rules.specs.Ends.{Each}
 use Rattle.rules.specs.Demand3.{sum}
 use Rattle.rules.specs.History.{accepts, drops, countedDrops, dropCount}
 

@@ -48,7 +48,8 @@ judged-opening t p a x r opening e = ap (judgedBy t p) e ∙ rw opening
 
 -- Once open: accepted with the sender's extension. The reference becomes the larger, the key rule applies, and one acceptance more is counted.
 pub open-segment : (q : State) (e : Entry) (x : ℕ) (b : List ℕ) (a : Arrival) (t : Tables) (p : State) → Typed q → Typed p → Allowed (p .conn) → OtherEnd (p .conn) (q .conn)
-    → SignedAt q e x b → Delivered (remoteAddress (p .conn .pair)) (localAddress (p .conn .pair)) b a → Holds t (p .conn .pair) e → Within (p .seen) x
+    → SignedAt q e x b → Delivered (remoteAddress (p .conn .pair)) (localAddress (p .conn .pair)) b a
+    → Holds t (p .conn .pair) (q .conn .pair) e → Within (p .seen) x
     → judged t a p ≡ record { verdict = Accept (extensionOf x); index = 0; state = withAccepted x (nextKey t (p .conn .pair) (q .«ask_id») (p .«send_id»)) p }
 open-segment q e x b a t p tq tp allowed other g v h near =
     judged-open t p a x (q .«ask_id») (other .here)
@@ -59,7 +60,8 @@ open-segment q e x b a t p tq tp allowed other g v h near =
 -- that side's ISN", the counts are 0, and the key rule applies.
 pub syn-ack : (q : State) (e : Entry) (x : ℕ) (b : List ℕ) (a : Arrival) (t : Tables) (p : State) → Typed q → Typed p → Allowed (p .conn)
     → isOpen (q .conn) ≡ true → isOpen (p .conn) ≡ false → Facing (p .conn .pair) (q .conn .pair) → p .conn .isn ≡ q .conn .«peer_isn»
-    → (g : SignedAt q e x b) → syn (g .unsigned) ≡ true → Delivered (remoteAddress (p .conn .pair)) (localAddress (p .conn .pair)) b a → Holds t (p .conn .pair) e
+    → (g : SignedAt q e x b) → syn (g .unsigned) ≡ true → Delivered (remoteAddress (p .conn .pair)) (localAddress (p .conn .pair)) b a
+    → Holds t (p .conn .pair) (q .conn .pair) e
     → judged t a p ≡ record
     { verdict = Accept 0; index = 0; state = opened (p .conn .pair) (p .conn .isn) (q .conn .isn) (nextKey t (p .conn .pair) (q .«ask_id») (p .«send_id»)) (p .«ask_id») }
 syn-ack q e x b a t p tq tp allowed there here facing isn g its-syn v h =
@@ -75,10 +77,12 @@ syn-ack q e x b a t p tq tp allowed there here facing isn g its-syn v h =
 -- The bare SYN of an opening end: accepted with extension 0 by the call without a state, and by the passive opening, which opens with the entry
 -- found.
 module _ (q : State) (e : Entry) (x : ℕ) (b : List ℕ) (a : Arrival) (t : Tables) (typed : Typed q) (opening : isOpen (q .conn) ≡ false) (g : SignedAt q e x b)
-    (v : Delivered (localAddress (q .conn .pair)) (remoteAddress (q .conn .pair)) b a) (h : Holds t (arrivalPair a) e) (strict : Bool) where
+    (v : Delivered (localAddress (q .conn .pair)) (remoteAddress (q .conn .pair)) b a)
+    (h : Holds t (arrivalPair a) (q .conn .pair) e) (strict : Bool) where
   syn-good : (checkSyn t a strict ≡ Good (q .conn .isn) (q .«ask_id»)) × (recvEntry t (arrivalPair a) (keyId (a .segment)) .entry ≡ h .ours)
   syn-good =
-      subst⁻¹ (λ (z : Arrival). Mirror (arrivalPair z) (h .ours) e → (checkSyn t z strict ≡ Good (q .conn .isn) (q .«ask_id»)) × (recvEntry t (arrivalPair z) (keyId (z .segment)) .entry ≡ h .ours))
+      subst⁻¹ (λ (z : Arrival). Mirror (arrivalPair z) (q .conn .pair) (h .ours) e
+      → (checkSyn t z strict ≡ Good (q .conn .isn) (q .«ask_id»)) × (recvEntry t (arrivalPair z) (keyId (z .segment)) .entry ≡ h .ours))
       (came a v)
       (λ m. (
         syn-accepted q typed opening e x b g (v .high) (v .low) t (h .valid) strict (h .place) (h .ours) (h .among) m,
@@ -111,7 +115,8 @@ module _ (q : State) (e : Entry) (x : ℕ) (b : List ℕ) (a : Arrival) (t : Tab
 -- The three steps of an opening: one end signs a bare SYN while opening, the other opens passively on it and signs a SYN+ACK, and the first end judges
 -- that. Between these the calls of each end may change anything but what its connection is. Then both are open on one connection, each the other's other end.
 module _ (active : State) (e : Entry) (x : ℕ) (b : List ℕ) (a : Arrival) (t : Tables) (typed : Typed active) (opening : isOpen (active .conn) ≡ false)
-    (g : SignedAt active e x b) (v : Delivered (localAddress (active .conn .pair)) (remoteAddress (active .conn .pair)) b a) (h : Holds t (arrivalPair a) e) (strict : Bool) (isn : ℕ) where
+    (g : SignedAt active e x b) (v : Delivered (localAddress (active .conn .pair)) (remoteAddress (active .conn .pair)) b a)
+    (h : Holds t (arrivalPair a) (active .conn .pair) e) (strict : Bool) (isn : ℕ) where
   abbrev passiveConnection : Connection
   passiveConnection = openedPassively t a isn strict .state .conn
 
@@ -123,7 +128,9 @@ module _ (active : State) (e : Entry) (x : ℕ) (b : List ℕ) (a : Arrival) (t 
 
   pub opened-together : (passive : State) (f : Entry) (y : ℕ) (c : List ℕ) (r : Arrival) (u : List ℕ) (now : State) → Typed passive → Typed now
       → passive .conn ≡ passiveConnection → now .conn ≡ active .conn
-      → (k : SignedAt passive f y c) → syn (k .unsigned) ≡ true → Delivered (remoteAddress (now .conn .pair)) (localAddress (now .conn .pair)) c r → Holds u (now .conn .pair) f
+      → (k : SignedAt passive f y c) → syn (k .unsigned) ≡ true
+      → Delivered (remoteAddress (now .conn .pair)) (localAddress (now .conn .pair)) c r
+      → Holds u (now .conn .pair) (passive .conn .pair) f
       → OtherEnd (judged u r now .state .conn) (passive .conn)
   opened-together passive f y c r u now tp tn at-passive at-now k its-syn w j =
       subst⁻¹ (λ (z : Judged). OtherEnd (z .state .conn) (passive .conn))

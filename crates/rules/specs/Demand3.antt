@@ -3,6 +3,7 @@ use Prim.Native.Nat.{ℕ, _+_, _^_, _<_, max}
 use mathlib.Core.Path.{_≡_}
 use mathlib.Core.Bool.{Bool, true, cond}
 use mathlib.Core.List.{List, [], _∷_, map, List·Permᴰ}
+use Rattle.octets.specs.Each.{Each}
 use Rattle.rules.specs.declared.Verdict.{Verdict}
 use Rattle.rules.specs.declared.Verdict.the-variants.{Accept}
 use Rattle.rules.specs.declared.Connection.{Connection}
@@ -10,7 +11,7 @@ use Rattle.rules.specs.declared.State.{State}
 use Rattle.keys.specs.Table.{Tables, ValidTable}
 use Rattle.rules.specs.Connection.{Arrival, isOpen, sized, extensionOf, stop, available}
 use Rattle.rules.specs.Calls.{judged}
-use Rattle.rules.specs.Ends.{Each, Typed, Allowed, TrueSegment, Verifies}
+use Rattle.rules.specs.Ends.{Typed, Allowed, TrueSegment, Verifies}
 
 -- A list of calls: "each call gets the state that the one before returned, and nothing else writes it meanwhile".
 
@@ -116,8 +117,8 @@ pub record Alike (q r : State) : Type 0 where
 abbrev pub after : (t : Tables) (q : State) → List (Arriving t (q .conn)) → State
 after t q l = judgeAll t q (map arrival l) .state
 
--- What the demand is given: "an open connection and a fixed valid key table", a state that 18 allows, and "The true positions lie less than 2^31 from
--- each other and from the starting reference."
+-- What the demand is given: "an open connection and a fixed valid key table", a state that 18 allows, and "The true positions lie less than
+-- 2^31 from each other and from the starting reference."
 pub record Given (t : Tables) (q : State) (l : List (Arriving t (q .conn))) : Type 0 where
   pub valid : ValidTable t
   pub typed : Typed q
@@ -132,10 +133,12 @@ pub record Demand3 (t : Tables) (q : State) (l : List (Arriving t (q .conn))) : 
   pub reference : after t q l .seen ≡ largest (q .seen) (positions l)
   -- "The outgoing key is what the last true segment asking for an available key asked for, or the starting one."
   pub key : after t q l .«send_id» ≡ lastOr (q .«send_id») (those (available t (q .conn .pair)) (requested l))
-  -- "With no count at its stop, accepted = accepted at the start + true arrivals, and dropped = dropped at the start + the others that document 01 counts"
+  -- "With no count at its stop, accepted = accepted at the start + true arrivals, and dropped = dropped at the start + the others that
+  -- document 01 counts"
   pub accepted : NoStop (after t q l) → after t q l .accepted ≡ q .accepted + trues l
   pub dropped : NoStop (after t q l) → sum (after t q l .drops) ≡ sum (q .drops) + others l
   -- what no arrival changes
   pub rest : (after t q l .conn ≡ q .conn) × (after t q l .sent ≡ q .sent) × (after t q l .«ask_id» ≡ q .«ask_id»)
   -- "two orders of the same arrivals then end alike": "A count's stop is looked for after the list; of two orders, after both."
-  pub orders : (k : List Arrival) → List·Permᴰ (map arrival l) k → NoStop (after t q l) → NoStop (judgeAll t q k .state) → Alike (after t q l) (judgeAll t q k .state)
+  pub orders : (k : List Arrival) → List·Permᴰ (map arrival l) k → NoStop (after t q l) → NoStop (judgeAll t q k .state)
+      → Alike (after t q l) (judgeAll t q k .state)

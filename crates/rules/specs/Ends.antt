@@ -3,8 +3,9 @@
 use Prim.Native.Nat.{ℕ, _+_, _^_, _<_}
 use mathlib.Core.Path.{_≡_}
 use mathlib.Core.Bool.{true, false}
-use mathlib.Core.List.{List, [], _∷_, _++_}
+use mathlib.Core.List.{List, _∷_, _++_}
 use lib.ListN.{length, take, drop}
+use Rattle.octets.specs.Each.{Octets}
 use Rattle.wire.specs.Header.{sourcePort, destinationPort, sequence, wellSized}
 use Rattle.keys.specs.declared.entry.Pair.{Pair}
 use Rattle.keys.specs.declared.entry.Entry.{Entry}
@@ -22,15 +23,7 @@ use Rattle.rules.specs.Segment.{malformed, ao, md5, aoAt, keyId, macIn, 
 use Rattle.rules.specs.Connection.{Arrival, localAddress, remoteAddress, isOpen, arriving, placeOn, slots}
 use Rattle.rules.specs.Calls.{outgoing, signed, output}
 
--- What a value of a Rattle type is known to be, where it matters: bytes are below 256, references below 2 ^ 64, ISNs below 2 ^ 32.
-
-abbrev pub Each : {A : Type 0} → (A → Type 0) → List A → Type 0
-Each P [] = Unit {0}
-Each P (x ∷ l) = P x × Each P l
-
-abbrev pub Bytes : List ℕ → Type 0
-Bytes s = Each (λ (b : ℕ). b < 256) s
-
+-- What a value of a Rattle type is known to be, where it matters: references are below 2 ^ 64, ISNs below 2 ^ 32, arrays full.
 pub record Typed (q : State) : Type 0 where
   pub sent : q .sent < 2 ^ 64
   pub seen : q .seen < 2 ^ 64
@@ -79,22 +72,23 @@ pub record SignedAt (q : State) (e : Entry) (x : ℕ) (bytes : List ℕ) : Type 
   pub table : List ℕ
   pub unsigned : List ℕ
   pub out : List ℕ
-  pub octets : Bytes unsigned
+  pub octets : Octets unsigned
   pub answer : signed table unsigned out q .answer ≡ S.Signed (length bytes)
   pub wrote : bytes ≡ take (length bytes) (output table unsigned out q)
   pub under : outgoing table q .entry ≡ e
   pub position : placeOn (q .conn) (q .sent) (sequence unsigned) ≡ At x
 
--- "it holds the mirrored key in a valid table": of the entry e, on the connection whose pair this end holds as p
-pub record Holds (t : Tables) (p : Pair) (e : Entry) : Type 0 where
+-- "it holds the mirrored key in a valid table": of the other end's entry e, on the connection whose pair this end holds as p and that end
+-- as q
+pub record Holds (t : Tables) (p q : Pair) (e : Entry) : Type 0 where
   pub valid : ValidTable t
   pub ours : Entry
   pub place : ℕ
   pub among : EntryAt (entries t) place ours
-  pub mirror : Mirror p ours e
+  pub mirror : Mirror p q ours e
 
--- "A true segment was signed at the other end, in a state open on this connection .., under a mirror of one of the table's entries; it arrives
--- with our state's pair and as signed, except perhaps for its checksum." Its position is x, and it asks for the key r.
+-- "A true segment was signed at the other end, in a state open on this connection .., under a mirror of one of the table's entries; it
+-- arrives with our state's pair and as signed, except perhaps for its checksum." Its position is x, and it asks for the key r.
 pub record TrueSegment (t : Tables) (l : Connection) (a : Arrival) (x r : ℕ) : Type 0 where
   pub peer : State
   pub typed : Typed peer
@@ -103,14 +97,14 @@ pub record TrueSegment (t : Tables) (l : Connection) (a : Arrival) (x r : ℕ) :
   pub theirs : Entry
   pub place : ℕ
   pub among : EntryAt (entries t) place ours
-  pub mirror : Mirror (l .pair) ours theirs
+  pub mirror : Mirror (l .pair) (peer .conn .pair) ours theirs
   pub bytes : List ℕ
   pub signed : SignedAt peer theirs x bytes
   pub delivered : Delivered (remoteAddress (l .pair)) (localAddress (l .pair)) bytes a
   pub asks : peer .«ask_id» ≡ r
 
--- "An arrival verifies if it is no bare SYN, comes with our state's pair, and its MAC bytes are, for some extension, what these rules give under
--- our ISNs and the entry for its KeyID." It has MAC bytes only if none of 20, 21, 22 applies and TCP-AO is there.
+-- "An arrival verifies if it is no bare SYN, comes with our state's pair, and its MAC bytes are, for some extension, what these rules give
+-- under our ISNs and the entry for its KeyID." It has MAC bytes only if none of 20, 21, 22 applies and TCP-AO is there.
 pub record Verifies (t : Tables) (l : Connection) (a : Arrival) : Type 0 where
   pub sized : wellSized (a .segment) ≡ true
   pub formed : malformed (a .segment) ≡ false
@@ -124,4 +118,5 @@ pub record Verifies (t : Tables) (l : Connection) (a : Arrival) : Type 0 where
   pub entry : recvEntry t (l .pair) (keyId (a .segment)) .there ≡ true
   pub extension : ℕ
   pub mac : macIn (a .segment)
-      ≡ segmentMac (recvEntry t (l .pair) (keyId (a .segment)) .entry .secret) (arriving l (a .segment)) extension (aoAt (a .segment)) (a .segment)
+      ≡ segmentMac (recvEntry t (l .pair) (keyId (a .segment)) .entry .secret) (arriving l (a .segment)) extension
+      (aoAt (a .segment)) (a .segment)

@@ -7,7 +7,7 @@ use mathlib.Core.List.{List, [], _∷_, _++_}
 use native.Mathlib.Omega.{arith}
 use lib.ListN.{length}
 use lib.Dec.{eqb, ltb, leb}
-use borrow.Author.Tests.{ltb-true, ltb-false, leb-true, eqb-true, eqb-false}
+use borrow.Author.Tests.{ltb-true, ltb-false, leb-true, eqb-true, eqb-false, ne-eqb}
 use Rattle.keys.specs.declared.entry.Entry.{Entry}
 use Rattle.keys.specs.declared.entry.Pair.{Pair}
 use Rattle.keys.specs.declared.table.Found.{Found}
@@ -15,7 +15,7 @@ use Rattle.keys.specs.declared.table.Loaded.{Loaded}
 use Rattle.keys.specs.declared.table.Loaded.the-variants.{Valid, Refused}
 use Rattle.keys.specs.Entry.{Item, items}
 use Rattle.keys.specs.Table as K
-use Rattle.keys.specs.LineLaws.{passed-first}
+use Rattle.keys.specs.FaultLaws.{number-none}
 use Rattle.keys.specs.MatchLaws.{and-true}
 use Rattle.rules.specs.declared.Outcome.{Outcome}
 use Rattle.rules.specs.declared.Outcome.the-variants.{Good, Passed, Bad}
@@ -24,7 +24,8 @@ use Rattle.rules.specs.declared.Verdict.the-variants.{Accept, Pass, Drop
 use Rattle.rules.specs.declared.Connection.{Connection}
 use Rattle.rules.specs.declared.State.{State}
 use Rattle.rules.specs.declared.Done.the-variants as D
-use Rattle.rules.specs.Numbers.{Test, first}
+use Rattle.octets.specs.Tests.{Test, first}
+use Rattle.octets.specs.TestLaws.{eachGives, first-passes}
 use Rattle.rules.specs.Connection.{Arrival, arrivalPair, pairOf, empty}
 use Rattle.rules.specs.Calls.{refuse, isRefused, refusal, verdictOf, judgeTests, check, judged, judgeSynTests, checkSyn, judgedSyn, openedPassively, unrefused, settledBy, openTests, openedWith, openedActively, askTests, asked, outgoing, signTests, checkSign, signedBy, signed}
 use Rattle.rules.specs.History.{judge, sign, ask}
@@ -81,20 +82,15 @@ numbersOf (openActively t local remote localPort remotePort isn sendId) = openNu
 
 -- The key table.
 
-abbrev eachLine : List K.Line → Bool
-eachLine [] = true
-eachLine (x ∷ l) = among (x .number) tableNumbers && eachLine l
+abbrev orNone : ℕ → Bool
+orNone n = among n (0 ∷ tableNumbers)
 
-first-number : (l : List K.Line) (m : ℕ) → eachLine l ≡ true → K.first l ≡ suc m → among (suc m) tableNumbers ≡ true
-unfolding K.first
-first-number [] m e f = let z : _≡_ {A = ℕ} 0 1 = cc in absurd (omega arith)
-first-number (x ∷ l) m e f = go (x .applies) (among (x .number) tableNumbers) refl refl (first-number l m)
-  where
-    go : (b c : Bool) → x .applies ≡ b → among (x .number) tableNumbers ≡ c → (eachLine l ≡ true → K.first l ≡ suc m → among (suc m) tableNumbers ≡ true)
-        → among (suc m) tableNumbers ≡ true
-    go b false p q ih = let z : _≡_ {A = ℕ} 0 1 = cc (rw q at e) in absurd (omega arith)
-    go true true p q ih = sym (ap (λ (n : ℕ). among n tableNumbers) (rw p at f)) ∙ q
-    go false true p q ih = ih (rw q at e) (rw p at f)
+first-number : (l : List (Test ℕ)) (m : ℕ) → eachGives orNone l ≡ true → K.numberOf l ≡ suc m → among (suc m) tableNumbers ≡ true
+unfolding K.numberOf
+first-number l m e f =
+    let o : orNone (suc m) ≡ true = sym (ap orNone f) ∙ first-passes orNone l 0 e refl in
+    let n : eqb (suc m) 0 ≡ false = ne-eqb (suc m) 0 (λ z. omega arith) in
+    rw n at o
 
 -- the walk stops at its limit: the loader's counts and indices stay at or below it
 abbrev pub Within : ℕ → Loaded → Type 0
@@ -108,20 +104,20 @@ less i limit h n = go (ltb i limit) refl
     go true e = omega (arith, ltb-true i limit e)
     go false e = absurd (n (omega (arith, ltb-false i limit e)))
 
-judged-within : (limit : ℕ) (l : List Item) (i : ℕ) (before : List Entry) → i ≤ limit → Within limit (K.judged limit i before l)
-unfolding K.judged
-judged-within limit [] i before h = h
-judged-within limit (x ∷ l) i before h = go (K.first (K.lines limit i before x)) refl (judged-within limit l (i + 1) (before ++ (x .entry ∷ [])))
+from-within : (limit : ℕ) (l : List Item) (i : ℕ) (before : List Entry) → i ≤ limit → Within limit (K.loadedFrom limit i before l)
+unfolding K.loadedFrom
+from-within limit [] i before h = h
+from-within limit (x ∷ l) i before h = go (K.numberOf (K.loadTests limit i before x)) refl (from-within limit l (i + 1) (before ++ (x .entry ∷ [])))
   where
-    go : (m : ℕ) → K.first (K.lines limit i before x) ≡ m → (i + 1 ≤ limit → Within limit (K.judged limit (i + 1) (before ++ (x .entry ∷ [])) l))
-        → Within limit (K.judged limit i before (x ∷ l))
-    go zero q ih = rw q (ih (less i limit h (eqb-false i limit (passed-first (K.lines limit i before x) refl q .0))))
-    go (suc m) q ih = rw q (first-number (K.lines limit i before x) m refl q, h)
+    go : (m : ℕ) → K.numberOf (K.loadTests limit i before x) ≡ m → (i + 1 ≤ limit → Within limit (K.loadedFrom limit (i + 1) (before ++ (x .entry ∷ [])) l))
+        → Within limit (K.loadedFrom limit i before (x ∷ l))
+    go zero q ih = rw q (ih (less i limit h (eqb-false i limit (number-none (K.loadTests limit i before x) refl q .0))))
+    go (suc m) q ih = rw q (first-number (K.loadTests limit i before x) m refl q, h)
 
 -- what a table gives: at most 64 entries, or 10 to 17 with an index up to 64
 pub checked-within : (t : K.Tables) → Within K.maxEntries (K.checked t)
 unfolding K.loaded
-checked-within t = judged-within K.maxEntries (items 0 t) 0 [] (omega arith)
+checked-within t = from-within K.maxEntries (items 0 t) 0 [] (omega arith)
 
 -- What the tests of a call come to.
 

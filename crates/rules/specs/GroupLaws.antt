@@ -4,11 +4,10 @@ use Prim.Native.Nat.{ℕ}
 use mathlib.Core.Path.{_≡_, ap}
 use mathlib.Core.Bool.{not, true, false}
 use mathlib.Core.List.{List, _∷_}
-use Rattle.wire.specs.Tests.{any}
+use Rattle.octets.specs.Tests.{any, joined, first}
 use Rattle.wire.specs.Header.{sizeFaults, wellSized}
 use Rattle.rules.specs.declared.Outcome.{Outcome}
-use Rattle.rules.specs.Numbers.{joined, first}
-use Rattle.rules.specs.NumberLaws.{NoneApplies, first-none, first-past, none-any, none-joined, joined-none}
+use Rattle.octets.specs.TestLaws.{NoneApplies, first-none, first-past, none-any, none-joined, joined-none}
 use Rattle.rules.specs.Calls.{refuse, lengthTests, Groups, segmentGroups, inOrder}
 
 -- no test of any group applies

@@ -15,7 +15,7 @@ use Rattle.keys.specs.SearchLaws.{valid-proper, send-holder}
 use Rattle.rules.specs.declared.State.{State}
 use Rattle.rules.specs.declared.Outcome.{Outcome}
 use Rattle.rules.specs.declared.Signing.the-variants as S
-use Rattle.rules.specs.Numbers.{Test, tests}
+use Rattle.octets.specs.Tests.{Test, tests}
 use Rattle.rules.specs.Calls.{refuse, outgoing, addedBytes, growthTests, signed}
 use Rattle.rules.specs.SigningLaws.{signs-good, signed-good}
 

@@ -14,7 +14,7 @@ use Rattle.rules.specs.declared.Outcome.{Outcome}
 use Rattle.rules.specs.declared.Outcome.the-variants.{Good, Passed, Bad}
 use Rattle.rules.specs.declared.Verdict.{Verdict}
 use Rattle.rules.specs.declared.State.{State}
-use Rattle.rules.specs.Numbers.{first}
+use Rattle.octets.specs.Tests.{first}
 use Rattle.rules.specs.Connection.{pairOf, Arrival, isOpen, extensionOf, value, stop, slots, slot, isCounted, opening, empty, withAsked}
 use Rattle.rules.specs.Calls.{check, checkSyn, checkSign, askTests, verdictOf, afterJudging, judged, openedBy, openedPassively, settledBy, unrefused, openTests, openedWith, openedActively, asked, outgoing, signedBy, signed}
 use Rattle.rules.specs.Demand3.{sum}

@@ -1,10 +1,11 @@
 -- Demand 3 is not empty: a true arrival and an arrival of the other kind, on one connection. The MAC is not opened: it is whatever it is.
-use Prim.Native.Nat.{ℕ, _+_, _-_}
+use Prim.Native.Nat.{ℕ, zero, suc, _+_, _-_, _<_}
 use mathlib.Core.Path.{_≡_, refl, ap, sym, _∙_, subst⁻¹}
 use mathlib.Core.List.{List, [], _∷_, _++_}
 use native.Mathlib.Omega.{arith}
 use lib.ListN.{length, take, drop, replicate}
 use lib.Seq.{take-at}
+use Rattle.octets.specs.Each.{Each, Octets}
 use Rattle.wire.specs.Prefix.{agree, clearTo}
 use Rattle.wire.specs.Options.{optionsOf, readFrom}
 use Rattle.keys.specs.declared.entry.Entry.{Entry}
@@ -12,7 +13,7 @@ use Rattle.keys.specs.Algorithm.{macBytes}
 use Rattle.keys.specs.Entry.{knownKind, isFamily, body, width, sideOf, selectorOf, idsOf, secretOf, entryOf, item, items, entriesOf, entries}
 use Rattle.keys.specs.PlaceLaws as Places
 use Rattle.keys.specs.Match.{holds, matches, share, clash}
-use Rattle.keys.specs.Table.{first, clashing, judged, loaded, found, answers}
+use Rattle.keys.specs.Table.{numberOf, clashing, loadedFrom, loaded, found, answers}
 use Rattle.rules.specs.declared.Connection.{Connection}
 use Rattle.rules.specs.declared.State.{State}
 use Rattle.rules.specs.declared.Outcome.{Outcome}
@@ -22,7 +23,7 @@ use Rattle.rules.specs.declared.Signing.the-variants as S
 use Rattle.rules.specs.Mac.{segmentMac}
 use Rattle.rules.specs.MacLaws.{length-mac}
 use Rattle.rules.specs.RoundTrip.{Fresh, length-signed}
-use Rattle.rules.specs.Connection.{leaving, extensionOf}
+use Rattle.rules.specs.Connection.{leaving, extensionOf, slots}
 use Rattle.rules.specs.Segment.{signedWith}
 use Rattle.rules.specs.Calls.{outgoing, addedBytes, checkSign, signedSegment, written, signedBy, outputBy, signed, output}
 use Rattle.rules.specs.Ends.{rechecked, SignedAt, TrueSegment, Verifies}
@@ -58,7 +59,7 @@ peer =
       «send_id» = 84;
       «ask_id» = 61;
       accepted = 0;
-      drops = replicate 10 0;
+      drops = replicate slots 0;
     }
 
 -- sequence number 16, ACK, four options of kind 1, three bytes of data
@@ -77,7 +78,7 @@ out = replicate 60 0
 
 -- it signs, at the position behind the rollover
 signs : checkSign (table 84 61) segment 60 peer ≡ Good 4294967312 61
-unfolding checkSign position optionsOf readFrom agree clearTo macBytes knownKind isFamily body width sideOf selectorOf idsOf secretOf entryOf item items entriesOf holds matches share clash first clashing judged loaded found answers
+unfolding checkSign position optionsOf readFrom agree clearTo macBytes knownKind isFamily body width sideOf selectorOf idsOf secretOf entryOf item items entriesOf holds matches share clash numberOf clashing loadedFrom loaded found answers
 signs = refl
 
 under : outgoing (table 84 61) peer .entry ≡ theirs
@@ -112,6 +113,11 @@ unfolding output
 wrote =
     sym (ap (λ (o : Outcome). take (length bytes) (outputBy peer segment out (outgoing (table 84 61) peer .entry) o)) signs ∙ ap (λ (e : Entry). take (length bytes) (written (signedSegment e peer 4294967312 segment) out)) under ∙ take-at bytes (drop (length bytes) out) (length bytes) refl)
 
+octets : (s : List ℕ) → Each (λ (b : ℕ). b < 256) s → Octets s
+octets [] b i = omega arith
+octets (x ∷ s) b zero = b .0
+octets (x ∷ s) b (suc i) = octets s (b .1) i
+
 signing : SignedAt peer theirs 4294967312 bytes
 unfolding signed position
 signing =
@@ -119,7 +125,7 @@ signing =
       table = table 84 61;
       unsigned = segment;
       out = out;
-      octets = omega arith;
+      octets = octets segment (omega arith);
       answer = ap (λ (o : Outcome). signedBy peer segment (outgoing (table 84 61) peer) o .answer) signs ∙ ap (λ (n : ℕ). S.Signed (27 + n)) added ∙ ap S.Signed (sym long);
       wrote = wrote;
       under = under;

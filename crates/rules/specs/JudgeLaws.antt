@@ -16,8 +16,8 @@ use Rattle.keys.specs.Table.{Tables, checked, recvEntry, ValidTable}
 use Rattle.rules.specs.declared.Outcome.{Outcome}
 use Rattle.rules.specs.declared.Outcome.the-variants.{Good, Passed, Bad}
 use Rattle.rules.specs.declared.Connection.{Connection}
-use Rattle.rules.specs.Numbers.{joined}
-use Rattle.rules.specs.NumberLaws.{NoneApplies, none-append, first-passes, none-applied}
+use Rattle.octets.specs.Tests.{joined}
+use Rattle.octets.specs.TestLaws.{NoneApplies, none-append, first-passes, none-applied}
 use Rattle.rules.specs.GroupLaws.{Clear, none-clear, past-input, sized-of}
 use Rattle.rules.specs.Segment.{ao, md5, keyId, isBareSyn}
 use Rattle.rules.specs.Connection.{sized, Arrival, localAddress, remoteAddress, isOpen, arriving, placeOn, value, extensionOf, slot, isCounted}

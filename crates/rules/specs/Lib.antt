@@ -1,4 +1,3 @@
-pub mod Numbers
 pub mod Position
 pub mod Mac
 pub mod Segment
@@ -9,7 +8,7 @@ pub mod AnswerLaws
 pub mod Ends
 pub mod Demand3
 pub mod History
-pub mod NumberLaws
+pub mod Kept
 pub mod GroupLaws
 pub mod PositionLaws
 pub mod MacLaws
@@ -24,6 +23,7 @@ pub mod AcceptedLaws
 pub mod Demand2
 pub mod OrderLaws
 pub mod HistoryLaws
+pub mod KeptLaws
 pub mod Refusals
 pub mod GivenNumbers
 pub mod Examples

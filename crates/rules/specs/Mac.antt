@@ -32,7 +32,8 @@ context f =
 unfoldable pub derivationInput : ℕ → Flow → List ℕ
 derivationInput bits f = (1 ∷ 0x54 ∷ 0x43 ∷ 0x50 ∷ 0x2d ∷ 0x41 ∷ 0x4f ∷ []) ++ context f ++ bytes16 bits
 
--- "Algorithm 2 applies AES-CMAC under the master key if that has 16 bytes; otherwise under AES-CMAC of the master key with an all-zero key."
+-- "Algorithm 2 applies AES-CMAC under the master key if that has 16 bytes; otherwise under AES-CMAC of the master key with an all-zero
+-- key."
 unfoldable pub aesKey : List ℕ → List ℕ
 aesKey k = cond (eqb (length k) 16) k (cmac (replicate 16 0) k)
 
@@ -47,9 +48,9 @@ unfoldable pub trafficKey : Secret → Flow → List ℕ
 trafficKey s f = applied (s .algorithm) (derivationKey (s .algorithm) (keyOf s)) (derivationInput (outputBits (s .algorithm)) f)
 
 -- "the IP pseudo-header as for the checksum, with the whole segment's length": n bytes of TCP, protocol 6 (RFC 9293 §3.1, RFC 8200 §8.1)
-unfoldable pub pseudoHeader : Flow → ℕ → List ℕ
-pseudoHeader f n =
-    f .source ++ f .destination ++ cond (eqb (length (f .source)) 4) ((0 ∷ 6 ∷ []) ++ bytes16 n) (bytes32 n ++ (0 ∷ 0 ∷ 0 ∷ 6 ∷ []))
+unfoldable pub pseudoHeader : List ℕ → List ℕ → ℕ → List ℕ
+pseudoHeader source destination n =
+    source ++ destination ++ cond (eqb (length source) 4) ((0 ∷ 6 ∷ []) ++ bytes16 n) (bytes32 n ++ (0 ∷ 0 ∷ 0 ∷ 6 ∷ []))
 
 -- n bytes from i on made zero
 abbrev pub blank : ℕ → ℕ → List ℕ → List ℕ
@@ -66,7 +67,8 @@ coveredHeader all at n h = cond all (zeroed at n h) (take 20 (zeroed at n h) ++ 
 -- "In this order: the extension (4 bytes); the IP pseudo-header ..; the TCP header ..; the data." What stands before the data, of a
 -- segment of len bytes whose header is h:
 unfoldable pub front : Secret → Flow → ℕ → ℕ → ℕ → List ℕ → List ℕ
-front s f extension at len h = bytes32 extension ++ pseudoHeader f len ++ coveredHeader (allOptions s) at (s .«mac_bytes») h
+front s f extension at len h =
+    bytes32 extension ++ pseudoHeader (f .source) (f .destination) len ++ coveredHeader (allOptions s) at (s .«mac_bytes») h
 
 unfoldable pub message : Secret → Flow → ℕ → ℕ → List ℕ → List ℕ
 message s f extension at segment =

@@ -64,5 +64,5 @@ unfolding segmentMac trafficKey message front
 mac-agree s r f extension at segment a =
     λ i. take (a .mac i)
     (applied (a .algorithm i) (applied (a .algorithm i) (derivationKey (a .algorithm i) (a .key i)) (derivationInput (outputBits (a .algorithm i)) f))
-    (bytes32 extension ++ pseudoHeader f (length segment)
+    (bytes32 extension ++ pseudoHeader (f .source) (f .destination) (length segment)
     ++ coveredHeader (eqb (a .flags i % 2) 1) at (a .mac i) (take (headerEnd segment) segment) ++ drop (headerEnd segment) segment))

@@ -8,6 +8,7 @@ use native.Mathlib.Omega.{arith}
 use lib.ListN.{length}
 use lib.Dec.{eqb}
 use borrow.Author.Tests.{eqb-true}
+use Rattle.octets.specs.Each.{Each}
 use Rattle.keys.specs.declared.entry.Pair.{Pair}
 use Rattle.keys.specs.Table.{Tables, ValidTable}
 use Rattle.rules.specs.declared.Outcome.the-variants.{Good, Bad}
@@ -18,7 +19,7 @@ use Rattle.rules.specs.declared.State.{State}
 use Rattle.rules.specs.declared.Judged.{Judged}
 use Rattle.rules.specs.Connection.{Arrival, sized, isOpen, extensionOf, slots, isCounted, available, nextKey, withAccepted, withDrop}
 use Rattle.rules.specs.Calls.{check, judgedBy, judged}
-use Rattle.rules.specs.Ends.{Each, Allowed, TrueSegment, Verifies}
+use Rattle.rules.specs.Ends.{Allowed, TrueSegment, Verifies}
 use Rattle.rules.specs.Demand3.{judgeAll, Arriving, real, other, arrival, positions, requested, trues, others, AllFit, largest, those, lastOr, Within, Close, NoStop, Alike, after, Given, Demand3}
 use Rattle.rules.specs.History.{accepts, countedDrops}
 use Rattle.rules.specs.JudgeLaws.{other-bad}

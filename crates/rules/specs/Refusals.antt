@@ -23,8 +23,8 @@ use Rattle.rules.specs.declared.Signing.the-variants as S
 use Rattle.rules.specs.declared.Done.{Done}
 use Rattle.rules.specs.declared.Done.the-variants as D
 use Rattle.rules.specs.declared.State.{State}
-use Rattle.rules.specs.Numbers.{first}
-use Rattle.rules.specs.NumberLaws.{NoneApplies, none-applied}
+use Rattle.octets.specs.Tests.{first}
+use Rattle.octets.specs.TestLaws.{NoneApplies, none-applied}
 use Rattle.rules.specs.Segment.{keyId}
 use Rattle.rules.specs.Connection.{pairOf, Arrival, arrivalPair, isOpen, isCounted, slot, countAt, countDrop, empty, opening, withDrop, withAsked}
 use Rattle.rules.specs.Calls.{check, checkSyn, verdictOf, afterJudging, judged, judgedSyn, openedBy, openedPassively, settledBy, unrefused, openTests, openedWith, openedActively, askTests, asked, outgoing, addedBytes, signTests, checkSign, signedSegment, signedBy, outputBy, signed, output}

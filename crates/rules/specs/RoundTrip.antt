@@ -124,7 +124,7 @@ module _ (h : Head) (options rest : List ℕ) where
   -- what the MAC covers of it, where the MAC has n bytes
   abbrev covered : Secret → Flow → ℕ → ℕ → ℕ → ℕ → List ℕ
   covered s f extension k r n =
-      bytes32 extension ++ pseudoHeader f (length plain + (4 + n))
+      bytes32 extension ++ pseudoHeader (f .source) (f .destination) (length plain + (4 + n))
       ++ shortened (allOptions s) n (cells h ((4 + n) / 4) 0 0 ++ ((29 ∷ (4 + n) ∷ k ∷ r ∷ replicate n 0) ++ options)) ++ rest
 
   module _ (whole : headerEnd plain ≡ 20 + length options) where
@@ -216,8 +216,10 @@ module _ (h : Head) (options rest : List ℕ) where
         message-arrived s f extension e =
             ap₂ (λ (a b : List ℕ). front s f extension 20 (length arrived) a ++ b) header-arrived data-arrived
             ∙ ap (λ (n : ℕ). front s f extension 20 n (cells h words c d ++ (option ++ options)) ++ rest) length-arrived
-            ∙ ap (λ (n : ℕ). bytes32 extension ++ pseudoHeader f (length plain + (4 + length m)) ++ coveredHeader (allOptions s) 20 n (cells h words c d ++ (option ++ options)) ++ rest) e
-            ∙ ap (λ (z : List ℕ). bytes32 extension ++ pseudoHeader f (length plain + (4 + length m)) ++ shortened (allOptions s) (length m) z ++ rest) zeroed-arrived
+            ∙ ap (λ (n : ℕ). bytes32 extension ++ pseudoHeader (f .source) (f .destination) (length plain + (4 + length m))
+            ++ coveredHeader (allOptions s) 20 n (cells h words c d ++ (option ++ options)) ++ rest) e
+            ∙ ap (λ (z : List ℕ). bytes32 extension ++ pseudoHeader (f .source) (f .destination) (length plain + (4 + length m))
+            ++ shortened (allOptions s) (length m) z ++ rest) zeroed-arrived
 
 -- what signing needs of a segment
 pub record Fresh (s : List ℕ) : Type 0 where

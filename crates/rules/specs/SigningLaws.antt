@@ -17,7 +17,7 @@ use Rattle.rules.specs.declared.Outcome.{Outcome}
 use Rattle.rules.specs.declared.Outcome.the-variants.{Good, Passed, Bad}
 use Rattle.rules.specs.declared.State.{State}
 use Rattle.rules.specs.declared.Signing.the-variants as S
-use Rattle.rules.specs.NumberLaws.{NoneApplies, first-none, none-applied}
+use Rattle.octets.specs.TestLaws.{NoneApplies, first-none, none-applied}
 use Rattle.rules.specs.JudgeLaws.{isBad, refusal-bad}
 use Rattle.rules.specs.Segment.{ao, md5, isBareSyn}
 use Rattle.rules.specs.Connection.{isOpen, placeOn, located, value}

@@ -32,6 +32,9 @@ pub struct Connection {
     pub peer_isn: u32,
 }
 
+// How many drops are counted, 20 to 29, each in a place of its own: `slots` of specs/Connection.
+pub const SLOTS: usize = 10;
+
 // A connection's state. `sent` is the reference of the direction that this end signs, `seen` that of the arriving one; `send_id` is the
 // outgoing key's SendID (current_key), `ask_id` the RecvID asked of the peer (rnext_key). `drops` counts the drops 20 to 29.
 pub struct State {
@@ -41,7 +44,7 @@ pub struct State {
     pub send_id: u8,
     pub ask_id: u8,
     pub accepted: u64,
-    pub drops: [u64; 10],
+    pub drops: [u64; SLOTS],
 }
 
 // "The new state stands beside it." The index is an entry's where the table is refused (10 to 17), else 0.

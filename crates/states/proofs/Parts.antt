@@ -8,7 +8,7 @@ use lib.ListN.{length, getD, set, take, drop, replicate, length-append, length-t
 use lib.Seq.{paste, take-at, drop-at, take-paste, drop-paste, take-length, take-add, take-all, take-suc-set, drop-drop}
 use Rattle.octets.specs.Octets.{get16, bytes16, bytes32, bytes64}
 use Rattle.keys.specs.Entry.{padded}
-use Rattle.keys.specs.MatchLaws.{Octets}
+use Rattle.octets.specs.Each.{Octets}
 use Rattle.rules.specs.Connection.{slots}
 use Rattle.rules.specs.declared.Connection.{Connection}
 use Rattle.rules.specs.declared.State.{State}
@@ -81,15 +81,18 @@ put p v z o q at n m e h l k r = (
   length-append p v ∙ (λ i. h i + l i),
 )
 
-pub all-put : (f l r n d o₁ o₂ o₃ o₄ o₅ : List ℕ) → length f ≡ 16 → length l ≡ 16 → length r ≡ 16 → length n ≡ 3 → length d ≡ 10
-    → o₁ ≡ paste (replicate 152 0) 0 f (length f) → o₂ ≡ paste o₁ 16 l (length l) → o₃ ≡ paste o₂ 32 r (length r)
-    → o₄ ≡ paste o₃ 48 (wordBytes n) (8 * length n) → o₅ ≡ paste o₄ 72 (wordBytes d) (8 * length d) → o₅ ≡ f ++ (l ++ (r ++ (wordBytes n ++ wordBytes d)))
+pub all-put : (f l r n d o₁ o₂ o₃ o₄ o₅ : List ℕ) → length f ≡ 16 → length l ≡ 16 → length r ≡ 16 → length n ≡ 3 → length d ≡ slots
+    → o₁ ≡ paste (replicate stateBytes 0) 0 f (length f) → o₂ ≡ paste o₁ localAt l (length l) → o₃ ≡ paste o₂ remoteAt r (length r)
+    → o₄ ≡ paste o₃ sentAt (wordBytes n) (8 * length n) → o₅ ≡ paste o₄ dropsAt (wordBytes d) (8 * length d)
+    → o₅ ≡ f ++ (l ++ (r ++ (wordBytes n ++ wordBytes d)))
 all-put f l r n d o₁ o₂ o₃ o₄ o₅ hf hl hr hn hd e₁ e₂ e₃ e₄ e₅ =
-    let p₁ = put [] f (replicate 152 0) (replicate 152 0) o₁ 0 16 (length f) refl refl hf refl e₁ in
-    let p₂ = put f l (replicate 136 0) o₁ o₂ 16 16 (length l) (p₁ .0) hf hl refl e₂ in
-    let p₃ = put (f ++ l) r (replicate 120 0) o₂ o₃ 32 16 (length r) (p₂ .0) (p₂ .1) hr refl e₃ in
-    let p₄ = put ((f ++ l) ++ r) (wordBytes n) (replicate 104 0) o₃ o₄ 48 24 (8 * length n) (p₃ .0) (p₃ .1) (length-words n ∙ ap (λ (k : ℕ). 8 * k) hn) (sym (length-words n)) e₄ in
-    let p₅ = put (((f ++ l) ++ r) ++ wordBytes n) (wordBytes d) (replicate 80 0) o₄ o₅ 72 80 (8 * length d) (p₄ .0) (p₄ .1) (length-words d ∙ ap (λ (k : ℕ). 8 * k) hd) (sym (length-words d)) e₅ in
+    let p₁ = put [] f (replicate stateBytes 0) (replicate stateBytes 0) o₁ 0 16 (length f) refl refl hf refl e₁ in
+    let p₂ = put f l (replicate (stateBytes - localAt) 0) o₁ o₂ localAt 16 (length l) (p₁ .0) hf hl refl e₂ in
+    let p₃ = put (f ++ l) r (replicate (stateBytes - remoteAt) 0) o₂ o₃ remoteAt 16 (length r) (p₂ .0) (p₂ .1) hr refl e₃ in
+    let p₄ = put ((f ++ l) ++ r) (wordBytes n) (replicate (stateBytes - sentAt) 0) o₃ o₄ sentAt 24 (8 * length n)
+    (p₃ .0) (p₃ .1) (length-words n ∙ ap (λ (k : ℕ). 8 * k) hn) (sym (length-words n)) e₄ in
+    let p₅ = put (((f ++ l) ++ r) ++ wordBytes n) (wordBytes d) (replicate (8 * slots) 0) o₄ o₅ dropsAt (8 * slots) (8 * length d)
+    (p₄ .0) (p₄ .1) (length-words d ∙ ap (λ (k : ℕ). 8 * k) hd) (sym (length-words d)) e₅ in
     p₅ .0 ∙ append-nil ((((f ++ l) ++ r) ++ wordBytes n) ++ wordBytes d) ∙ simp append-assoc
 
 -- sixteen bytes fill a field

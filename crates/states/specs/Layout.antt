@@ -1,4 +1,4 @@
--- A connection's state as bytes: BOUNDARY.md, "The state". Integers are big-endian. Every string of so many bytes is a state.
+-- A connection's state as bytes: docs/BOUNDARY.md, "The state". Integers are big-endian. Every string of so many bytes is a state.
 -- Fields that later requests add come behind these, and counts behind the counts: what stands here keeps its place.
 use Prim.Native.Nat.{ℕ, zero, suc, _+_, _*_, _^_}
 use mathlib.Core.List.{List, [], _∷_, _++_}

@@ -8,23 +8,18 @@ use native.Mathlib.Omega.{arith}
 use lib.ListN.{length, getD, take, drop, length-drop, drop-of-length-le, take-append-drop}
 use lib.Seq.{take-at, drop-at, drop-cons, drop-drop, getD-drop}
 use Rattle.octets.specs.Octets.{get16, get32, bytes16, bytes32, bytes64}
-use Rattle.keys.specs.MatchLaws.{Octets}
+use Rattle.octets.specs.Each.{Octets}
 use Rattle.rules.specs.declared.State.{State}
 use Rattle.rules.specs.Connection.{slots}
+use Rattle.rules.specs.Ends.{Typed}
 use Rattle.states.specs.Layout.{familyAt, stageAt, sendIdAt, askIdAt, localPortAt, remotePortAt, isnAt, peerIsnAt, localAt, remoteAt, sentAt, seenAt, acceptedAt, dropsAt, stateBytes, get64, wordsAt, wordBytes, decodePair, decodeConnection, decodeOf, Row, rows, joined, encodeOf}
 use Rattle.states.specs.WordLaws.{back16, back32, back64, from16, from32, from64, forth16, forth32, forth64, length-words, words-back, words-from, words-forth}
 
 -- What every value of the type `State` has: its arrays are full, and each number is within its width.
 pub record Value (s : State) : Type 0 where
-  pub local : length (s .conn .pair .local) ≡ 16
-  pub remote : length (s .conn .pair .remote) ≡ 16
-  pub counts : length (s .drops) ≡ slots
+  pub typed : Typed s
   pub local-port : s .conn .pair .«local_port» < 2 ^ 16
   pub remote-port : s .conn .pair .«remote_port» < 2 ^ 16
-  pub isn : s .conn .isn < 2 ^ 32
-  pub peer-isn : s .conn .«peer_isn» < 2 ^ 32
-  pub sent : s .sent < 2 ^ 64
-  pub seen : s .seen < 2 ^ 64
   pub accepted : s .accepted < 2 ^ 64
   pub drops : (i : ℕ) → getD (s .drops) i 0 < 2 ^ 64
 
@@ -64,10 +59,10 @@ Placed n (r ∷ l) end = (r .at ≡ n) × Placed (n + length (r .bytes)) l end
 pub in-place : (s : State) → Value s → Placed 0 (rows s) stateBytes
 unfolding rows
 in-place s v =
-    let a = v .local in
-    let b = v .remote in
+    let a = v .typed .local in
+    let b = v .typed .remote in
     let c = length-words (s .drops) in
-    let d = v .counts in
+    let d = v .typed .counts in
     (refl, (refl, (refl, (refl, (refl, (refl, (refl, (refl, (refl, (omega arith, (omega arith, (omega arith, (omega arith, (omega arith, omega arith))))))))))))))
 
 -- "reading and writing it back gives the same bytes" ..
@@ -114,12 +109,12 @@ module _ (b : List ℕ) (whole : length b ≡ stateBytes) (o : Octets b) where
 
 module _ (s : State) (v : Value s) where
   remote-from : drop 16 (fromLocal s) ≡ fromRemote s
-  remote-from = drop-at (s .conn .pair .local) (fromRemote s) 16 (v .local)
+  remote-from = drop-at (s .conn .pair .local) (fromRemote s) 16 (v .typed .local)
 
   numbers-from : (k : ℕ) → drop (32 + k) (fromLocal s) ≡ drop k (fromNumbers s)
   numbers-from k =
       sym (drop-drop k 32 (fromLocal s))
-      ∙ ap (drop k) (sym (drop-drop 16 16 (fromLocal s)) ∙ ap (drop 16) remote-from ∙ drop-at (s .conn .pair .remote) (fromNumbers s) 16 (v .remote))
+      ∙ ap (drop k) (sym (drop-drop 16 16 (fromLocal s)) ∙ ap (drop 16) remote-from ∙ drop-at (s .conn .pair .remote) (fromNumbers s) 16 (v .typed .remote))
 
   read : decodeOf (headOf s ++ fromLocal s) ≡ s
   unfolding decodeOf decodeConnection decodePair wordBytes
@@ -133,18 +128,18 @@ module _ (s : State) (v : Value s) where
                     family = s .conn .pair .family;
                     «local_port» = back16 (s .conn .pair .«local_port») (v .local-port) i;
                     «remote_port» = back16 (s .conn .pair .«remote_port») (v .remote-port) i;
-                    local = take-at (s .conn .pair .local) (fromRemote s) 16 (v .local) i;
-                    remote = (ap (take 16) remote-from ∙ take-at (s .conn .pair .remote) (fromNumbers s) 16 (v .remote)) i;
+                    local = take-at (s .conn .pair .local) (fromRemote s) 16 (v .typed .local) i;
+                    remote = (ap (take 16) remote-from ∙ take-at (s .conn .pair .remote) (fromNumbers s) 16 (v .typed .remote)) i;
                   };
-              isn = back32 (s .conn .isn) (v .isn) i;
-              «peer_isn» = back32 (s .conn .«peer_isn») (v .peer-isn) i;
+              isn = back32 (s .conn .isn) (v .typed .isn) i;
+              «peer_isn» = back32 (s .conn .«peer_isn») (v .typed .peer) i;
             };
-        sent = (from64 (headOf s ++ fromLocal s) sentAt ∙ ap (λ (l : List ℕ). get64 l 0) (numbers-from 0) ∙ back64 (s .sent) (v .sent)) i;
-        seen = (from64 (headOf s ++ fromLocal s) seenAt ∙ ap (λ (l : List ℕ). get64 l 0) (numbers-from 8) ∙ back64 (s .seen) (v .seen)) i;
+        sent = (from64 (headOf s ++ fromLocal s) sentAt ∙ ap (λ (l : List ℕ). get64 l 0) (numbers-from 0) ∙ back64 (s .sent) (v .typed .sent)) i;
+        seen = (from64 (headOf s ++ fromLocal s) seenAt ∙ ap (λ (l : List ℕ). get64 l 0) (numbers-from 8) ∙ back64 (s .seen) (v .typed .seen)) i;
         «send_id» = s .«send_id»;
         «ask_id» = s .«ask_id»;
         accepted = (from64 (headOf s ++ fromLocal s) acceptedAt ∙ ap (λ (l : List ℕ). get64 l 0) (numbers-from 16) ∙ back64 (s .accepted) (v .accepted)) i;
-        drops = (words-from slots (headOf s ++ fromLocal s) dropsAt 0 ∙ ap (λ (l : List ℕ). wordsAt slots l 0) (numbers-from 24) ∙ (rw (v .counts) at (words-back [] (s .drops) (v .drops)))) i;
+        drops = (words-from slots (headOf s ++ fromLocal s) dropsAt 0 ∙ ap (λ (l : List ℕ). wordsAt slots l 0) (numbers-from 24) ∙ (rw (v .typed .counts) at (words-back [] (s .drops) (v .drops)))) i;
       }
 
   pub decode-encode : decodeOf (encodeOf s) ≡ s

@@ -7,7 +7,7 @@ use native.Mathlib.Omega.{arith}
 use lib.ListN.{length, getD, take, drop, length-append, length-drop}
 use lib.Seq.{drop-at, drop-drop, getD-drop, take-add}
 use Rattle.octets.specs.Octets.{be16, be32, get16, get32, bytes16, bytes32, bytes64}
-use Rattle.keys.specs.MatchLaws.{Octets}
+use Rattle.octets.specs.Each.{Octets}
 use Rattle.states.specs.Layout.{get64, wordsAt, wordBytes}
 
 -- From a number to its bytes and back.

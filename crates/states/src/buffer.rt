@@ -1,4 +1,4 @@
-// A state in the bytes that are lent for it: BOUNDARY.md, "The state". Writing assumes of the bytes that they have a state's length.
+// A state in the bytes that are lent for it: docs/BOUNDARY.md, "The state". Writing assumes of the bytes that they have a state's length.
 ghost use mathlib.Core.Path.{_≡_};
 ghost use mathlib.Core.Bool.{cond};
 ghost use lib.ListN.{length};

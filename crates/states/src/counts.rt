@@ -4,6 +4,7 @@ ghost use mathlib.Core.Path.{_≡_};
 ghost use Prim.Native.Nat.{max};
 ghost use Rattle.rules.specs.Connection.{bump as bumpOf, slot as slotOf, countDrop};
 use rules::Place;
+use rules::SLOTS;
 
 // "Counts of acceptances and of each drop stop at 2^64-1."
 pub fn bump(n: u64) -> u64
@@ -25,7 +26,7 @@ fn slot(n: u8) -> Place
     Place::At((n - 20) as u64)
 }
 
-pub fn count_drop(n: u8, drops: [u64; 10]) -> [u64; 10]
+pub fn count_drop(n: u8, drops: [u64; SLOTS]) -> [u64; SLOTS]
     ensures { λ r. ⌜ r ≡ countDrop n drops ⌝ }
 {
     let Place::At(i) = slot(n) else {

@@ -1,5 +1,5 @@
-// A connection's state as bytes and back: BOUNDARY.md, "The state".
-// Every value of the type is a state, and so is every string of 152 bytes; `decode` assumes that it gets so many.
+// A connection's state as bytes and back: docs/BOUNDARY.md, "The state".
+// Every value of the type is a state, and so is every string of STATE_BYTES bytes; `decode` assumes that it gets so many.
 ghost use mathlib.Core.Path.{_≡_};
 ghost use mathlib.Core.List.{_++_};
 ghost use Prim.Native.Nat.{_+_, _*_, _≤_};
@@ -12,6 +12,7 @@ ghost use Rattle.states.specs.Layout.{encodeOf};
 use crate::writers::field_of;
 use keys::entry::Pair;
 use rules::Connection;
+use rules::SLOTS;
 use rules::State;
 
 // Where each field stands.
@@ -42,6 +43,9 @@ const SEEN: usize = 56;
 const ACCEPTED: usize = 64;
 
 const DROPS: usize = 72;
+
+// How long a state is: `stateBytes` of specs/Layout.
+pub const STATE_BYTES: usize = DROPS + 8 * SLOTS;
 
 // Numbers of eight bytes each, written one behind the other from `at` on.
 fn words_at(out: &mut [u8], at: usize, words: &[u64])
@@ -92,11 +96,11 @@ fn join(
     local: [u8; 16],
     remote: [u8; 16],
     numbers: [u64; 3],
-    drops: [u64; 10],
-) -> [u8; 152]
+    drops: [u64; SLOTS],
+) -> [u8; STATE_BYTES]
     ensures { λ r. ⌜ r ≡ head ++ (local ++ (remote ++ (wordBytes numbers ++ wordBytes drops))) ⌝ }
 {
-    let mut out = [0u8; 152];
+    let mut out = [0u8; STATE_BYTES];
     octets::copy_at(&mut out, 0, &head);
     octets::copy_at(&mut out, LOCAL, &local);
     octets::copy_at(&mut out, REMOTE, &remote);
@@ -105,7 +109,7 @@ fn join(
     out
 }
 
-pub fn encode(s: State) -> [u8; 152]
+pub fn encode(s: State) -> [u8; STATE_BYTES]
     ensures bytes { λ r. ⌜ r ≡ encodeOf s ⌝ }
     ensures back { λ r. ⌜ decodeOf r ≡ s ⌝ }
 {
@@ -154,13 +158,13 @@ fn conn_from(bytes: &[u8]) -> Connection
     }
 }
 
-fn drops_from(bytes: &[u8]) -> [u64; 10]
+fn drops_from(bytes: &[u8]) -> [u64; SLOTS]
     requires { ⌜ length (now bytes) ≡ stateBytes ⌝ }
     ensures { λ r. ⌜ r ≡ wordsAt slots (now (bytes .entry)) dropsAt ⌝ }
 {
-    let mut drops = [0u64; 10];
+    let mut drops = [0u64; SLOTS];
     let mut i: usize = 0;
-    while i < 10 {
+    while i < SLOTS {
         drops[i] = load64(bytes, DROPS + 8 * i);
         i += 1;
     }

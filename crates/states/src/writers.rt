@@ -13,6 +13,7 @@ use crate::counts::count_drop;
 use crate::counts::larger;
 use keys::entry::Pair;
 use rules::Connection;
+use rules::SLOTS;
 use rules::State;
 
 // An address in its field of sixteen bytes: IPv4 uses the first four.
@@ -82,7 +83,7 @@ pub fn opened(pair: Pair, isn: u32, peer_isn: u32, send_id: u8, ask_id: u8) -> S
         send_id,
         ask_id,
         accepted: 0,
-        drops: [0; 10],
+        drops: [0; SLOTS],
     }
 }
 

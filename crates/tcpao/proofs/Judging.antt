@@ -17,7 +17,7 @@ use Rattle.rules.specs.declared.Outcome.the-variants.{Good, Passed, Bad}
 use Rattle.rules.specs.declared.Verdict.{Verdict}
 use Rattle.rules.specs.declared.Connection.{Connection}
 use Rattle.rules.specs.declared.State.{State}
-use Rattle.rules.specs.NumberLaws.{eachGives, none-applied}
+use Rattle.octets.specs.TestLaws.{eachGives, none-applied}
 use Rattle.rules.specs.GroupLaws.{first-clear, none-clear}
 use Rattle.rules.specs.JudgeLaws.{none-of}
 use Rattle.rules.specs.Segment.{keyId}

@@ -16,7 +16,7 @@ use Rattle.rules.specs.declared.Outcome.{Outcome}
 use Rattle.rules.specs.declared.Outcome.the-variants.{Good, Passed, Bad}
 use Rattle.rules.specs.declared.State.{State}
 use Rattle.rules.specs.declared.Settled.{Settled}
-use Rattle.rules.specs.Numbers.{test, first}
+use Rattle.octets.specs.Tests.{test, first}
 use Rattle.rules.specs.Connection.{sized, pairOf, opening, empty}
 use Rattle.rules.specs.Calls.{refuse, unrefused, addressTests, tableTests, openTests, settledBy, openedWith, openedActively}
 use Rattle.checks.specs.GroupLaws.{Else, passed, stop, pass}

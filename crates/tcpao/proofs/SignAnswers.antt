@@ -15,8 +15,8 @@ use Rattle.rules.specs.declared.Outcome.{Outcome}
 use Rattle.rules.specs.declared.Outcome.the-variants.{Good}
 use Rattle.rules.specs.declared.State.{State}
 use Rattle.rules.specs.declared.Signed.{Signed}
-use Rattle.rules.specs.Numbers.{first}
-use Rattle.rules.specs.NumberLaws.{NoneApplies, none-applied}
+use Rattle.octets.specs.Tests.{first}
+use Rattle.octets.specs.TestLaws.{NoneApplies, none-applied}
 use Rattle.rules.specs.JudgeLaws.{isBad, refusal-bad}
 use Rattle.rules.specs.Connection.{placeOn, value}
 use Rattle.rules.specs.Calls.{outgoing, addedBytes, signTests, checkSign, signedBy, outputBy, signed, output}

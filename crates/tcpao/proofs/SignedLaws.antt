@@ -16,7 +16,7 @@ use Rattle.rules.specs.MacLaws.{length-mac}
 use Rattle.rules.specs.Segment.{signedHeader, signedWith}
 use Rattle.rules.specs.Connection.{leaving, extensionOf}
 use Rattle.rules.specs.Calls.{signedSegment, written}
-use Rattle.traffic.specs.Filled.{filled}
+use Rattle.traffic.specs.Padded.{padded}
 use Rattle.traffic.specs.TagLaws.{tagOf, tag-mac-parts}
 use Rattle.tcpao.specs.SignedBytes.{headBytes, Signable}
 
@@ -119,7 +119,7 @@ module _ (s out : List ℕ) (secret : Secret) (can : Signable s out secret) {end
 
 -- the header with zeros is the front of its array
 pub tag-is : (secret : Secret) (f g : Flow) (extension len : ℕ) (s head h : List ℕ) (end n : ℕ) {tag : List ℕ} → 20 ≤ end → end ≤ length s → length head ≡ 24 → f ≡ g
-    → h ≡ filled 60 (head ++ (replicate n 0 ++ drop 20 (take end s))) → tag ≡ tagOf secret f extension 20 len (take (end + (4 + n)) h) (take (length s - end) (drop end s))
+    → h ≡ padded 60 (head ++ (replicate n 0 ++ drop 20 (take end s))) → tag ≡ tagOf secret f extension 20 len (take (end + (4 + n)) h) (take (length s - end) (drop end s))
     → tag ≡ tagOf secret g extension 20 len (head ++ (replicate n 0 ++ drop 20 (take end s))) (drop end s)
 tag-is secret f g extension len s head h end n low inside k ef eh et =
     let zeros : List ℕ = replicate n 0 in
@@ -167,7 +167,7 @@ after-head : (h : List ℕ) (n : ℕ) → length h ≡ 24 → n ≤ 36 → drop 
 after-head h n k e = drop-zeros (length h) 60 ∙ ap zeros (let w : 60 - length h ≡ n + (36 - n) = omega arith in w) ∙ sym (replicate-append-replicate n (36 - n) 0)
 
 pub blanked : (g h a : List ℕ) (n : ℕ) {b : List ℕ} → 20 ≤ length g → length g + (4 + n) ≤ 60 → length h ≡ 24 → a ≡ paste (zeros 60) 0 h (length h)
-    → b ≡ paste a (24 + n) (take (length g - 20) (drop 20 g)) (length (take (length g - 20) (drop 20 g))) → b ≡ filled 60 (h ++ (zeros n ++ drop 20 g))
+    → b ≡ paste a (24 + n) (take (length g - 20) (drop 20 g)) (length (take (length g - 20) (drop 20 g))) → b ≡ padded 60 (h ++ (zeros n ++ drop 20 g))
 blanked g h a n low most k ea eb =
     let x = drop 20 g in
     let lx = length-drop 20 g in

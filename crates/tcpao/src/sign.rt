@@ -9,7 +9,7 @@ ghost use Rattle.rules.specs.Connection.{isOpen, leaving};
 ghost use Rattle.rules.specs.Answers.{signingAnswer, signedNumber};
 ghost use Rattle.rules.specs.Calls.{signedSegment, written, signed, output};
 ghost use Rattle.rules.specs.declared.Signing.the-variants as S;
-ghost use Rattle.traffic.specs.Filled.{filled};
+ghost use Rattle.traffic.specs.Padded.{padded};
 ghost use Rattle.traffic.specs.Flow.{flowOf};
 ghost use Rattle.traffic.specs.TagLaws.{tagOf};
 ghost use Rattle.tcpao.specs.SignedBytes.{headBytes, Signable};
@@ -25,6 +25,7 @@ use rules::State;
 use states::position::extension_of;
 use states::writers::is_open;
 use states::writers::with_sent;
+use traffic::context::DIGEST_ROOM;
 use traffic::flow::Flow;
 use traffic::tag::segment_tag;
 
@@ -90,7 +91,7 @@ fn head_of(header: &[u8], key_id: u8, rnext_key_id: u8, n: u8) -> [u8; 24]
 // The signed header with n zeros for the MAC, in an array that has room for the longest.
 fn blank_header(header: &[u8], head: [u8; 24], n: usize) -> [u8; 60]
     requires { ⌜ (20 ≤ length (now header)) × (length (now header) + (4 + n) ≤ 60) ⌝ }
-    ensures { λ r. ⌜ r ≡ filled 60 (head ++ (replicate n 0 ++ drop 20 (now (header .entry)))) ⌝ }
+    ensures { λ r. ⌜ r ≡ padded 60 (head ++ (replicate n 0 ++ drop 20 (now (header .entry)))) ⌝ }
 {
     let mut h = [0u8; 60];
     octets::copy_at(&mut h, 0, &head);
@@ -106,7 +107,7 @@ fn tag_of(
     secret: Secret,
     conn: Connection,
     extension: u32,
-) -> [u8; 20]
+) -> [u8; DIGEST_ROOM]
     requires { ⌜ (20 ≤ end) × (end ≤ length (now segment)) × (end + (4 + secret .«mac_bytes») ≤ 60) ⌝ }
     ensures { λ r. ⌜ r ≡ tagOf secret (leaving conn) extension 20 (length (now (segment .entry)) + (4 + secret .«mac_bytes»)) (head ++ (replicate (secret .«mac_bytes») 0 ++ drop 20 (take end (now (segment .entry))))) (drop end (now (segment .entry))) ⌝ }
 {

@@ -12,9 +12,9 @@ use Rattle.keys.specs.Algorithm.{outputBits}
 use Rattle.keys.specs.Entry.{keyOf}
 use Rattle.keys.specs.declared.entry.Secret.{Secret}
 use Rattle.rules.specs.Mac.{Flow, derivationInput, aesKey, derivationKey, applied, trafficKey}
-use Rattle.traffic.specs.Filled.{padded20}
+use Rattle.traffic.specs.Padded.{padded, digestRoom}
 use Rattle.traffic.specs.MacContext.{MacView, Hmac, Cmac, byAlgorithm, macStart, macAbsorb, macFinished}
-use Rattle.traffic.specs.MacContextLaws.{filled-full}
+use Rattle.traffic.specs.MacContextLaws.{padded-full}
 
 module _ (algorithm : ℕ) (is : algorithm ≡ 1) (c : View) where
   pub hmac-start : (key : List ℕ) {h : Keyed} → h ≡ hmacStart parts key → byAlgorithm algorithm h c ≡ macStart algorithm key
@@ -38,9 +38,9 @@ module _ (algorithm : ℕ) (other : algorithm ≡ 1 → ⊥) (h : Keyed) where
   unfolding macAbsorb
   cmac-more c m e = rw (ne-eqb algorithm 1 other) (ap Cmac e)
 
-  pub cmac-end : (c : View) {t r : List ℕ} → t ≡ finished c → r ≡ padded20 t → r ≡ macFinished (byAlgorithm algorithm h c)
+  pub cmac-end : (c : View) {t r : List ℕ} → t ≡ finished c → r ≡ padded digestRoom t → r ≡ macFinished (byAlgorithm algorithm h c)
   unfolding macFinished
-  cmac-end c q e = rw (ne-eqb algorithm 1 other) (e ∙ ap padded20 q)
+  cmac-end c q e = rw (ne-eqb algorithm 1 other) (e ∙ ap (padded digestRoom) q)
 
 -- new under a key, then a front
 pub begun : (algorithm : ℕ) {key k a b : List ℕ} {u v : MacView} → k ≡ key → u ≡ macStart algorithm k → a ≡ b → v ≡ macAbsorb u a
@@ -58,17 +58,18 @@ module _ (k : List ℕ) {r : List ℕ} where
   other-key q e = rw (ne-eqb (length k) 16 q) e
 
 module _ (algorithm : ℕ) (k m : List ℕ) {r : List ℕ} where
-  pub hmac-derived : algorithm ≡ 1 → r ≡ hmacSha1 k m → r ≡ padded20 (applied algorithm (derivationKey algorithm k) m)
+  pub hmac-derived : algorithm ≡ 1 → r ≡ hmacSha1 k m → r ≡ padded digestRoom (applied algorithm (derivationKey algorithm k) m)
   unfolding applied
-  hmac-derived q e = rw (eq-eqb algorithm 1 q) (e ∙ sym (filled-full 20 (hmacSha1 k m) (length-hmacSha1 k m)))
+  hmac-derived q e = rw (eq-eqb algorithm 1 q) (e ∙ sym (padded-full digestRoom (hmacSha1 k m) (length-hmacSha1 k m)))
 
-  pub cmac-derived : {a t : List ℕ} → (algorithm ≡ 1 → ⊥) → a ≡ aesKey k → t ≡ cmac a m → r ≡ padded20 t → r ≡ padded20 (applied algorithm (derivationKey algorithm k) m)
+  pub cmac-derived : {a t : List ℕ} → (algorithm ≡ 1 → ⊥) → a ≡ aesKey k → t ≡ cmac a m → r ≡ padded digestRoom t
+      → r ≡ padded digestRoom (applied algorithm (derivationKey algorithm k) m)
   unfolding applied
-  cmac-derived q ea et e = rw (ne-eqb algorithm 1 q) (e ∙ ap padded20 (et ∙ ap (λ (x : List ℕ). cmac x m) ea))
+  cmac-derived q ea et e = rw (ne-eqb algorithm 1 q) (e ∙ ap (padded digestRoom) (et ∙ ap (λ (x : List ℕ). cmac x m) ea))
 
 pub derived-key : (s : Secret) (f : Flow) {bits : ℕ} {k m r : List ℕ} → k ≡ keyOf s → bits ≡ outputBits (s .algorithm) → m ≡ derivationInput bits f
-    → r ≡ padded20 (applied (s .algorithm) (derivationKey (s .algorithm) k) m) → r ≡ padded20 (trafficKey s f)
+    → r ≡ padded digestRoom (applied (s .algorithm) (derivationKey (s .algorithm) k) m) → r ≡ padded digestRoom (trafficKey s f)
 unfolding trafficKey
 derived-key s f ek eb em e =
     let input = em ∙ ap (λ (n : ℕ). derivationInput n f) eb in
-    e ∙ (λ i. padded20 (applied (s .algorithm) (derivationKey (s .algorithm) (ek i)) (input i)))
+    e ∙ (λ i. padded digestRoom (applied (s .algorithm) (derivationKey (s .algorithm) (ek i)) (input i)))

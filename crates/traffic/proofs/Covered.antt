@@ -8,7 +8,7 @@ use lib.Seq.{paste, take-append-le, drop-append-le, take-at, take-length}
 use lib.Dec.{eqb}
 use borrow.Author.Tests.{eq-eqb, ne-eqb}
 use Rattle.rules.specs.Mac.{blank, zeroed, coveredHeader}
-use Rattle.traffic.specs.Filled.{filled}
+use Rattle.traffic.specs.Padded.{padded}
 use Rattle.traffic.proofs.Zeros.{zeros, take-zeros}
 
 blank-append : (i n : ℕ) (l z : List ℕ) → i + n ≤ length l → blank i n (l ++ z) ≡ blank i n l ++ z
@@ -32,7 +32,7 @@ module _ (at n : ℕ) (h : List ℕ) (low : 20 ≤ at) (inside : at + 4 + n ≤ 
       let l = length-blank 16 2 h (omega arith) in
       length-blank (at + 4) n (blank 16 2 h) (omega arith) ∙ l
 
-  module _ (flags : ℕ) {r : List ℕ} (e : r ≡ zeroed at n (filled 60 h)) where
+  module _ (flags : ℕ) {r : List ℕ} (e : r ≡ zeroed at n (padded 60 h)) where
     abbrev rest : List ℕ
     rest = replicate (60 - length h) 0
 

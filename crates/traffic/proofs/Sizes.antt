@@ -34,8 +34,11 @@ module _ (w : Flow) where
       let c = bytes32 (w .«source_isn») in
       omega (arith, addresses-room, length-append addresses a, length-append (addresses ++ a) b, length-append (addresses ++ a ++ b) c, length-append (addresses ++ a ++ b ++ c) (bytes32 (w .«destination_isn»)))
 
+  abbrev pub pseudo : ℕ → List ℕ
+  pseudo n = pseudoHeader (flowOf w .source) (flowOf w .destination) n
+
   module _ (n : ℕ) where
-    pseudo-room : length (pseudoHeader (flowOf w) n) ≤ 40
+    pseudo-room : length (pseudo n) ≤ 40
     unfolding pseudoHeader
     pseudo-room = go (eqb (length (flowOf w .source)) 4)
       where
@@ -47,13 +50,15 @@ module _ (w : Flow) where
       source-length : length (flowOf w .source) ≡ width (w .family)
       source-length = length-take-le (width (w .family)) (w .source) (omega (arith, width-le (w .family)))
 
-      pub pseudo-4 : {x : List ℕ} → width (w .family) ≡ 4 → x ≡ (0 ∷ 6 ∷ []) ++ bytes16 n → addresses ++ x ≡ pseudoHeader (flowOf w) n
+      pub pseudo-4 : {x : List ℕ} → width (w .family) ≡ 4 → x ≡ (0 ∷ 6 ∷ []) ++ bytes16 n
+          → addresses ++ x ≡ pseudo n
       unfolding pseudoHeader
       pseudo-4 q e = rw (eq-eqb (length (flowOf w .source)) 4 (source-length ∙ q)) (ap (λ (l : List ℕ). addresses ++ l) e)
 
-      pub pseudo-6 : {x : List ℕ} → (width (w .family) ≡ 4 → ⊥) → x ≡ bytes32 n ++ (0 ∷ 0 ∷ 0 ∷ 6 ∷ []) → addresses ++ x ≡ pseudoHeader (flowOf w) n
+      pub pseudo-6 : {x : List ℕ} → (width (w .family) ≡ 4 → ⊥) → x ≡ bytes32 n ++ (0 ∷ 0 ∷ 0 ∷ 6 ∷ [])
+          → addresses ++ x ≡ pseudo n
       unfolding pseudoHeader
       pseudo-6 q e = rw (ne-eqb (length (flowOf w .source)) 4 (λ h. q (sym source-length ∙ h))) (ap (λ (l : List ℕ). addresses ++ l) e)
 
-  pub pseudo-pushed : (n : ℕ) {a r : Assembled} → Pushed a (pseudoHeader (flowOf w) n) r → r .len ≤ a .len + 40
+  pub pseudo-pushed : (n : ℕ) {a r : Assembled} → Pushed a (pseudo n) r → r .len ≤ a .len + 40
   pseudo-pushed n p = omega (arith, p .len, pseudo-room n)

@@ -9,8 +9,8 @@ use lib.ListN.{length, take, drop, replicate, length-take}
 use lib.Seq.{paste, take-length, take-all}
 use lib.Dec.{leb}
 use borrow.Author.Tests.{leb-true, leb-false}
-use Rattle.traffic.specs.Filled.{filled}
-use Rattle.traffic.specs.MacContextLaws.{filled-full}
+use Rattle.traffic.specs.Padded.{padded}
+use Rattle.traffic.specs.MacContextLaws.{padded-full}
 
 abbrev pub zeros : ℕ → List ℕ
 zeros n = replicate n 0
@@ -25,11 +25,11 @@ take-zeros zero m h = refl
 take-zeros (suc n) zero h = absurd (omega arith)
 take-zeros (suc n) (suc m) h = ap (λ (l : List ℕ). 0 ∷ l) (take-zeros n m (omega arith))
 
-pub copied : (n : ℕ) (x : List ℕ) {r : List ℕ} → r ≡ paste (zeros n) 0 x (length x) → r ≡ filled n x
+pub copied : (n : ℕ) (x : List ℕ) {r : List ℕ} → r ≡ paste (zeros n) 0 x (length x) → r ≡ padded n x
 copied n x e = e ∙ ap₂ (λ (a b : List ℕ). a ++ b) (take-length x) (ap (λ (k : ℕ). drop k (zeros n)) (zero-add (length x)) ∙ drop-zeros (length x) n)
 
 pub copied-whole : (n : ℕ) (x : List ℕ) {r : List ℕ} → length x ≡ n → r ≡ paste (zeros n) 0 x (length x) → r ≡ x
-copied-whole n x h e = copied n x e ∙ filled-full n x h
+copied-whole n x h e = copied n x e ∙ padded-full n x h
 
 pub at-most : (n : ℕ) (l : List ℕ) → length (take n l) ≤ n
 at-most n l = let e = length-take n l in omega arith

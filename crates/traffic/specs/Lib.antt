@@ -1,4 +1,4 @@
-pub mod Filled
+pub mod Padded
 pub mod Assembled
 pub mod Flow
 pub mod MacContext

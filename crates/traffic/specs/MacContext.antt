@@ -10,7 +10,7 @@ use Rattle.mac.specs.Hmac.{Keyed, hmacStart, hmacAbsorb, hmacFinished}
 use Rattle.mac.specs.HashContexts.{hmacView}
 use Rattle.mac.specs.Cmac.{View, start, absorb, finished}
 use Rattle.mac.specs.CmacContext.{view}
-use Rattle.traffic.specs.Filled.{padded20}
+use Rattle.traffic.specs.Padded.{padded, digestRoom}
 use Rattle.traffic.specs.declared.context.MacContext.{MacContext}
 
 -- what is held: HMAC-SHA-1's view, or AES-CMAC's
@@ -25,7 +25,7 @@ byAlgorithm algorithm h c = cond (eqb algorithm 1) (Hmac h) (Cmac c)
 abbrev pub macView : MacContext → MacView
 macView c = byAlgorithm (c .algorithm) (hmacView (c .hmac)) (view (c .cmac))
 
--- the algorithm's key among the twenty bytes that a traffic key has room in
+-- the algorithm's key in the room that a traffic key has
 abbrev pub keyFor : ℕ → List ℕ → List ℕ
 keyFor algorithm key = cond (eqb algorithm 1) key (take 16 key)
 
@@ -36,7 +36,7 @@ unfoldable pub macAbsorb : MacView → List ℕ → MacView
 macAbsorb (Hmac v) m = Hmac (hmacAbsorb parts v m)
 macAbsorb (Cmac v) m = Cmac (absorb v m)
 
--- twenty bytes: a CMAC has four zeros behind it
+-- as many bytes as there is room for: a CMAC has zeros behind it
 unfoldable pub macFinished : MacView → List ℕ
 macFinished (Hmac v) = hmacFinished parts v
-macFinished (Cmac v) = padded20 (finished v)
+macFinished (Cmac v) = padded digestRoom (finished v)

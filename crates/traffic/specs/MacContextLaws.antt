@@ -13,12 +13,12 @@ use Rattle.mac.specs.HmacLaws.{hmacAbsorb-append, hmacSha1-message, length-hmac
 use Rattle.mac.specs.Cmac.{cmac, start}
 use Rattle.mac.specs.CmacLaws.{absorb-append, finished-absorb, length-cmac}
 use Rattle.rules.specs.Mac.{applied}
-use Rattle.traffic.specs.Filled.{filled, padded20}
+use Rattle.traffic.specs.Padded.{padded, digestRoom}
 use Rattle.traffic.specs.MacContext.{MacView, Hmac, Cmac, keyFor, macStart, macAbsorb, macFinished}
 
 -- nothing stands behind what has the length already
-pub filled-full : (n : ℕ) (l : List ℕ) → length l ≡ n → filled n l ≡ l
-filled-full n l e =
+pub padded-full : (n : ℕ) (l : List ℕ) → length l ≡ n → padded n l ≡ l
+padded-full n l e =
     let z : n - length l ≡ 0 = omega arith in
     ap (λ (k : ℕ). l ++ replicate k 0) z ∙ append-nil l
 
@@ -28,22 +28,23 @@ macAbsorb-append (Hmac v) a b = ap Hmac (hmacAbsorb-append parts v a b)
 macAbsorb-append (Cmac v) a b = ap Cmac (absorb-append v a b)
 
 pub macFinished-absorb : (algorithm : ℕ) (key m : List ℕ)
-    → macFinished (macAbsorb (macStart algorithm key) m) ≡ padded20 (applied algorithm (keyFor algorithm key) m)
+    → macFinished (macAbsorb (macStart algorithm key) m) ≡ padded digestRoom (applied algorithm (keyFor algorithm key) m)
 unfolding macStart macAbsorb macFinished applied
 macFinished-absorb algorithm key m = go (eqb algorithm 1)
   where
     go : (b : Bool)
         → macFinished (macAbsorb (cond b (Hmac (hmacStart parts key)) (Cmac (start (take 16 key)))) m)
-        ≡ padded20 (cond b (hmacSha1 (cond b key (take 16 key)) m) (cmac (cond b key (take 16 key)) m))
-    go true = hmacSha1-message key m refl refl refl ∙ sym (filled-full 20 (hmacSha1 key m) (length-hmacSha1 key m))
-    go false = ap padded20 (finished-absorb (take 16 key) m)
+        ≡ padded digestRoom (cond b (hmacSha1 (cond b key (take 16 key)) m) (cmac (cond b key (take 16 key)) m))
+    go true = hmacSha1-message key m refl refl refl ∙ sym (padded-full digestRoom (hmacSha1 key m) (length-hmacSha1 key m))
+    go false = ap (padded digestRoom) (finished-absorb (take 16 key) m)
 
 -- a key that has the algorithm's bytes comes back out of the twenty
-pub keyFor-applied : (algorithm : ℕ) (k m : List ℕ) → keyFor algorithm (padded20 (applied algorithm k m)) ≡ applied algorithm k m
+pub keyFor-applied : (algorithm : ℕ) (k m : List ℕ) → keyFor algorithm (padded digestRoom (applied algorithm k m)) ≡ applied algorithm k m
 unfolding applied
 keyFor-applied algorithm k m = go (eqb algorithm 1)
   where
     go : (b : Bool)
-        → cond b (padded20 (cond b (hmacSha1 k m) (cmac k m))) (take 16 (padded20 (cond b (hmacSha1 k m) (cmac k m)))) ≡ cond b (hmacSha1 k m) (cmac k m)
-    go true = filled-full 20 (hmacSha1 k m) (length-hmacSha1 k m)
+        → cond b (padded digestRoom (cond b (hmacSha1 k m) (cmac k m)))
+        (take 16 (padded digestRoom (cond b (hmacSha1 k m) (cmac k m)))) ≡ cond b (hmacSha1 k m) (cmac k m)
+    go true = padded-full digestRoom (hmacSha1 k m) (length-hmacSha1 k m)
     go false = take-at (cmac k m) _ 16 (length-cmac k m)

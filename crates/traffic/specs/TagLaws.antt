@@ -17,7 +17,7 @@ use Rattle.keys.specs.Algorithm.{trafficKeyBytes, outputBits}
 use Rattle.keys.specs.Entry.{keyOf}
 use Rattle.rules.specs.Mac.{Flow, derivationInput, derivationKey, applied, trafficKey, front, message, segmentMac}
 use Rattle.rules.specs.MacLaws.{applied-long}
-use Rattle.traffic.specs.Filled.{padded20}
+use Rattle.traffic.specs.Padded.{padded, digestRoom}
 use Rattle.traffic.specs.MacContext.{MacView, macStart, macAbsorb, macFinished}
 use Rattle.traffic.specs.MacContextLaws.{macAbsorb-append, macFinished-absorb, keyFor-applied}
 
@@ -38,19 +38,20 @@ length-trafficKey s f known = go (eqb (s .algorithm) 1) (eqb (s .algorithm) 2) k
     go false false e = let z : _≡_ {A = ℕ} 0 1 = cc in absurd (omega arith)
 
 -- a context that is new under the traffic key, has absorbed a and then b, and is finished
-pub tagged : (s : Secret) (f : Flow) (a b : List ℕ) {v u : MacView} {r : List ℕ} → v ≡ macAbsorb (macStart (s .algorithm) (padded20 (trafficKey s f))) a
-    → u ≡ macAbsorb v b → r ≡ macFinished u → r ≡ padded20 (applied (s .algorithm) (trafficKey s f) (a ++ b))
+pub tagged : (s : Secret) (f : Flow) (a b : List ℕ) {v u : MacView} {r : List ℕ}
+    → v ≡ macAbsorb (macStart (s .algorithm) (padded digestRoom (trafficKey s f))) a
+    → u ≡ macAbsorb v b → r ≡ macFinished u → r ≡ padded digestRoom (applied (s .algorithm) (trafficKey s f) (a ++ b))
 unfolding trafficKey
 tagged s f a b ev eu er =
-    let k = padded20 (trafficKey s f) in
+    let k = padded digestRoom (trafficKey s f) in
     er ∙ ap macFinished (eu ∙ ap (λ (v : MacView). macAbsorb v b) ev ∙ sym (macAbsorb-append (macStart (s .algorithm) k) a b))
     ∙ macFinished-absorb (s .algorithm) k (a ++ b)
-    ∙ ap (λ (k : List ℕ). padded20 (applied (s .algorithm) k (a ++ b)))
+    ∙ ap (λ (k : List ℕ). padded digestRoom (applied (s .algorithm) k (a ++ b)))
     (keyFor-applied (s .algorithm) (derivationKey (s .algorithm) (keyOf s)) (derivationInput (outputBits (s .algorithm)) f))
 
 -- the tag of a segment of len bytes with the header h and the data d
 abbrev pub tagOf : Secret → Flow → ℕ → ℕ → ℕ → List ℕ → List ℕ → List ℕ
-tagOf s f extension at len h d = padded20 (applied (s .algorithm) (trafficKey s f) (front s f extension at len h ++ d))
+tagOf s f extension at len h d = padded digestRoom (applied (s .algorithm) (trafficKey s f) (front s f extension at len h ++ d))
 
 -- "The leftmost 12 bytes are the MAC": as many as the entry has, where a tag has so many
 pub tag-mac : (s : Secret) (f : Flow) (extension at : ℕ) (segment : List ℕ) → s .«mac_bytes» ≤ 16

@@ -3,11 +3,13 @@
 ghost use mathlib.Core.Path.{_≡_};
 ghost use lib.ListN.{take};
 ghost use Rattle.traffic.specs.MacContext.{macView, macStart, macAbsorb, macFinished};
-ghost use Rattle.traffic.specs.Filled.{padded20};
+ghost use Rattle.traffic.specs.Padded.{padded as paddedOf, digestRoom};
 use keys::algorithm::Aes128Cmac96;
-use keys::algorithm::HmacSha1_96;
 use mac::cmac::CmacContext;
 use mac::hmac::HmacSha1Context;
+
+// The room for a digest and for a traffic key, which is one: the longer of the algorithms' has so many bytes. `digestRoom` of specs/Padded.
+pub const DIGEST_ROOM: usize = 20;
 
 // Only the context that `algorithm` names means anything. The other one is no part of the view, and neither is which of the numbers other
 // than 1 `algorithm` is, nor what HmacSha1Context and CmacContext leave free: the contracts leave these of a result free.
@@ -18,7 +20,7 @@ pub struct MacContext {
 }
 
 // The traffic key of algorithm 2, out of the room that there is for both.
-fn first16(key: [u8; HmacSha1_96::TRAFFIC_KEY_BYTES]) -> [u8; Aes128Cmac96::TRAFFIC_KEY_BYTES]
+fn first16(key: [u8; DIGEST_ROOM]) -> [u8; Aes128Cmac96::TRAFFIC_KEY_BYTES]
     ensures { λ r. ⌜ r ≡ take 16 key ⌝ }
 {
     let mut k = [0u8; Aes128Cmac96::TRAFFIC_KEY_BYTES];
@@ -26,11 +28,11 @@ fn first16(key: [u8; HmacSha1_96::TRAFFIC_KEY_BYTES]) -> [u8; Aes128Cmac96::TRAF
     k
 }
 
-// Four zeros behind a CMAC.
-pub(crate) fn padded(tag: [u8; 16]) -> [u8; 20]
-    ensures { λ r. ⌜ r ≡ padded20 tag ⌝ }
+// Zeros behind a CMAC.
+pub(crate) fn padded(tag: [u8; 16]) -> [u8; DIGEST_ROOM]
+    ensures { λ r. ⌜ r ≡ paddedOf digestRoom tag ⌝ }
 {
-    let mut t = [0u8; 20];
+    let mut t = [0u8; DIGEST_ROOM];
     octets::copy_at(&mut t, 0, &tag);
     t
 }
@@ -60,7 +62,7 @@ pub fn unused() -> MacContext {
 }
 
 impl MacContext {
-    pub fn new(algorithm: u8, key: [u8; HmacSha1_96::TRAFFIC_KEY_BYTES]) -> Self
+    pub fn new(algorithm: u8, key: [u8; DIGEST_ROOM]) -> Self
         ensures { λ r. ⌜ macView r ≡ macStart algorithm key ⌝ }
     {
         let cmac = CmacContext::new(first16(key));
@@ -98,7 +100,7 @@ impl MacContext {
         }
     }
 
-    pub fn finish(self) -> [u8; 20]
+    pub fn finish(self) -> [u8; DIGEST_ROOM]
         ensures { λ r. ⌜ r ≡ macFinished (macView self) ⌝ }
     {
         let algorithm = self.algorithm;

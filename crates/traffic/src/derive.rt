@@ -4,11 +4,11 @@ ghost use mathlib.Core.Path.{_≡_};
 ghost use Prim.Native.Nat.{_+_, _≤_, min};
 ghost use Rattle.rules.specs.Mac.{context, derivationInput, aesKey, derivationKey, applied, trafficKey};
 ghost use Rattle.traffic.specs.Assembled.{Pushed, none};
-ghost use Rattle.traffic.specs.Filled.{padded20};
+ghost use Rattle.traffic.specs.Padded.{padded, digestRoom};
 ghost use Rattle.traffic.specs.Flow.{flowOf};
 use crate::assembled::Assembled;
+use crate::context::DIGEST_ROOM;
 use crate::flow::Flow;
-use keys::algorithm::HmacSha1_96;
 use keys::algorithm::output_bits;
 use keys::entry::Secret;
 
@@ -47,8 +47,8 @@ fn aes_key(key: &[u8]) -> [u8; 16]
 }
 
 // The algorithm's MAC under the master key.
-fn derived(algorithm: u8, key: &[u8], input: &[u8]) -> [u8; 20]
-    ensures { λ r. ⌜ r ≡ padded20 (applied algorithm (derivationKey algorithm (now (key .entry))) (now (input .entry))) ⌝ }
+fn derived(algorithm: u8, key: &[u8], input: &[u8]) -> [u8; DIGEST_ROOM]
+    ensures { λ r. ⌜ r ≡ padded digestRoom (applied algorithm (derivationKey algorithm (now (key .entry))) (now (input .entry))) ⌝ }
 {
     if algorithm == 1 {
         return mac::hmac::hmac_sha1(key, input);
@@ -65,8 +65,8 @@ fn key_bytes(len: u8) -> usize
 }
 
 // The traffic key; zeros stand behind one of algorithm 2.
-pub fn traffic_key(secret: Secret, flow: Flow) -> [u8; HmacSha1_96::TRAFFIC_KEY_BYTES]
-    ensures { λ r. ⌜ r ≡ padded20 (trafficKey secret (flowOf flow)) ⌝ }
+pub fn traffic_key(secret: Secret, flow: Flow) -> [u8; DIGEST_ROOM]
+    ensures { λ r. ⌜ r ≡ padded digestRoom (trafficKey secret (flowOf flow)) ⌝ }
 {
     let a = derivation_input(output_bits(secret.algorithm), flow);
     let input = a.bytes;

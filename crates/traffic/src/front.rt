@@ -8,7 +8,7 @@ ghost use Rattle.octets.specs.Octets.{bytes16, bytes32};
 ghost use Rattle.keys.specs.Entry.{allOptions};
 ghost use Rattle.rules.specs.Mac.{pseudoHeader, blank as blankOf, zeroed as zeroedOf, coveredHeader, front as frontOf};
 ghost use Rattle.traffic.specs.Assembled.{Pushed, none};
-ghost use Rattle.traffic.specs.Filled.{filled};
+ghost use Rattle.traffic.specs.Padded.{padded};
 ghost use Rattle.traffic.specs.Flow.{flowOf};
 use crate::assembled::Assembled;
 use crate::flow::Flow;
@@ -40,7 +40,7 @@ fn length_and_next_header(len: usize) -> [u8; 8]
 // "the IP pseudo-header as for the checksum, with the whole segment's length"
 fn push_pseudo_header(a: Assembled, flow: Flow, len: usize) -> Assembled
     requires { ⌜ a .len + 40 ≤ 104 ⌝ }
-    ensures { λ r. ⌜ Pushed a (pseudoHeader (flowOf flow) len) r ⌝ }
+    ensures { λ r. ⌜ Pushed a (pseudoHeader (flowOf flow .source) (flowOf flow .destination) len) r ⌝ }
 {
     let b = crate::flow::push_addresses(a, flow);
     let w = keys::entry::width_of(flow.family);
@@ -66,7 +66,7 @@ fn blank(h: [u8; 60], i: usize, n: usize) -> [u8; 60]
 // "the TCP header with checksum and MAC bytes zero": TCP-AO stands at `at`, its MAC has n bytes
 fn zeroed(header: &[u8], at: usize, n: usize) -> [u8; 60]
     requires { ⌜ (length (now header) ≤ 60) × (at + 4 + n ≤ 60) ⌝ }
-    ensures { λ r. ⌜ r ≡ zeroedOf at n (filled 60 (now (header .entry))) ⌝ }
+    ensures { λ r. ⌜ r ≡ zeroedOf at n (padded 60 (now (header .entry))) ⌝ }
 {
     let mut h = [0u8; 60];
     octets::copy_at(&mut h, 0, header);

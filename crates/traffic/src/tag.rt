@@ -7,8 +7,9 @@ ghost use Prim.Native.Nat.{_+_, _≤_};
 ghost use lib.ListN.{length};
 ghost use Rattle.rules.specs.Mac.{applied, trafficKey, front as frontOf};
 ghost use Rattle.traffic.specs.MacContext.{macView, macStart, macAbsorb};
-ghost use Rattle.traffic.specs.Filled.{padded20};
+ghost use Rattle.traffic.specs.Padded.{padded, digestRoom};
 ghost use Rattle.traffic.specs.Flow.{flowOf};
+use crate::context::DIGEST_ROOM;
 use crate::context::MacContext;
 use crate::flow::Flow;
 use keys::entry::Secret;
@@ -22,7 +23,8 @@ pub fn begin(
     header: &[u8],
 ) -> MacContext
     requires { ⌜ (20 ≤ at) × (at + 4 + secret .«mac_bytes» ≤ length (now header)) × (length (now header) ≤ 60) ⌝ }
-    ensures { λ r. ⌜ macView r ≡ macAbsorb (macStart (secret .algorithm) (padded20 (trafficKey secret (flowOf flow)))) (frontOf secret (flowOf flow) extension at len (now (header .entry))) ⌝ }
+    ensures { λ r. ⌜ macView r ≡ macAbsorb (macStart (secret .algorithm) (padded digestRoom (trafficKey secret (flowOf flow))))
+        (frontOf secret (flowOf flow) extension at len (now (header .entry))) ⌝ }
 {
     let key = crate::derive::traffic_key(secret, flow);
     let a = crate::front::front(secret, flow, extension, at, len, header);
@@ -39,9 +41,10 @@ pub fn segment_tag(
     len: usize,
     header: &[u8],
     data: &[u8],
-) -> [u8; 20]
+) -> [u8; DIGEST_ROOM]
     requires { ⌜ (20 ≤ at) × (at + 4 + secret .«mac_bytes» ≤ length (now header)) × (length (now header) ≤ 60) ⌝ }
-    ensures { λ r. ⌜ r ≡ padded20 (applied (secret .algorithm) (trafficKey secret (flowOf flow)) (frontOf secret (flowOf flow) extension at len (now (header .entry)) ++ now («data» .entry))) ⌝ }
+    ensures { λ r. ⌜ r ≡ padded digestRoom (applied (secret .algorithm) (trafficKey secret (flowOf flow))
+        (frontOf secret (flowOf flow) extension at len (now (header .entry)) ++ now («data» .entry))) ⌝ }
 {
     begin(secret, flow, extension, at, len, header)
         .update(data)

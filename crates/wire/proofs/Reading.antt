@@ -11,7 +11,7 @@ use native.Mathlib.Omega.{arith}
 use native.Mathlib.Nat.{add-zero}
 use native.Mathlib.Numerals.{add-one}
 use borrow.Author.Tests.{ne-eqb, eq-eqb, ltb-false, eqb-true, leb-true, leb-false}
-use Rattle.wire.specs.Tests.{any}
+use Rattle.octets.specs.Tests.{any}
 use Rattle.wire.specs.Options.{Option, Reading, malformed, options, more, least, lengthFaults, readFrom, ofKind, occurrence, seen, optionsOf}
 use Rattle.wire.specs.OptionLaws.{read-skip, lengthGood}
 use Rattle.wire.specs.OptionSteps.{lengthAt, toStep, stepAt, none, noted}

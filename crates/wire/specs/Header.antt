@@ -6,7 +6,7 @@ use mathlib.Core.List.{List, [], _∷_}
 use lib.ListN.{length, getD, take, drop}
 use lib.Dec.{ltb, eqb}
 use Rattle.octets.specs.Octets.{get16, get32}
-use Rattle.wire.specs.Tests.{any}
+use Rattle.octets.specs.Tests.{any}
 use Rattle.wire.specs.Options.{optionsOf}
 use Rattle.wire.specs.declared.header.Header.{Header}
 

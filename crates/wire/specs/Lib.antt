@@ -8,4 +8,3 @@ pub mod OptionSteps
 pub mod Options
 pub mod Prefix
 pub mod PrefixLaws
-pub mod Tests

@@ -10,7 +10,7 @@ use lib.Dec.{ltb, eqb}
 use native.Mathlib.Omega.{arith}
 use native.Mathlib.Nat.{add-zero}
 use borrow.Author.Tests.{le-ltb, ne-eqb, ltb-false, eqb-false}
-use Rattle.wire.specs.Tests.{any}
+use Rattle.octets.specs.Tests.{any}
 use Rattle.wire.specs.Options.{Option, Reading, malformed, options, more, least, lengthFaults, readFrom, ofKind, occurrence, occurrences, seen, optionsOf}
 use Rattle.wire.specs.declared.options.Occurrence.{Occurrence}
 use Rattle.wire.specs.declared.options.Seen.{Seen}

@@ -8,7 +8,8 @@ use lib.ListN.{length, getD}
 use lib.Dec.{eqb}
 use native.Mathlib.Omega.{arith}
 use borrow.Author.Tests.{eqb-true}
-use Rattle.wire.specs.Tests.{any}
+use Rattle.octets.specs.Each.{Each}
+use Rattle.octets.specs.Tests.{any}
 use Rattle.wire.specs.Options.{Option, Reading, malformed, options, more, least, lengthFaults, readFrom, ofKind, occurrence, occurrences, seen, optionsOf}
 use Rattle.wire.specs.declared.options.Occurrence.{Occurrence}
 use Rattle.wire.specs.declared.options.Seen.{Seen}
@@ -22,10 +23,6 @@ pub record Placed (s : List ℕ) (at : ℕ) (o : Option) : Type 0 where
   pub long : least (o .kind) ≤ o .len
   pub kinds : getD s (o .at - at) 0 ≡ o .kind
   pub lens : getD s (o .at - at + 1) 0 ≡ o .len
-
-abbrev Each : (Option → Type 0) → List Option → Type 0
-Each P [] = Unit
-Each P (o ∷ l) = P o × Each P l
 
 each : (P Q : Option → Type 0) → ((o : Option) → P o → Q o) → (l : List Option) → Each P l → Each Q l
 each P Q f [] h = tt

@@ -1,10 +1,10 @@
 //! Signing and judging: against the reference, and against the two MACs that they need.
 
-use crate::connection::{segment, End, Keys, KEY};
+use crate::connection::{open, segment, Keys, KEY};
 use crate::timing::{Limit, Outcome, Table};
 use crate::{count, SIZES};
-use bench::{aes128_cmac, hmac_sha1, judge, sign, Bytes};
-use reference::{boundary, Rules};
+use bench::{aes128_cmac, hmac_sha1, Bytes, REFERENCE};
+use kit::{Boundary, End};
 use std::hint::black_box;
 
 const ROUNDS: usize = 61;
@@ -22,58 +22,41 @@ struct Exchange {
 
 impl Exchange {
     fn new(algorithm: u8, keys: Keys, n: usize) -> Exchange {
-        let mut signer = End::open(0, algorithm, keys);
+        let mut signer = open(0, algorithm, keys);
         let segment = segment(n);
         let mut signed = vec![0; n + 16];
-        let answer = sign(&signer.table, &segment, &mut signed, &mut signer.state);
+        let answer = signer.sign_into(&segment, &mut signed);
         assert_eq!(answer, (signed.len() as u64) << 32);
         Exchange {
             signer,
-            judge: End::open(1, algorithm, keys),
+            judge: open(1, algorithm, keys),
             segment,
             signed,
         }
     }
 
+    /// The same, by another side's calls.
+    fn by(&self, boundary: Boundary) -> Exchange {
+        let mut other = self.clone();
+        other.signer.boundary = boundary;
+        other.judge.boundary = boundary;
+        other
+    }
+
     fn sign(&mut self) -> u64 {
-        let end = &mut self.signer;
-        sign(&end.table, &self.segment, &mut self.signed, &mut end.state)
+        self.signer.sign_into(&self.segment, &mut self.signed)
     }
 
     fn judge(&mut self) -> u64 {
-        let (from, to) = (&self.signer.address, &mut self.judge);
-        judge(&to.table, from, &to.address, &self.signed, &mut to.state)
-    }
-
-    fn reference_sign(&mut self) -> u64 {
-        let (rules, end) = (Rules::default(), &mut self.signer);
-        boundary::tcpao_sign(
-            rules,
-            &end.table,
-            &self.segment,
-            &mut self.signed,
-            &mut end.state,
-        )
-    }
-
-    fn reference_judge(&mut self) -> u64 {
-        let (rules, from, to) = (Rules::default(), &self.signer.address, &mut self.judge);
-        boundary::tcpao_judge(
-            rules,
-            &to.table,
-            from,
-            &to.address,
-            &self.signed,
-            &mut to.state,
-        )
+        self.judge.judge(&self.signed)
     }
 }
 
 /// Both must give the same before their times mean anything.
 fn compare(ours: &mut Exchange, reference: &mut Exchange) {
-    assert_eq!(ours.sign(), reference.reference_sign());
+    assert_eq!(ours.sign(), reference.sign());
     assert_eq!(ours.judge(), 0);
-    assert_eq!(reference.reference_judge(), 0);
+    assert_eq!(reference.judge(), 0);
     assert_eq!(ours.signed, reference.signed);
     assert_eq!(ours.signer.state, reference.signer.state);
     assert_eq!(ours.judge.state, reference.judge.state);
@@ -106,7 +89,7 @@ pub fn against_reference() -> Outcome {
     for (algorithm, name) in ALGORITHMS {
         for (keys, n) in cases() {
             let mut ours = Exchange::new(algorithm, keys, n);
-            let mut reference = ours.clone();
+            let mut reference = ours.by(REFERENCE);
             compare(&mut ours, &mut reference);
             let label = |call| format!("{call:<5} {name:<10} {:<8} {n:>6}", keys.name());
             table.row(
@@ -114,14 +97,14 @@ pub fn against_reference() -> Outcome {
                 true,
                 count(n),
                 &mut || assert_eq!(black_box(&mut ours).sign() & 255, 0),
-                &mut || assert_eq!(black_box(&mut reference).reference_sign() & 255, 0),
+                &mut || assert_eq!(black_box(&mut reference).sign() & 255, 0),
             );
             table.row(
                 &label("judge"),
                 true,
                 count(n),
                 &mut || assert_eq!(black_box(&mut ours).judge() & 255, 0),
-                &mut || assert_eq!(black_box(&mut reference).reference_judge() & 255, 0),
+                &mut || assert_eq!(black_box(&mut reference).judge() & 255, 0),
             );
         }
     }

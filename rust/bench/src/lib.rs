@@ -1,19 +1,21 @@
 //! The archive's functions that are timed or compared here, over slices, and bytes to give them.
 
-pub use embankery::raw::{aes128, aes128_cmac, check_table, hmac_sha1, judge, sha1, sign};
+pub use embankery::raw::{aes128, aes128_cmac, hmac_sha1, sha1};
+pub use kit::Bytes;
 
-/// Bytes to try things with: the same at each run.
-pub struct Bytes(pub u64);
+use embankery::raw;
+use kit::{calls_of, Boundary};
 
-impl Bytes {
-    pub fn byte(&mut self) -> u8 {
-        self.0 ^= self.0 << 13;
-        self.0 ^= self.0 >> 7;
-        self.0 ^= self.0 << 17;
-        (self.0 >> 32) as u8
-    }
+/// The calls of the archive.
+pub const ARCHIVE: Boundary = Boundary {
+    check_table: raw::check_table,
+    open_active: raw::open_active,
+    judge_syn: raw::judge_syn,
+    open_passive: raw::open_passive,
+    judge: raw::judge,
+    sign: raw::sign,
+    ask: raw::ask,
+};
 
-    pub fn take(&mut self, n: usize) -> Vec<u8> {
-        (0..n).map(|_| self.byte()).collect()
-    }
-}
+/// The calls of the reference.
+pub const REFERENCE: Boundary = calls_of!(Boundary, reference::boundary);

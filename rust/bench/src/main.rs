@@ -18,8 +18,10 @@ fn count(n: usize) -> usize {
 }
 
 fn main() -> ExitCode {
+    let [hashes, cmac] = messages::run();
     let outcomes = [
-        messages::run(),
+        hashes,
+        cmac,
         calls::against_reference(),
         calls::against_macs(),
         tables::against_hmac(),

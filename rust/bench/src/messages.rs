@@ -1,4 +1,4 @@
-//! SHA-1, HMAC-SHA-1 and AES-CMAC against plain Rust of the same shape.
+//! SHA-1, HMAC-SHA-1 and AES-CMAC against plain Rust.
 
 use crate::timing::{Limit, Outcome, Table};
 use crate::{count, SIZES};
@@ -12,8 +12,6 @@ type Call = fn(&[u8; 16], &[u8], &mut [u8; 20]);
 /// A function on a message under one 16-byte key, in both forms.
 struct Pair {
     name: &'static str,
-    /// Whether its time has to be within the limit.
-    limited: bool,
     ours: Call,
     plain: Call,
 }
@@ -21,7 +19,6 @@ struct Pair {
 const PAIRS: [Pair; 3] = [
     Pair {
         name: "SHA-1",
-        limited: true,
         ours: |_, message, out| {
             sha1(message, out);
         },
@@ -29,7 +26,6 @@ const PAIRS: [Pair; 3] = [
     },
     Pair {
         name: "HMAC-SHA-1",
-        limited: false,
         ours: |key, message, out| {
             hmac_sha1(key, message, out);
         },
@@ -37,7 +33,6 @@ const PAIRS: [Pair; 3] = [
     },
     Pair {
         name: "AES-CMAC",
-        limited: true,
         ours: |key, message, out| {
             aes128_cmac(key, message, out);
         },
@@ -63,29 +58,43 @@ fn compare() -> usize {
     inputs
 }
 
-pub fn run() -> Outcome {
+pub fn run() -> [Outcome; 2] {
     let inputs = compare();
     println!("{inputs} messages give the same by the archive and by plain Rust.");
-    let mut table = Table::new(
-        "Functions on messages against plain Rust of the same shape (rust/plain).",
-        "function, bytes",
-        "plain",
-        ROUNDS,
-        Limit {
-            rows: "SHA-1 and AES-CMAC by plain Rust",
-            ratio: 1.25,
-            wanted: true,
-        },
-    );
+    let (hashes, cmac) = PAIRS.split_at(2);
+    [
+        measure(
+            "SHA-1 and HMAC-SHA-1 against plain Rust with eighty words of the schedule (rust/plain).",
+            hashes,
+            Limit {
+                rows: "SHA-1 and HMAC-SHA-1 by plain Rust; asked at most 2 on 1,400 bytes, ours",
+                ratio: 1.0,
+                wanted: true,
+            },
+        ),
+        measure(
+            "AES-CMAC against plain Rust of the same shape (rust/plain).",
+            cmac,
+            Limit {
+                rows: "AES-CMAC by plain Rust",
+                ratio: 1.25,
+                wanted: true,
+            },
+        ),
+    ]
+}
+
+fn measure(title: &str, pairs: &[Pair], limit: Limit) -> Outcome {
+    let mut table = Table::new(title, "function, bytes", "plain", ROUNDS, limit);
     let mut bytes = Bytes(11);
-    for pair in &PAIRS {
+    for pair in pairs {
         for n in SIZES {
             let key: [u8; 16] = bytes.take(16).try_into().unwrap();
             let message = bytes.take(n);
             let (mut a, mut b) = ([0; 20], [0; 20]);
             table.row(
                 &format!("{:<12} {n:>6}", pair.name),
-                pair.limited,
+                true,
                 count(n),
                 &mut || (pair.ours)(black_box(&key), black_box(&message), black_box(&mut a)),
                 &mut || (pair.plain)(black_box(&key), black_box(&message), black_box(&mut b)),

@@ -1,10 +1,10 @@
 //! Checking a key table of 64 entries, against one HMAC-SHA-1 of 1,400 bytes and against the
 //! reference.
 
-use crate::connection::{entry, Side, KEY};
+use crate::connection::{anybody, KEY};
 use crate::timing::{Limit, Outcome, Table};
-use bench::{check_table, hmac_sha1, Bytes};
-use reference::{boundary, Rules};
+use bench::{hmac_sha1, Bytes, ARCHIVE, REFERENCE};
+use kit::{Boundary, Entry, Side};
 use std::hint::black_box;
 
 const ROUNDS: usize = 201;
@@ -14,7 +14,13 @@ const COUNT: usize = 10;
 /// A table of 64 entries, by their index.
 struct Entries {
     name: &'static str,
-    entry: fn(u8) -> Vec<u8>,
+    entry: fn(u8) -> Entry,
+}
+
+impl Entries {
+    fn bytes(&self) -> Vec<u8> {
+        (0..64).flat_map(|i| (self.entry)(i).bytes()).collect()
+    }
 }
 
 /// Where all entries share their IDs, each is compared with all before it: with its ports, then with
@@ -22,33 +28,33 @@ struct Entries {
 const TABLES: [Entries; 4] = [
     Entries {
         name: "IPv4, different IDs",
-        entry: |i| entry(1, [i, 100 + i], &Side::any(), &Side::any()),
+        entry: |i| anybody().ids(i, 100 + i),
     },
     Entries {
         name: "IPv4, the same IDs, ports differ",
         entry: |i| {
-            let ports = [1_000 + u16::from(i); 2];
-            let local = Side {
-                ports,
-                ..Side::any()
-            };
-            entry(1, [1, 2], &local, &Side::any())
+            let port = 1_000 + u16::from(i);
+            Entry {
+                local: Side::any(4).ports(port, port),
+                ..anybody().ids(1, 2)
+            }
         },
     },
     Entries {
         name: "IPv6, the same IDs, one /128 differs",
-        entry: |i| {
-            let local = Side {
-                bits: 0,
-                address: vec![0; 16],
-                ..host(0)
-            };
-            entry(1, [1, 2], &local, &host(i))
+        entry: |i| Entry {
+            local: Side::any(16),
+            remote: host(i),
+            ..anybody().ids(1, 2)
         },
     },
     Entries {
         name: "IPv6, the same IDs, second /128 differs",
-        entry: |i| entry(1, [1, 2], &host(i), &host(7)),
+        entry: |i| Entry {
+            local: host(i),
+            remote: host(7),
+            ..anybody().ids(1, 2)
+        },
     },
 ];
 
@@ -56,11 +62,7 @@ const TABLES: [Entries; 4] = [
 fn host(last: u8) -> Side {
     let mut address = b"\x20\x01\x0d\xb8 IPv6 host ".to_vec();
     address.push(last);
-    Side {
-        ports: Side::ANY_PORT,
-        address,
-        bits: 128,
-    }
+    Side::host(&address)
 }
 
 pub fn against_hmac() -> Outcome {
@@ -80,9 +82,10 @@ pub fn against_hmac() -> Outcome {
             wanted: true,
         },
     );
-    for Entries { name, entry } in &TABLES {
-        let bytes: Vec<u8> = (0..64).flat_map(entry).collect();
-        table.row(name, true, COUNT, &mut || ours(&bytes), &mut hmac);
+    for entries in &TABLES {
+        let bytes = entries.bytes();
+        let mut ours = || check(ARCHIVE, &bytes);
+        table.row(entries.name, true, COUNT, &mut ours, &mut hmac);
     }
     table.end()
 }
@@ -100,21 +103,16 @@ pub fn against_reference() -> Outcome {
         },
     );
     // The last is only reported: there the two look at the sides in different order.
-    for (i, Entries { name, entry }) in TABLES.iter().enumerate() {
-        let bytes: Vec<u8> = (0..64).flat_map(entry).collect();
+    for (i, entries) in TABLES.iter().enumerate() {
+        let bytes = entries.bytes();
         let limited = i < 3;
-        table.row(name, limited, COUNT, &mut || ours(&bytes), &mut || {
-            reference(&bytes)
-        });
+        let mut ours = || check(ARCHIVE, &bytes);
+        let mut reference = || check(REFERENCE, &bytes);
+        table.row(entries.name, limited, COUNT, &mut ours, &mut reference);
     }
     table.end()
 }
 
-fn ours(table: &[u8]) {
-    assert_eq!(check_table(black_box(table)), 64 << 32);
-}
-
-fn reference(table: &[u8]) {
-    let answer = boundary::tcpao_check_table(Rules::default(), black_box(table));
-    assert_eq!(answer, 64 << 32);
+fn check(boundary: Boundary, table: &[u8]) {
+    assert_eq!((boundary.check_table)(black_box(table)), 64 << 32);
 }

@@ -33,7 +33,8 @@ pub struct Limit {
     /// Which rows, and what they are measured by.
     pub rows: &'static str,
     pub ratio: f64,
-    /// Whether it was asked of us, so that a miss fails the run; else it is our own aim.
+    /// Whether a miss fails the run: it was asked of us, or is stricter than what was; else it is our
+    /// own aim.
     pub wanted: bool,
 }
 
@@ -132,9 +133,9 @@ impl Outcome {
 /// The last part: which limits hold. Gives whether all that are wanted do.
 pub fn summary(outcomes: &[Outcome]) -> bool {
     println!(
-        "\nLimits. The largest ratio by the minimum decides. Wanted limits were asked of us, and"
+        "\nLimits. The largest ratio by the minimum decides. Wanted limits were asked of us, or"
     );
-    println!("the run fails if one is missed; the others are our own aims.\n");
+    println!("are stricter, and the run fails if one is missed; the others are our own aims.\n");
     println!("limit             minimum   median   of");
     for outcome in outcomes {
         outcome.print();

@@ -1,14 +1,14 @@
 //! Calls that are right but for the numbers aimed at: none, one, or several at once, so that the
 //! order of the numbers is tried. What is aimed at is only a hint; the two sides say what it gives.
 
-use crate::calls::{Call, Function};
 use crate::numbers::possible;
 use crate::prng::Prng;
-use crate::segments::{self, Segment, ACK, SYN};
-use crate::states::{distance, number, pair_of};
-use crate::tables::{self, id, Key, Pair};
+use crate::segments::{self, any_header};
+use crate::states::{distance, number};
+use crate::tables::{self, id, matches};
+use kit::segment::{ao, ACK, SYN};
+use kit::{Call, Entry, Function, Pair, Segment, State};
 use reference::mac::Ends;
-use reference::State;
 
 /// The numbers aimed at. 10 stands for 10 to 17.
 pub struct Aim(Vec<u8>);
@@ -33,7 +33,7 @@ impl Aim {
 
 /// One end as a call sees it.
 pub struct At<'a> {
-    pub keys: &'a [Key],
+    pub keys: &'a [Entry],
     pub table: &'a [u8],
     pub state: &'a [u8],
 }
@@ -49,8 +49,8 @@ impl At<'_> {
 }
 
 /// A key that matches the pair, if there is one; otherwise any.
-fn matching<'k>(random: &mut Prng, keys: &'k [Key], pair: &Pair) -> Option<&'k Key> {
-    let good: Vec<&Key> = keys.iter().filter(|key| key.matches(pair)).collect();
+fn matching<'k>(random: &mut Prng, keys: &'k [Entry], pair: &Pair) -> Option<&'k Entry> {
+    let good: Vec<&Entry> = keys.iter().filter(|key| matches(key, pair)).collect();
     if !good.is_empty() {
         return Some(good[random.below(good.len())]);
     }
@@ -58,7 +58,7 @@ fn matching<'k>(random: &mut Prng, keys: &'k [Key], pair: &Pair) -> Option<&'k K
 }
 
 /// An ID that some entry has, for this pair or another, or none.
-fn some_id(random: &mut Prng, keys: &[Key]) -> u8 {
+fn some_id(random: &mut Prng, keys: &[Entry]) -> u8 {
     if keys.is_empty() || random.one_in(4) {
         return id(random);
     }
@@ -86,7 +86,7 @@ pub fn open_active(random: &mut Prng, at: &At, pair: &Pair, isn: u32, aim: &Aim)
 
 pub fn ask(random: &mut Prng, at: &At, aim: &Aim) -> Call {
     let mut call = at.call(Function::Ask);
-    let pair = State::from_bytes(at.state).map(|state| pair_of(&state));
+    let pair = State::read(at.state).map(|state| state.pair());
     let key = pair.and_then(|pair| matching(random, at.keys, &pair));
     call.byte = match key {
         Some(key) if !aim.has(35) => key.recv_id,
@@ -109,7 +109,7 @@ struct Arrival {
 pub fn syn(random: &mut Prng, function: Function, at: &At, pair: &Pair, aim: &Aim) -> Call {
     let sequence = number(random);
     // Now and then a pair that no entry may match.
-    let elsewhere = Pair::random(random);
+    let elsewhere = tables::pair(random);
     let pair = if random.one_in(12) { &elsewhere } else { pair };
     let flags = if aim.has(24) {
         random.pick(&[ACK, SYN | ACK, 0])
@@ -139,7 +139,7 @@ pub fn set_listening(random: &mut Prng, call: &mut Call) {
 
 /// A segment for the connection of this state, made from nothing.
 pub fn judge(random: &mut Prng, at: &At, aim: &Aim) -> Call {
-    let state = State::from_bytes(at.state).unwrap();
+    let state = State::read(at.state).unwrap();
     let (x, flags) = if state.is_open() {
         let x = near(random, state.arriving_reference, aim.has(28));
         let right = random.pick(&[ACK, ACK, 0, SYN | ACK]);
@@ -151,7 +151,7 @@ pub fn judge(random: &mut Prng, at: &At, aim: &Aim) -> Call {
     };
     let sequence = x as u32;
     let arrival = Arrival {
-        pair: pair_of(&state),
+        pair: state.pair(),
         sequence,
         extension: (x >> 32) as u32,
         source_isn: if state.is_open() {
@@ -203,13 +203,13 @@ fn arriving(random: &mut Prng, function: Function, at: &At, arrival: Arrival, ai
     let rnext_key_id = some_id(random, at.keys);
     let mut options = vec![];
     if !aim.has(25) {
-        options.push(segments::ao(length, key_id, rnext_key_id));
+        options.push(ao(length, key_id, rnext_key_id));
     }
     if aim.has(22) {
         let second = if random.one_in(2) {
             segments::md5(random)
         } else {
-            segments::ao(random.pick(&[4, 16]), key_id, rnext_key_id)
+            ao(random.pick(&[4, 16]), key_id, rnext_key_id)
         };
         options.insert(random.below(options.len() + 1), second);
     } else if aim.has(25) {
@@ -228,8 +228,9 @@ fn arriving(random: &mut Prng, function: Function, at: &At, arrival: Arrival, ai
         flags: segments::with_others(random, arrival.flags),
         options: area,
         data: segments::data(random, most),
+        ..any_header(random)
     }
-    .bytes(random);
+    .bytes();
     if let Some(key) = &key {
         let mut ends = Ends {
             source: &pair.remote,
@@ -285,8 +286,8 @@ fn other_pair(random: &mut Prng, pair: &mut Pair) {
 
 /// A segment to be signed in this state.
 pub fn sign(random: &mut Prng, at: &At, aim: &Aim) -> Call {
-    let mut state = State::from_bytes(at.state).unwrap();
-    let pair = pair_of(&state);
+    let mut state = State::read(at.state).unwrap();
+    let pair = state.pair();
 
     let (sequence, flags) = if state.is_open() {
         let x = near(random, state.signing_reference, aim.has(36));
@@ -311,7 +312,7 @@ pub fn sign(random: &mut Prng, at: &At, aim: &Aim) -> Call {
         options.push(if random.one_in(2) {
             segments::md5(random)
         } else {
-            segments::ao(random.pick(&[4, 16]), 1, 1)
+            ao(random.pick(&[4, 16]), 1, 1)
         });
     }
     let mut area = segments::area(random, &options, if aim.has(32) { 40 } else { 24 });
@@ -333,8 +334,9 @@ pub fn sign(random: &mut Prng, at: &At, aim: &Aim) -> Call {
         flags: segments::with_others(random, flags),
         options: area,
         data,
+        ..any_header(random)
     }
-    .bytes(random);
+    .bytes();
     if aim.has(33) {
         random.flip(&mut segment[0..4]);
     }
@@ -346,7 +348,7 @@ pub fn sign(random: &mut Prng, at: &At, aim: &Aim) -> Call {
         state.outgoing_send_id = some_id(random, at.keys);
     } else {
         let outgoing = state.outgoing_send_id;
-        let has_it = |key: &Key| key.send_id == outgoing && key.matches(&pair);
+        let has_it = |key: &Entry| key.send_id == outgoing && matches(key, &pair);
         if let (false, Some(key)) = (at.keys.iter().any(has_it), matching(random, at.keys, &pair)) {
             state.outgoing_send_id = key.send_id;
         }
@@ -360,7 +362,7 @@ pub fn sign(random: &mut Prng, at: &At, aim: &Aim) -> Call {
     };
 
     let mut call = at.call(Function::Sign);
-    call.state = state.to_bytes().to_vec();
+    call.state = state.bytes();
     call.segment = segment;
     call.out = random.bytes(room.min(70_000));
     finished(random, call, at, aim)
@@ -370,7 +372,7 @@ pub fn sign(random: &mut Prng, at: &At, aim: &Aim) -> Call {
 fn finished(random: &mut Prng, mut call: Call, at: &At, aim: &Aim) -> Call {
     if aim.has(18) && call.function.takes_state() {
         if random.one_in(2) {
-            let length = random.pick(&[0, 1, 151, 153, 304]);
+            let length = random.pick(&[0, 1, State::BYTES - 1, State::BYTES + 1, 2 * State::BYTES]);
             call.state.resize(length, 4);
         } else {
             call.state[0] = random.pick(&[0, 1, 5, 7, 255]);

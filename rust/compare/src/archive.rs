@@ -1,7 +1,9 @@
 //! The call by the proved archive.
 
-use crate::calls::{Call, Function, Outcome};
-use embankery::raw::c;
+use kit::pointers::{Buffer, Buffers, Calls};
+use kit::{calls_of, Call, Outcome};
+
+const ARCHIVE: Calls = calls_of!(Calls, embankery::raw::c);
 
 /// What stands before, between and behind the buffers, and must stay.
 const CANARY: [u8; 32] = [0xa5; 32];
@@ -52,40 +54,24 @@ pub fn by_archive(call: &Call) -> Outcome {
     let mut lent = Lent::new([table, source, destination, segment, out, state]);
     let memory = lent.memory.as_mut_ptr();
     // A start lies within the memory, which is neither moved nor used otherwise until the call ends.
-    let [t, s, d, g, o, w] = lent.starts.map(|start| unsafe { memory.add(start) });
-    let (tn, sn, dn, gn) = (table.len(), source.len(), destination.len(), segment.len());
-    let (on, wn) = (out.len(), state.len());
-    // Each pointer is good for its length, and the buffers do not overlap.
-    let word = unsafe {
-        match call.function {
-            Function::CheckTable => c::tcpao_check_table(t, tn),
-            Function::OpenActive => c::tcpao_open_active(
-                t,
-                tn,
-                s,
-                sn,
-                d,
-                dn,
-                call.local_port,
-                call.remote_port,
-                call.isn,
-                call.byte,
-                w,
-                wn,
-            ),
-            Function::JudgeSyn => c::tcpao_judge_syn(t, tn, s, sn, d, dn, g, gn, call.byte),
-            Function::OpenPassive => {
-                c::tcpao_open_passive(t, tn, s, sn, d, dn, g, gn, call.isn, call.byte, w, wn)
-            }
-            Function::Judge => c::tcpao_judge(t, tn, s, sn, d, dn, g, gn, w, wn),
-            Function::Sign => c::tcpao_sign(t, tn, g, gn, o, on, w, wn),
-            Function::Ask => c::tcpao_ask(t, tn, call.byte, w, wn),
-        }
+    let lend = |index: usize, part: &[u8]| Buffer {
+        at: unsafe { memory.add(lent.starts[index]) },
+        length: part.len(),
     };
+    let buffers = Buffers {
+        table: lend(0, table),
+        source: lend(1, source),
+        destination: lend(2, destination),
+        segment: lend(3, segment),
+        out: lend(4, out),
+        state: lend(5, state),
+    };
+    // Each pointer is good for its length, and the buffers do not overlap.
+    let word = unsafe { ARCHIVE.make(call, &buffers) };
     Outcome {
         word,
-        out: lent.part(4, on).to_vec(),
-        state: lent.part(5, wn).to_vec(),
+        out: lent.part(4, out.len()).to_vec(),
+        state: lent.part(5, state.len()).to_vec(),
         strayed: lent.strayed([table, source, destination, segment]),
     }
 }

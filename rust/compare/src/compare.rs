@@ -1,24 +1,24 @@
 //! Makes each call on the archive and on the reference and holds the outcomes against each other.
 //!
-//! The reference may be tried under several rules in one run: document 01's, or with one fault
-//! planted each. One that has differed is tried no further. Up to its first difference each has seen
+//! The reference may be tried several times in one run: as it is, or with one fault planted each.
+//! One that has differed is tried no further. Up to its first difference each has seen
 //! the same calls as if it had been tried alone, since the run goes on with the archive's outcomes.
 
+use crate::against::Against;
 use crate::archive::by_archive;
-use crate::calls::{by_reference, Call, Outcome};
 use crate::counts::Counts;
 use crate::prng::Prng;
 use crate::report;
 use crate::world::{Caller, Stop, World};
-use reference::Rules;
+use kit::{Call, Outcome};
 
 /// The run that the gate makes.
 pub const SEED: u64 = 20_251_116;
 pub const CALLS: u64 = 1_000_000;
 
-/// Rules that the reference goes by, and where it first differed from the archive.
+/// What the archive is compared with, and where it first differed.
 pub struct Tried {
-    pub rules: Rules,
+    pub against: Against,
     pub difference: Option<Difference>,
 }
 
@@ -46,9 +46,9 @@ pub struct Run {
 
 impl Run {
     /// A run of `limit` calls.
-    pub fn new(seed: u64, limit: u64, rules: &[Rules]) -> Run {
-        let tried = rules.iter().map(|rules| Tried {
-            rules: *rules,
+    pub fn new(seed: u64, limit: u64, against: &[Against]) -> Run {
+        let tried = against.iter().map(|against| Tried {
+            against: *against,
             difference: None,
         });
         Run {
@@ -62,7 +62,7 @@ impl Run {
         }
     }
 
-    /// Makes the calls, fewer if all the rules tried have differed before.
+    /// Makes the calls, fewer if all that were tried have differed before.
     pub fn made(mut self) -> Run {
         let mut random = Prng::new(self.seed);
         while World::run(&mut random, &mut self).is_ok() {}
@@ -106,7 +106,7 @@ impl Caller for Run {
             if tried.difference.is_some() {
                 continue;
             }
-            let reference = by_reference(tried.rules, call);
+            let reference = tried.against.make(call);
             if reference != archive {
                 tried.difference = Some(Difference {
                     seed: self.seed,

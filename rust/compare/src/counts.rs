@@ -1,10 +1,10 @@
 //! What a run has met: each number of each call, and situations that no number tells.
 
-use crate::calls::{Call, Function, Outcome};
 use crate::numbers::{possible, ALL};
+use kit::{Call, Function, Outcome};
 use reference::segment::{read_options, Header};
 use reference::table::{self, by_recv_id, Algorithm};
-use reference::{Rules, State};
+use reference::State;
 
 /// How often each number and each situation must be met.
 pub const LEAST: u64 = 100;
@@ -175,16 +175,15 @@ fn entries(table: &[u8]) -> usize {
 
 /// What an accepted segment was accepted by.
 fn accepted(call: &Call, outcome: &Outcome, before: &State) -> Option<Accepted> {
-    let rules = Rules::default();
     let header = Header::read(&call.segment)?;
-    let ao = read_options(rules, &call.segment, &header)?.ao?;
-    let entries = table::read(rules, &call.table).ok()?;
+    let ao = read_options(&call.segment, &header)?.ao?;
+    let entries = table::read(&call.table).ok()?;
     let pair = before.pair()?;
-    let entry = by_recv_id(rules, &entries, &pair, ao.key_id)?;
+    let entry = by_recv_id(&entries, &pair, ao.key_id)?;
     let mut with_it = entries.iter().filter(|e| e.send_id == ao.rnext_key_id);
     let asks = match with_it.clone().next() {
         None => Asked::NoEntry,
-        Some(_) if with_it.any(|e| e.matches(rules, &pair)) => Asked::ThisPair,
+        Some(_) if with_it.any(|e| e.matches(&pair)) => Asked::ThisPair,
         Some(_) => Asked::OthersOnly,
     };
     Some(Accepted {

@@ -1,13 +1,13 @@
 //! The proved archive and the reference side by side.
 //!
 //! A seed gives a list of calls ([`world`], with [`aim`], [`states`], [`tables`] and [`segments`]).
-//! Each is made on the archive ([`archive`]) and on the reference ([`calls`]), and after each the
+//! Each is made on the archive ([`archive`]) and on the reference ([`against`]), and after each the
 //! answer, the state, the output and what stands around them are compared ([`compare`]). Which
 //! numbers were met is counted ([`counts`], [`numbers`]).
 
+pub mod against;
 pub mod aim;
 pub mod archive;
-pub mod calls;
 pub mod compare;
 pub mod counts;
 pub mod numbers;

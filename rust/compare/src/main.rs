@@ -2,11 +2,11 @@
 //! that is printed. `compare --seed S --upto N` makes the calls of seed S up to N and shows N in
 //! full. With `--trace` each call is named before it is made, in case one does not return.
 
+use compare::against::Against;
 use compare::compare::Run;
 use compare::counts::Counts;
 use compare::prng::Prng;
 use compare::report;
-use reference::Rules;
 use std::time::{Duration, Instant, SystemTime, UNIX_EPOCH};
 
 /// The calls of one seed; after these another one is taken, so that each can be made again soon.
@@ -40,7 +40,7 @@ fn arguments() -> Option<Arguments> {
 }
 
 fn made(seed: u64, limit: u64, trace: bool) -> Run {
-    let mut run = Run::new(seed, limit, &[Rules::default()]);
+    let mut run = Run::new(seed, limit, &[Against::Reference]);
     run.trace = trace;
     run.made()
 }

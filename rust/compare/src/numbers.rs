@@ -1,7 +1,7 @@
 //! Which numbers each call can give, by document 01's table and the boundary page, and why it gives
 //! no other.
 
-use crate::calls::Function;
+use kit::Function;
 
 /// 0 accept or done, 1 pass, and document 01's numbers.
 pub const ALL: [u8; 30] = [

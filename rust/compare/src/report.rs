@@ -1,7 +1,7 @@
 //! A difference in a few lines, and a call in full.
 
-use crate::calls::{Call, Function, Outcome};
 use crate::compare::Difference;
+use kit::{Call, Function, Outcome};
 
 /// A difference, with what is needed to make it again.
 pub fn difference(difference: &Difference) -> String {

@@ -1,37 +1,23 @@
 //! TCP segments with options, and their MACs.
 
 use crate::prng::Prng;
-use crate::tables::{entry, Key};
+use crate::tables::entry;
+use kit::segment::{ACK, SYN};
+use kit::{Entry, Segment};
 use reference::mac::{self, Ends};
 use reference::segment::{read_options, Header, WithAo};
-use reference::Rules;
 
-pub const SYN: u8 = 0x02;
-pub const ACK: u8 = 0x10;
-
-/// A segment before it is written; the option area has whole words and at most 40 bytes.
-pub struct Segment {
-    pub source_port: u16,
-    pub destination_port: u16,
-    pub sequence: u32,
-    pub flags: u8,
-    pub options: Vec<u8>,
-    pub data: Vec<u8>,
-}
-
-impl Segment {
-    /// The bytes; what no rule looks at (acknowledgment, reserved bits, window ...) is any.
-    pub fn bytes(&self, random: &mut Prng) -> Vec<u8> {
-        let mut bytes = random.bytes(20);
-        bytes[0..2].copy_from_slice(&self.source_port.to_be_bytes());
-        bytes[2..4].copy_from_slice(&self.destination_port.to_be_bytes());
-        bytes[4..8].copy_from_slice(&self.sequence.to_be_bytes());
-        let offset = 5 + self.options.len() / 4;
-        bytes[12] = (offset << 4) as u8 | bytes[12] & 0x0f;
-        bytes[13] = self.flags;
-        bytes.extend(&self.options);
-        bytes.extend(&self.data);
-        bytes
+/// A segment in which what no rule looks at (acknowledgment, reserved bits, window ...) is any.
+pub fn any_header(random: &mut Prng) -> Segment {
+    let bytes = random.bytes(20);
+    let two = |at: usize| u16::from_be_bytes([bytes[at], bytes[at + 1]]);
+    Segment {
+        acknowledgment: u32::from(two(8)) << 16 | u32::from(two(10)),
+        reserved: bytes[12] & 0x0f,
+        window: two(14),
+        checksum: two(16),
+        urgent: two(18),
+        ..Segment::default()
     }
 }
 
@@ -54,13 +40,6 @@ pub fn data(random: &mut Prng, most: usize) -> Vec<u8> {
         _ => random.below(80),
     };
     random.bytes(length)
-}
-
-/// TCP-AO with an empty MAC.
-pub fn ao(length: u8, key_id: u8, rnext_key_id: u8) -> Vec<u8> {
-    let mut option = vec![29, length, key_id, rnext_key_id];
-    option.resize(length as usize, 0);
-    option
 }
 
 /// MD5, also of a length that is not its own.
@@ -162,14 +141,13 @@ pub fn spoil_length(random: &mut Prng, segment: &mut Vec<u8>) {
 }
 
 /// Writes the MAC that the key gives into the first TCP-AO, if there is one with room for it.
-pub fn seal(segment: &mut [u8], key: &Key, ends: &Ends, extension: u32) {
-    let rules = Rules::default();
+pub fn seal(segment: &mut [u8], key: &Entry, ends: &Ends, extension: u32) {
     let bytes = key.bytes();
     let Some(entry) = entry(&bytes) else { return };
     let Some(header) = Header::read(segment) else {
         return;
     };
-    let Some(ao) = read_options(rules, segment, &header).and_then(|options| options.ao) else {
+    let Some(ao) = read_options(segment, &header).and_then(|options| options.ao) else {
         return;
     };
     if ao.length < 16 {
@@ -180,6 +158,6 @@ pub fn seal(segment: &mut [u8], key: &Key, ends: &Ends, extension: u32) {
         header,
         ao,
     };
-    let mac = mac::mac(rules, &entry, ends, ends, extension, &carrier);
+    let mac = mac::mac(&entry, ends, extension, &carrier);
     segment[ao.at + 4..ao.at + 16].copy_from_slice(&mac);
 }

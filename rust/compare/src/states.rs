@@ -1,8 +1,8 @@
 //! States: near where something is about to happen, or with any bytes.
 
 use crate::prng::Prng;
-use crate::tables::{id, Pair};
-use reference::state::{State, STATE_BYTES};
+use crate::tables::id;
+use kit::{Pair, State};
 
 /// A reference, often near a rollover, near 0, near 2^64, or where 16 or 31 bits end.
 pub fn reference(random: &mut Prng) -> u64 {
@@ -55,10 +55,10 @@ fn count(random: &mut Prng) -> u64 {
     }
 }
 
-/// A state of this pair with anything else in it; now and then not even that, but always 152 bytes.
+/// A state of this pair with anything else in it; now and then not even that, but always of a state's length.
 pub fn any_state(random: &mut Prng, pair: &Pair) -> State {
-    let bytes = random.bytes(STATE_BYTES);
-    let mut state = State::from_bytes(&bytes).unwrap();
+    let bytes = random.bytes(State::BYTES);
+    let mut state = State::read(&bytes).unwrap();
     if !random.one_in(20) {
         state.family = random.pick(&[4, 6]);
     }
@@ -74,27 +74,7 @@ pub fn any_state(random: &mut Prng, pair: &Pair) -> State {
     state.accepted = count(random);
     state.drops = [0; 10].map(|_: u64| count(random));
     if !random.one_in(20) {
-        put_pair(&mut state, pair);
+        state.put_pair(pair);
     }
     state
-}
-
-/// Puts the pair into a state; what stands behind an IPv4 address stays.
-pub fn put_pair(state: &mut State, pair: &Pair) {
-    state.family = if pair.local.len() == 4 { 4 } else { 6 };
-    state.local[..pair.local.len()].copy_from_slice(&pair.local);
-    state.remote[..pair.remote.len()].copy_from_slice(&pair.remote);
-    state.local_port = pair.local_port;
-    state.remote_port = pair.remote_port;
-}
-
-/// The pair that a state holds; one of a family that 18 refuses is read as IPv4's.
-pub fn pair_of(state: &State) -> Pair {
-    let bytes = if state.family == 6 { 16 } else { 4 };
-    Pair {
-        local: state.local[..bytes].to_vec(),
-        remote: state.remote[..bytes].to_vec(),
-        local_port: state.local_port,
-        remote_port: state.remote_port,
-    }
 }

@@ -1,46 +1,17 @@
 //! Key tables: entries around a socket pair, and the faults that 10 to 17 refuse.
 
 use crate::prng::Prng;
-use reference::table::{self, Entry};
-use reference::Rules;
+use kit::entry::table;
+use kit::{Entry, Pair, Side};
 
-/// A socket pair as one end holds it.
-#[derive(Clone, Debug)]
-pub struct Pair {
-    pub local: Vec<u8>,
-    pub remote: Vec<u8>,
-    pub local_port: u16,
-    pub remote_port: u16,
-}
-
-impl Pair {
-    pub fn random(random: &mut Prng) -> Pair {
-        let bytes = random.pick(&[4, 16]);
-        Pair {
-            local: random.bytes(bytes),
-            remote: random.bytes(bytes),
-            local_port: port(random),
-            remote_port: port(random),
-        }
-    }
-
-    /// The pair as the other end holds it.
-    pub fn mirror(&self) -> Pair {
-        Pair {
-            local: self.remote.clone(),
-            remote: self.local.clone(),
-            local_port: self.remote_port,
-            remote_port: self.local_port,
-        }
-    }
-
-    pub fn lent(&self) -> table::Pair<'_> {
-        table::Pair {
-            local: &self.local,
-            remote: &self.remote,
-            local_port: self.local_port,
-            remote_port: self.remote_port,
-        }
+/// Any pair.
+pub fn pair(random: &mut Prng) -> Pair {
+    let bytes = random.pick(&[4, 16]);
+    Pair {
+        local: random.bytes(bytes),
+        remote: random.bytes(bytes),
+        local_port: port(random),
+        remote_port: port(random),
     }
 }
 
@@ -57,68 +28,58 @@ pub fn id(random: &mut Prng) -> u8 {
     random.pick(&[0, 1, 2, 3, 4, 5, 6, 7, 254, 255])
 }
 
-#[derive(Clone, Debug)]
-pub struct Side {
-    pub low: u16,
-    pub high: u16,
-    pub address: Vec<u8>,
-    pub prefix: u8,
+/// A side that this address and port lie in, often at an end of the range.
+fn side_around(random: &mut Prng, address: &[u8], port: u16) -> Side {
+    let step = random.pick(&[0, 1, 300]);
+    let (low, high) = match random.below(5) {
+        0 => (port, port),
+        1 => (0, 65535),
+        2 => (port.saturating_sub(step), port),
+        3 => (port, port.saturating_add(step)),
+        _ => (port.saturating_sub(step), port.saturating_add(step)),
+    };
+    let prefix = prefix(random, address.len());
+    let address = masked(address, prefix);
+    Side {
+        low,
+        high,
+        address,
+        prefix,
+    }
 }
 
-impl Side {
-    /// A side that this address and port lie in, often at an end of the range.
-    fn around(random: &mut Prng, address: &[u8], port: u16) -> Side {
-        let step = random.pick(&[0, 1, 300]);
-        let (low, high) = match random.below(5) {
-            0 => (port, port),
-            1 => (0, 65535),
-            2 => (port.saturating_sub(step), port),
-            3 => (port, port.saturating_add(step)),
-            _ => (port.saturating_sub(step), port.saturating_add(step)),
-        };
-        let prefix = prefix(random, address.len());
-        let address = masked(address, prefix);
-        Side {
-            low,
-            high,
-            address,
-            prefix,
+/// A side close to another: the same, wider, narrower, touching it or just beside it.
+fn near(random: &mut Prng, this: &Side) -> Side {
+    let mut side = this.clone();
+    match random.below(9) {
+        0 => {}
+        1 => side.low = side.low.saturating_sub(1),
+        2 => side.high = side.low,
+        3 => (side.low, side.high) = (side.high, side.high.saturating_add(9)),
+        4 => (side.low, side.high) = (side.high.saturating_add(1), 65535),
+        5 => (side.low, side.high) = (0, side.low.saturating_sub(1)),
+        6 => {
+            // Contained in it: more bits are fixed.
+            let longer = this.prefix.max(prefix(random, this.address.len()));
+            let mut address = random.bytes(this.address.len());
+            put_first_bits(&mut address, &this.address, this.prefix);
+            side.address = masked(&address, longer);
+            side.prefix = longer;
+        }
+        7 => {
+            // It is contained in this one: fewer bits are fixed.
+            side.prefix = this.prefix.min(prefix(random, this.address.len()));
+            side.address = masked(&this.address, side.prefix);
+        }
+        _ => {
+            // Disjoint, by one fixed bit.
+            if this.prefix > 0 {
+                let bit = random.below(this.prefix as usize);
+                side.address[bit / 8] ^= 0x80 >> (bit % 8);
+            }
         }
     }
-
-    /// A side close to another: the same, wider, narrower, touching it or just beside it.
-    fn near(&self, random: &mut Prng) -> Side {
-        let mut side = self.clone();
-        match random.below(9) {
-            0 => {}
-            1 => side.low = side.low.saturating_sub(1),
-            2 => side.high = side.low,
-            3 => (side.low, side.high) = (side.high, side.high.saturating_add(9)),
-            4 => (side.low, side.high) = (side.high.saturating_add(1), 65535),
-            5 => (side.low, side.high) = (0, side.low.saturating_sub(1)),
-            6 => {
-                // Contained in it: more bits are fixed.
-                let longer = self.prefix.max(prefix(random, self.address.len()));
-                let mut address = random.bytes(self.address.len());
-                put_first_bits(&mut address, &self.address, self.prefix);
-                side.address = masked(&address, longer);
-                side.prefix = longer;
-            }
-            7 => {
-                // It is contained in this one: fewer bits are fixed.
-                side.prefix = self.prefix.min(prefix(random, self.address.len()));
-                side.address = masked(&self.address, side.prefix);
-            }
-            _ => {
-                // Disjoint, by one fixed bit.
-                if self.prefix > 0 {
-                    let bit = random.below(self.prefix as usize);
-                    side.address[bit / 8] ^= 0x80 >> (bit % 8);
-                }
-            }
-        }
-        side
-    }
+    side
 }
 
 fn prefix(random: &mut Prng, address_bytes: usize) -> u8 {
@@ -145,128 +106,92 @@ fn put_first_bits(to: &mut [u8], from: &[u8], count: u8) {
     }
 }
 
-/// An entry.
-#[derive(Clone, Debug)]
-pub struct Key {
-    pub flags: u8,
-    pub algorithm: u8,
-    pub send_id: u8,
-    pub recv_id: u8,
-    pub local: Side,
-    pub remote: Side,
-    pub secret: Vec<u8>,
+/// An entry that matches the pair.
+fn for_pair(random: &mut Prng, pair: &Pair) -> Entry {
+    let any = 1 + random.below(80);
+    let length = random.pick(&[16, 16, 16, 1, 15, 17, 64, 65, 80, any, any]);
+    Entry {
+        flags: random.below(2) as u8,
+        algorithm: 1 + random.below(2) as u8,
+        send_id: id(random),
+        recv_id: id(random),
+        local: side_around(random, &pair.local, pair.local_port),
+        remote: side_around(random, &pair.remote, pair.remote_port),
+        key: random.bytes(length),
+    }
 }
 
-impl Key {
-    /// An entry that matches the pair.
-    fn for_pair(random: &mut Prng, pair: &Pair) -> Key {
-        let any = 1 + random.below(80);
-        let length = random.pick(&[16, 16, 16, 1, 15, 17, 64, 65, 80, any, any]);
-        Key {
-            flags: random.below(2) as u8,
-            algorithm: 1 + random.below(2) as u8,
-            send_id: id(random),
-            recv_id: id(random),
-            local: Side::around(random, &pair.local, pair.local_port),
-            remote: Side::around(random, &pair.remote, pair.remote_port),
-            secret: random.bytes(length),
-        }
-    }
+/// Any entry.
+fn any(random: &mut Prng) -> Entry {
+    let pair = pair(random);
+    for_pair(random, &pair)
+}
 
-    fn random(random: &mut Prng) -> Key {
-        let pair = Pair::random(random);
-        Key::for_pair(random, &pair)
+/// An entry that shares IDs with this one, over sides that are the same, touch it, lie in it, or do
+/// not.
+fn relative(random: &mut Prng, this: &Entry) -> Entry {
+    let mut entry = this.clone();
+    match random.below(4) {
+        0 => {}
+        1 => entry.send_id = id(random),
+        2 => entry.recv_id = id(random),
+        _ => (entry.send_id, entry.recv_id) = (id(random), id(random)),
     }
+    if random.one_in(2) {
+        entry.local = near(random, &this.local);
+    } else {
+        entry.remote = near(random, &this.remote);
+    }
+    if random.one_in(4) {
+        entry.local = near(random, &this.local);
+    }
+    random.flip(&mut entry.key);
+    entry
+}
 
-    /// An entry that shares IDs with this one, over sides that are the same, touch it, lie in it, or
-    /// do not.
-    fn relative(&self, random: &mut Prng) -> Key {
-        let mut key = self.clone();
-        match random.below(4) {
-            0 => {}
-            1 => key.send_id = id(random),
-            2 => key.recv_id = id(random),
-            _ => (key.send_id, key.recv_id) = (id(random), id(random)),
-        }
-        if random.one_in(2) {
-            key.local = self.local.near(random);
-        } else {
-            key.remote = self.remote.near(random);
-        }
-        if random.one_in(4) {
-            key.local = self.local.near(random);
-        }
-        random.flip(&mut key.secret);
-        key
-    }
-
-    /// The entry as the other end holds it.
-    pub fn mirror(&self) -> Key {
-        Key {
-            send_id: self.recv_id,
-            recv_id: self.send_id,
-            local: self.remote.clone(),
-            remote: self.local.clone(),
-            ..self.clone()
-        }
-    }
-
-    pub fn bytes(&self) -> Vec<u8> {
-        let kind = if self.local.address.len() == 4 { 4 } else { 6 };
-        let mut bytes = vec![kind, self.flags, self.algorithm, self.send_id, self.recv_id];
-        for side in [&self.local, &self.remote] {
-            bytes.extend(side.low.to_be_bytes());
-            bytes.extend(side.high.to_be_bytes());
-        }
-        for side in [&self.local, &self.remote] {
-            bytes.extend(&side.address);
-            bytes.push(side.prefix);
-        }
-        bytes.push(self.secret.len() as u8);
-        bytes.extend(&self.secret);
-        bytes.resize(bytes.len() + 80 - self.secret.len(), 0);
-        bytes
-    }
-
-    /// Whether it matches the pair; the reference is asked, since this only aims.
-    pub fn matches(&self, pair: &Pair) -> bool {
-        entry(&self.bytes()).is_some_and(|entry| entry.matches(Rules::default(), &pair.lent()))
-    }
+/// Whether an entry matches the pair; the reference is asked, since this only aims.
+pub fn matches(entry: &Entry, pair: &Pair) -> bool {
+    let pair = reference::table::Pair {
+        local: &pair.local,
+        remote: &pair.remote,
+        local_port: pair.local_port,
+        remote_port: pair.remote_port,
+    };
+    self::entry(&entry.bytes()).is_some_and(|entry| entry.matches(&pair))
 }
 
 /// The entry that these bytes are alone, if a table may have it.
-pub fn entry(bytes: &[u8]) -> Option<Entry<'_>> {
-    table::read(Rules::default(), bytes).ok()?.first().copied()
-}
-
-pub fn bytes(keys: &[Key]) -> Vec<u8> {
-    keys.iter().flat_map(Key::bytes).collect()
+pub fn entry(bytes: &[u8]) -> Option<reference::table::Entry<'_>> {
+    reference::table::read(bytes).ok()?.first().copied()
 }
 
 /// A table around a pair that is (nearly always) valid: some entries match the pair, others reuse
 /// their IDs beside it, some are of another pair or family.
-pub fn around(random: &mut Prng, pair: &Pair) -> Vec<Key> {
+pub fn around(random: &mut Prng, pair: &Pair) -> Vec<Entry> {
     let large = random.one_in(50);
     let count = match random.below(3) {
         0 if large => 8 + random.below(56),
         _ if large => 64,
         _ => random.below(8),
     };
-    let mut keys: Vec<Key> = vec![];
+    let mut keys: Vec<Entry> = vec![];
     for _ in 0..3 * count {
         if keys.len() == count {
             break;
         }
         let mut key = match random.below(8) {
-            0 => Key::random(random),
-            1..=3 if !keys.is_empty() => keys[random.below(keys.len())].relative(random),
-            _ => Key::for_pair(random, pair),
+            0 => any(random),
+            1..=3 if !keys.is_empty() => {
+                let which = random.below(keys.len());
+                relative(random, &keys[which])
+            }
+            _ => for_pair(random, pair),
         };
         if large {
             (key.send_id, key.recv_id) = (random.byte(), random.byte());
         }
         keys.push(key);
-        if entry(&bytes(&keys)).is_none() && !random.one_in(60) {
+        if entry(&table(&keys)).is_none() && !random.one_in(60) {
             keys.pop();
         }
     }
@@ -274,17 +199,17 @@ pub fn around(random: &mut Prng, pair: &Pair) -> Vec<Key> {
 }
 
 /// The other end's table: mirrors, now and then one missing, or for another pair only.
-pub fn other_end(random: &mut Prng, keys: &[Key]) -> Vec<Key> {
+pub fn other_end(random: &mut Prng, keys: &[Entry]) -> Vec<Entry> {
     let mut theirs = vec![];
     for key in keys {
         let mut key = key.mirror();
         match random.below(8) {
             0 => continue,
-            1 => key.local = key.local.near(random),
+            1 => key.local = near(random, &key.local),
             _ => {}
         }
         theirs.push(key);
-        if entry(&bytes(&theirs)).is_none() {
+        if entry(&table(&theirs)).is_none() {
             theirs.pop();
         }
     }
@@ -292,16 +217,17 @@ pub fn other_end(random: &mut Prng, keys: &[Key]) -> Vec<Key> {
 }
 
 /// A table with one or a few of the faults that 10 to 17 refuse, at any entries.
-pub fn spoilt(random: &mut Prng, keys: &[Key]) -> Vec<u8> {
-    let mut entries: Vec<Vec<u8>> = keys.iter().map(Key::bytes).collect();
+pub fn spoilt(random: &mut Prng, keys: &[Entry]) -> Vec<u8> {
+    let mut entries: Vec<Vec<u8>> = keys.iter().map(Entry::bytes).collect();
     if entries.is_empty() {
-        entries.push(Key::random(random).bytes());
+        entries.push(any(random).bytes());
     }
     for _ in 0..random.pick(&[1, 1, 1, 2, 3]) {
         match random.below(8) {
             0 => too_many(random, &mut entries),
             1 if !keys.is_empty() => {
-                let relative = keys[random.below(keys.len())].relative(random);
+                let which = random.below(keys.len());
+                let relative = relative(random, &keys[which]);
                 entries.insert(1 + random.below(entries.len()), relative.bytes());
             }
             2 => cut(random, &mut entries),
@@ -318,7 +244,7 @@ pub fn spoilt(random: &mut Prng, keys: &[Key]) -> Vec<u8> {
 
 /// 64 entries whose IDs all differ, and something behind them: 12, whatever it is.
 fn too_many(random: &mut Prng, entries: &mut Vec<Vec<u8>>) {
-    let mut key = Key::random(random);
+    let mut key = any(random);
     *entries = (0..64)
         .map(|index| {
             (key.send_id, key.recv_id) = (index, 64 + index);

@@ -3,11 +3,11 @@
 //! rollover; and, all the while, calls that are aimed at numbers.
 
 use crate::aim::{self, Aim, At};
-use crate::calls::{Call, Function, Outcome};
 use crate::prng::Prng;
-use crate::states::{any_state, number, put_pair, reference};
-use crate::tables::{self, Key, Pair};
-use reference::State;
+use crate::states::{any_state, number, reference};
+use crate::tables;
+use kit::segment::{ACK, SYN};
+use kit::{entry, Call, Entry, Function, Outcome, Pair, State};
 
 /// Makes a call on both sides; an error ends the run.
 pub trait Caller {
@@ -20,7 +20,7 @@ pub struct Stop;
 struct End {
     pair: Pair,
     isn: u32,
-    keys: Vec<Key>,
+    keys: Vec<Entry>,
     table: Vec<u8>,
     state: Vec<u8>,
     /// Signed here, and perhaps still on the way to the other end.
@@ -28,13 +28,13 @@ struct End {
 }
 
 impl End {
-    fn new(random: &mut Prng, pair: Pair, keys: Vec<Key>) -> End {
+    fn new(random: &mut Prng, pair: Pair, keys: Vec<Entry>) -> End {
         End {
             pair,
             isn: number(random),
-            table: tables::bytes(&keys),
+            table: entry::table(&keys),
             keys,
-            state: vec![0; 152],
+            state: State::default().bytes(),
             sent: vec![],
         }
     }
@@ -48,11 +48,11 @@ impl End {
     }
 
     fn state(&self) -> State {
-        State::from_bytes(&self.state).unwrap()
+        State::read(&self.state).unwrap()
     }
 
     fn set(&mut self, state: &State) {
-        self.state = state.to_bytes().to_vec();
+        self.state = state.bytes();
     }
 
     /// The segment as it comes from the other end.
@@ -84,7 +84,7 @@ impl World {
     }
 
     fn new(random: &mut Prng) -> World {
-        let pair = Pair::random(random);
+        let pair = tables::pair(random);
         let keys = tables::around(random, &pair);
         let theirs = tables::other_end(random, &keys);
         World {
@@ -121,10 +121,10 @@ impl World {
     fn set_open(&mut self, random: &mut Prng) {
         let [a, b] = &mut self.ends;
         let mut state = any_state(random, &a.pair);
-        put_pair(&mut state, &a.pair);
+        state.put_pair(&a.pair);
         state.stage = 1;
         let mut other = any_state(random, &b.pair);
-        put_pair(&mut other, &b.pair);
+        other.put_pair(&b.pair);
         other.stage = 1;
         (other.our_isn, other.peer_isn) = (state.peer_isn, state.our_isn);
         other.signing_reference = state.arriving_reference;
@@ -180,7 +180,7 @@ impl World {
                 } else {
                     me.keys = tables::around(random, &me.pair);
                 }
-                me.table = tables::bytes(&me.keys);
+                me.table = entry::table(&me.keys);
             }
             5 => peer.sent.clear(),
             _ => self.set_open(random),
@@ -217,7 +217,7 @@ impl End {
         let mut call = aim::sign(random, &self.at(&self.state), &Aim::NONE);
         if call.segment.len() >= 20 {
             call.segment[4..8].copy_from_slice(&self.state().our_isn.to_be_bytes());
-            call.segment[13] = 0x12;
+            call.segment[13] = SYN | ACK;
         }
         self.signed(&call, caller)
     }
@@ -262,7 +262,7 @@ impl End {
     /// This end's state, or any in its place.
     fn own_or_any(&self, random: &mut Prng) -> Vec<u8> {
         if random.one_in(3) {
-            any_state(random, &self.pair).to_bytes().to_vec()
+            any_state(random, &self.pair).bytes()
         } else {
             self.state.clone()
         }

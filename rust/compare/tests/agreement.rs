@@ -1,15 +1,15 @@
 //! The archive gives what document 01, once more in plain Rust, gives: on every call of one seed the
 //! same answer, the same state and the same output. Every number of every call is met.
 
+use compare::against::Against;
 use compare::compare::{Run, CALLS, SEED};
 use compare::report;
-use reference::Rules;
 use std::time::Instant;
 
 fn main() {
     let begin = Instant::now();
     println!("archive and reference, {CALLS} calls from seed {SEED}");
-    let run = Run::new(SEED, CALLS, &[Rules::default()]).made();
+    let run = Run::new(SEED, CALLS, &[Against::Reference]).made();
     run.counts.print();
     let agree = run.difference().is_none();
     let missed = run.counts.faults();

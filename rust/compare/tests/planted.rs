@@ -1,18 +1,18 @@
 //! The comparison is tried itself: each fault planted in the reference is found within the calls of
 //! the agreement test, and how many calls it took is printed.
 
+use compare::against::Against;
 use compare::compare::{Run, CALLS, SEED};
-use reference::{Fault, Rules};
+use faulty::Fault;
 use std::time::Instant;
 
 fn main() {
     let begin = Instant::now();
-    let rules: Vec<Rules> = Fault::ALL.iter().map(|fault| Rules::with(*fault)).collect();
-    let run = Run::new(SEED, CALLS, &rules).made();
+    let run = Run::new(SEED, CALLS, &Fault::ALL.map(Against::Planted)).made();
     let mut found = 0;
     println!("  calls  planted fault, and the call that differed");
     for (fault, tried) in Fault::ALL.iter().zip(&run.tried) {
-        let name = format!("{fault:?}");
+        let name = fault.name();
         match &tried.difference {
             Some(difference) => {
                 found += 1;

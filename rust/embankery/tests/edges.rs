@@ -3,14 +3,15 @@
 
 mod common;
 
-use common::{kinds, octets, segment, Bytes, Ends, ACK, FIRST_KIND, IDS, ISNS, PORTS, SYN};
+use common::{kinds, octets, segment, Ends, FIRST_KIND, IDS, ISNS, PORTS};
 use embankery::raw::{self, c};
 use embankery::{Refusal, Verdict};
+use kit::pointers::{Buffer, Buffers, Calls};
+use kit::segment::{ACK, SYN};
+use kit::Function::{Ask, CheckTable, Judge, JudgeSyn, OpenActive, OpenPassive, Sign};
+use kit::{calls_of, word, Bytes, Call, Function, State};
 
-/// An answer: the number in bits 0 to 7, a value in bits 32 to 63.
-fn word(number: u8, value: u32) -> u64 {
-    u64::from(value) << 32 | u64::from(number)
-}
+const ARCHIVE: Calls = calls_of!(Calls, c);
 
 /// A buffer inside a longer one, to see that nothing around it is written.
 struct Guarded {
@@ -103,144 +104,90 @@ impl Given {
         }
     }
 
+    fn lent(&self, bytes: &[u8]) -> Buffer {
+        Buffer {
+            at: self.ptr(bytes).cast_mut(),
+            length: bytes.len(),
+        }
+    }
+
+    fn lent_mut(&self, bytes: &mut [u8]) -> Buffer {
+        Buffer {
+            at: self.ptr_mut(bytes),
+            length: bytes.len(),
+        }
+    }
+
+    /// The call at end 1 with what is given.
+    fn of(&self, function: Function) -> Call {
+        let (source, destination) = match function {
+            OpenActive => (&self.destination, &self.source),
+            _ => (&self.source, &self.destination),
+        };
+        let segment = match function {
+            Judge => &self.arriving,
+            Sign => &self.leaving,
+            _ => &self.syn,
+        };
+        Call {
+            source: source.clone(),
+            destination: destination.clone(),
+            segment: segment.clone(),
+            out: self.out.clone(),
+            state: self.state.clone(),
+            local_port: PORTS[1],
+            remote_port: PORTS[0],
+            isn: ISNS[1],
+            byte: match function {
+                OpenActive => IDS[1],
+                Ask => IDS[0],
+                _ => self.setting,
+            },
+            ..Call::new(function, &self.table)
+        }
+    }
+
     /// Makes a call on guarded buffers. Gives the answer, `out` and `state`.
-    fn call(&self, call: Call) -> (u64, Vec<u8>, Vec<u8>) {
-        let mut out = Guarded::new(&self.out);
-        let mut state = Guarded::new(&self.state);
-        let answer = call(self, out.lent(), state.lent());
+    fn call(&self, function: Function) -> (u64, Vec<u8>, Vec<u8>) {
+        let call = self.of(function);
+        let mut out = Guarded::new(&call.out);
+        let mut state = Guarded::new(&call.state);
+        let buffers = Buffers {
+            table: self.lent(&call.table),
+            source: self.lent(&call.source),
+            destination: self.lent(&call.destination),
+            segment: self.lent(&call.segment),
+            out: self.lent_mut(out.lent()),
+            state: self.lent_mut(state.lent()),
+        };
+        // SAFETY: each pointer stands beside its own slice's length, and `out` and `state` overlap
+        // nothing. A null pointer stands beside length 0, which the header allows.
+        let answer = unsafe { ARCHIVE.make(&call, &buffers) };
         (answer, out.content().to_vec(), state.content().to_vec())
     }
 
     /// The same, of a call that must leave `out` and `state` as they were.
-    fn unchanged(&self, call: Call) -> u64 {
-        let (answer, out, state) = self.call(call);
+    fn unchanged(&self, function: Function) -> u64 {
+        let (answer, out, state) = self.call(function);
         assert_eq!(out, self.out);
         assert_eq!(state, self.state);
         answer
     }
 }
 
-/// A call of the archive with what is given, and with what it may write.
-type Call = fn(&Given, &mut [u8], &mut [u8]) -> u64;
-
-// SAFETY, of all: each pointer stands beside its own slice's length, and `out` and `state` overlap
-// nothing. A null pointer stands beside length 0, which the header allows.
-
-fn check_table(g: &Given, _: &mut [u8], _: &mut [u8]) -> u64 {
-    unsafe { c::tcpao_check_table(g.ptr(&g.table), g.table.len()) }
-}
-
-fn open_active(g: &Given, _: &mut [u8], state: &mut [u8]) -> u64 {
-    unsafe {
-        c::tcpao_open_active(
-            g.ptr(&g.table),
-            g.table.len(),
-            g.ptr(&g.destination),
-            g.destination.len(),
-            g.ptr(&g.source),
-            g.source.len(),
-            PORTS[1],
-            PORTS[0],
-            ISNS[1],
-            IDS[1],
-            g.ptr_mut(state),
-            state.len(),
-        )
-    }
-}
-
-fn judge_syn(g: &Given, _: &mut [u8], _: &mut [u8]) -> u64 {
-    unsafe {
-        c::tcpao_judge_syn(
-            g.ptr(&g.table),
-            g.table.len(),
-            g.ptr(&g.source),
-            g.source.len(),
-            g.ptr(&g.destination),
-            g.destination.len(),
-            g.ptr(&g.syn),
-            g.syn.len(),
-            g.setting,
-        )
-    }
-}
-
-fn open_passive(g: &Given, _: &mut [u8], state: &mut [u8]) -> u64 {
-    unsafe {
-        c::tcpao_open_passive(
-            g.ptr(&g.table),
-            g.table.len(),
-            g.ptr(&g.source),
-            g.source.len(),
-            g.ptr(&g.destination),
-            g.destination.len(),
-            g.ptr(&g.syn),
-            g.syn.len(),
-            ISNS[1],
-            g.setting,
-            g.ptr_mut(state),
-            state.len(),
-        )
-    }
-}
-
-fn judge(g: &Given, _: &mut [u8], state: &mut [u8]) -> u64 {
-    unsafe {
-        c::tcpao_judge(
-            g.ptr(&g.table),
-            g.table.len(),
-            g.ptr(&g.source),
-            g.source.len(),
-            g.ptr(&g.destination),
-            g.destination.len(),
-            g.ptr(&g.arriving),
-            g.arriving.len(),
-            g.ptr_mut(state),
-            state.len(),
-        )
-    }
-}
-
-fn sign(g: &Given, out: &mut [u8], state: &mut [u8]) -> u64 {
-    unsafe {
-        c::tcpao_sign(
-            g.ptr(&g.table),
-            g.table.len(),
-            g.ptr(&g.leaving),
-            g.leaving.len(),
-            g.ptr_mut(out),
-            out.len(),
-            g.ptr_mut(state),
-            state.len(),
-        )
-    }
-}
-
-fn ask(g: &Given, _: &mut [u8], state: &mut [u8]) -> u64 {
-    unsafe {
-        c::tcpao_ask(
-            g.ptr(&g.table),
-            g.table.len(),
-            IDS[0],
-            g.ptr_mut(state),
-            state.len(),
-        )
-    }
-}
-
 /// All calls, each with its answer to what is good.
-const CALLS: [(Call, u32); 7] = [
-    (check_table, 1),
-    (open_active, 0),
-    (judge_syn, 0),
-    (open_passive, 0),
-    (judge, 0),
-    (sign, SIGNED),
-    (ask, 0),
+const CALLS: [(Function, u32); 7] = [
+    (CheckTable, 1),
+    (OpenActive, 0),
+    (JudgeSyn, 0),
+    (OpenPassive, 0),
+    (Judge, 0),
+    (Sign, SIGNED),
+    (Ask, 0),
 ];
 
 /// Those that take a state.
-const STATE_CALLS: [Call; 5] = [open_active, open_passive, judge, sign, ask];
+const STATE_CALLS: [Function; 5] = [OpenActive, OpenPassive, Judge, Sign, Ask];
 
 #[test]
 fn good() {
@@ -261,16 +208,16 @@ fn each_empty(nulls: bool) {
         table: none(),
         ..good.clone()
     };
-    assert_eq!(g.unchanged(check_table), word(0, 0));
-    assert_eq!(g.unchanged(open_active), word(35, 0));
-    assert_eq!(g.unchanged(judge_syn), word(26, 0));
-    assert_eq!(g.unchanged(open_passive), word(26, 0));
-    assert_eq!(g.unchanged(sign), word(35, 0));
-    assert_eq!(g.unchanged(ask), word(35, 0));
+    assert_eq!(g.unchanged(CheckTable), word(0, 0));
+    assert_eq!(g.unchanged(OpenActive), word(35, 0));
+    assert_eq!(g.unchanged(JudgeSyn), word(26, 0));
+    assert_eq!(g.unchanged(OpenPassive), word(26, 0));
+    assert_eq!(g.unchanged(Sign), word(35, 0));
+    assert_eq!(g.unchanged(Ask), word(35, 0));
     counted(&g, 26);
     let g = Given { setting: 0, ..g };
-    assert_eq!(g.unchanged(judge_syn), word(1, 0));
-    assert_eq!(g.unchanged(open_passive), word(1, 0));
+    assert_eq!(g.unchanged(JudgeSyn), word(1, 0));
+    assert_eq!(g.unchanged(OpenPassive), word(1, 0));
 
     let sources = [none(), good.source.clone(), none()];
     let destinations = [none(), none(), good.destination.clone()];
@@ -280,7 +227,7 @@ fn each_empty(nulls: bool) {
             destination,
             ..good.clone()
         };
-        for call in [open_active as Call, judge_syn, open_passive, judge] {
+        for call in [OpenActive, JudgeSyn, OpenPassive, Judge] {
             assert_eq!(g.unchanged(call), word(19, 0));
         }
     }
@@ -291,16 +238,16 @@ fn each_empty(nulls: bool) {
         leaving: none(),
         ..good.clone()
     };
-    assert_eq!(g.unchanged(judge_syn), word(20, 0));
-    assert_eq!(g.unchanged(open_passive), word(20, 0));
-    assert_eq!(g.unchanged(sign), word(30, 0));
+    assert_eq!(g.unchanged(JudgeSyn), word(20, 0));
+    assert_eq!(g.unchanged(OpenPassive), word(20, 0));
+    assert_eq!(g.unchanged(Sign), word(30, 0));
     counted(&g, 20);
 
     let g = Given {
         out: none(),
         ..good.clone()
     };
-    assert_eq!(g.unchanged(sign), word(37, 0));
+    assert_eq!(g.unchanged(Sign), word(37, 0));
 
     let g = Given {
         state: none(),
@@ -321,8 +268,8 @@ fn each_empty(nulls: bool) {
         state: none(),
         ..good
     };
-    assert_eq!(g.unchanged(check_table), word(0, 0));
-    assert_eq!(g.unchanged(judge_syn), word(19, 0));
+    assert_eq!(g.unchanged(CheckTable), word(0, 0));
+    assert_eq!(g.unchanged(JudgeSyn), word(19, 0));
     for call in STATE_CALLS {
         assert_eq!(g.unchanged(call), word(18, 0));
     }
@@ -331,11 +278,11 @@ fn each_empty(nulls: bool) {
 
 /// Judging drops with this number, and nothing changes but its count.
 fn counted(g: &Given, number: u8) {
-    let (answer, _, state) = g.call(judge);
+    let (answer, _, state) = g.call(Judge);
     assert_eq!(answer, word(number, 0));
-    let mut expected = g.state.clone();
-    expected[72 + 8 * usize::from(number - 20) + 7] += 1;
-    assert_eq!(state, expected);
+    let mut expected = State::read(&g.state).unwrap();
+    expected.drops[usize::from(number - 20)] += 1;
+    assert_eq!(state, expected.bytes());
 }
 
 /// The four calls on messages with empty buffers; `g` says how these are lent.
@@ -405,7 +352,7 @@ fn states_of_every_length() {
                 ..given.clone()
             };
             for call in STATE_CALLS {
-                if len != 152 {
+                if len != State::BYTES {
                     assert_eq!(g.unchanged(call), word(18, 0), "{len} bytes");
                 } else {
                     assert_ne!(g.call(call).0, word(18, 0));
@@ -425,15 +372,18 @@ fn sign_into(g: &Given, room: usize, signed: &[u8]) {
         ..g.clone()
     };
     if room < signed.len() {
-        assert_eq!(g.unchanged(sign), word(37, 0));
+        assert_eq!(g.unchanged(Sign), word(37, 0));
         return;
     }
-    let (answer, out, state) = g.call(sign);
+    let (answer, out, state) = g.call(Sign);
     assert_eq!(answer, word(0, signed.len() as u32));
     assert_eq!(out[..signed.len()], *signed);
     assert_eq!(out[signed.len()..], g.out[signed.len()..]);
-    assert_eq!(state[..48], g.state[..48]);
-    assert_eq!(state[56..], g.state[56..]);
+    let expected = State {
+        signing_reference: State::read(&state).unwrap().signing_reference,
+        ..State::read(&g.state).unwrap()
+    };
+    assert_eq!(state, expected.bytes());
 }
 
 #[test]
@@ -528,7 +478,7 @@ fn longest_segments() {
                 out: vec![0xAA; len + 16],
                 ..g.clone()
             };
-            assert_eq!(g.unchanged(sign), word(number, 0), "{len} bytes");
+            assert_eq!(g.unchanged(Sign), word(number, 0), "{len} bytes");
         }
 
         assert_eq!(ends.judge(&longest), Verdict::Accept { extension: 0 });
@@ -559,15 +509,16 @@ fn longest_syn() {
             ..Given::good()
         };
         assert_eq!(g.syn.len(), 65_535);
-        assert_eq!(g.unchanged(judge_syn), word(0, 0));
-        let (answer, _, state) = g.call(open_passive);
-        assert_eq!((answer, state[1]), (word(0, 0), 1));
+        assert_eq!(g.unchanged(JudgeSyn), word(0, 0));
+        let (answer, _, state) = g.call(OpenPassive);
+        assert_eq!(answer, word(0, 0));
+        assert!(State::read(&state).unwrap().is_open());
         let g = Given {
             syn: [g.syn, vec![0]].concat(),
             ..Given::good()
         };
-        assert_eq!(g.unchanged(judge_syn), word(20, 0));
-        assert_eq!(g.unchanged(open_passive), word(20, 0));
+        assert_eq!(g.unchanged(JudgeSyn), word(20, 0));
+        assert_eq!(g.unchanged(OpenPassive), word(20, 0));
     }
 }
 

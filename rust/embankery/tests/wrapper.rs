@@ -3,11 +3,13 @@
 
 mod common;
 
-use common::{kinds, segment, Bytes, Ends, ACK, FIRST_KIND, IDS, ISNS, PORTS, SYN};
+use common::{kinds, segment, Ends, FIRST_KIND, IDS, ISNS, PORTS};
 use embankery::{
     judge_syn, Algorithm, Connection, Covered, Entry, EntryBuilder, KeyTable, Refusal,
     UnknownKeyId, Verdict,
 };
+use kit::segment::{ACK, SYN};
+use kit::Bytes;
 use std::net::{IpAddr, SocketAddr};
 
 #[test]

@@ -10,7 +10,6 @@
 use crate::answer::{Refusal, Verdict};
 use crate::calls::{self, Setting};
 use crate::crypto;
-use crate::faults::{Fault, Rules};
 use crate::state::State;
 use crate::table::Pair;
 
@@ -36,8 +35,8 @@ fn verdict_word(verdict: Verdict) -> u64 {
 
 /// "`setting` says what a bare SYN with TCP-AO gets where no entry has its KeyID: 0 pass, any other
 /// value drop 26."
-fn setting_of(rules: Rules, byte: u8) -> Setting {
-    if byte == 0 || (byte != 1 && rules.has(Fault::OtherSettingsPass)) {
+fn setting_of(byte: u8) -> Setting {
+    if byte == 0 {
         Setting::Pass
     } else {
         Setting::Drop
@@ -45,8 +44,8 @@ fn setting_of(rules: Rules, byte: u8) -> Setting {
 }
 
 /// `tcpao_check_table`; done gives how many entries there are.
-pub fn tcpao_check_table(rules: Rules, table: &[u8]) -> u64 {
-    match calls::check_table(rules, table) {
+pub fn tcpao_check_table(table: &[u8]) -> u64 {
+    match calls::check_table(table) {
         Ok(count) => word(0, count),
         Err(refusal) => refusal_word(refusal),
     }
@@ -55,7 +54,6 @@ pub fn tcpao_check_table(rules: Rules, table: &[u8]) -> u64 {
 /// `tcpao_open_active`; the state is written only if the opening is not refused.
 #[allow(clippy::too_many_arguments)] // the boundary's own arguments
 pub fn tcpao_open_active(
-    rules: Rules,
     table: &[u8],
     local: &[u8],
     remote: &[u8],
@@ -74,8 +72,8 @@ pub fn tcpao_open_active(
         local_port,
         remote_port,
     };
-    let (result, opened) = calls::open_active(rules, table, &pair, isn, send_id);
-    if result.is_ok() || rules.has(Fault::RefusedOpeningEmptiesBuffer) {
+    let (result, opened) = calls::open_active(table, &pair, isn, send_id);
+    if result.is_ok() {
         state.copy_from_slice(&opened.to_bytes());
     }
     match result {
@@ -86,22 +84,20 @@ pub fn tcpao_open_active(
 
 /// `tcpao_judge_syn`; it takes no state.
 pub fn tcpao_judge_syn(
-    rules: Rules,
     table: &[u8],
     source: &[u8],
     destination: &[u8],
     segment: &[u8],
     setting: u8,
 ) -> u64 {
-    let setting = setting_of(rules, setting);
-    let verdict = calls::judge_syn(rules, table, source, destination, segment, setting);
+    let setting = setting_of(setting);
+    let verdict = calls::judge_syn(table, source, destination, segment, setting);
     verdict_word(verdict)
 }
 
 /// `tcpao_open_passive`; the state is written only if the SYN is accepted.
 #[allow(clippy::too_many_arguments)] // the boundary's own arguments
 pub fn tcpao_open_passive(
-    rules: Rules,
     table: &[u8],
     source: &[u8],
     destination: &[u8],
@@ -113,11 +109,9 @@ pub fn tcpao_open_passive(
     if State::from_bytes(state).is_none() {
         return word(18, 0);
     }
-    let setting = setting_of(rules, setting);
-    let (verdict, opened) =
-        calls::open_passive(rules, table, source, destination, segment, isn, setting);
-    let passed = verdict == Verdict::Pass && rules.has(Fault::PassedOpeningEmptiesBuffer);
-    if matches!(verdict, Verdict::Accept(_)) || passed {
+    let setting = setting_of(setting);
+    let (verdict, opened) = calls::open_passive(table, source, destination, segment, isn, setting);
+    if matches!(verdict, Verdict::Accept(_)) {
         state.copy_from_slice(&opened.to_bytes());
     }
     verdict_word(verdict)
@@ -125,7 +119,6 @@ pub fn tcpao_open_passive(
 
 /// `tcpao_judge`; the state is written on acceptance, and for a drop's count on an open connection.
 pub fn tcpao_judge(
-    rules: Rules,
     table: &[u8],
     source: &[u8],
     destination: &[u8],
@@ -135,34 +128,21 @@ pub fn tcpao_judge(
     let Some(before) = State::from_bytes(state) else {
         return word(18, 0);
     };
-    let (verdict, mut after) = calls::judge(rules, table, source, destination, segment, &before);
-    if rules.has(Fault::UnusedAddressBytesCleared) && after.family == 4 {
-        after.local[4..].fill(0);
-        after.remote[4..].fill(0);
-    }
+    let (verdict, after) = calls::judge(table, source, destination, segment, &before);
     state.copy_from_slice(&after.to_bytes());
     verdict_word(verdict)
 }
 
 /// `tcpao_sign`; done gives the signed length. "Signing writes only the signed length's bytes of
 /// the output."
-pub fn tcpao_sign(
-    rules: Rules,
-    table: &[u8],
-    segment: &[u8],
-    out: &mut [u8],
-    state: &mut [u8],
-) -> u64 {
+pub fn tcpao_sign(table: &[u8], segment: &[u8], out: &mut [u8], state: &mut [u8]) -> u64 {
     let Some(before) = State::from_bytes(state) else {
         return word(18, 0);
     };
-    match calls::sign(rules, table, segment, out.len(), &before) {
+    match calls::sign(table, segment, out.len(), &before) {
         Ok(signed) => {
             let length = signed.segment.len();
             out[..length].copy_from_slice(&signed.segment);
-            if rules.has(Fault::OutputFilledUp) {
-                out[length..].fill(0);
-            }
             state.copy_from_slice(&signed.state.to_bytes());
             word(0, length as u32)
         }
@@ -171,11 +151,11 @@ pub fn tcpao_sign(
 }
 
 /// `tcpao_ask`.
-pub fn tcpao_ask(rules: Rules, table: &[u8], recv_id: u8, state: &mut [u8]) -> u64 {
+pub fn tcpao_ask(table: &[u8], recv_id: u8, state: &mut [u8]) -> u64 {
     let Some(before) = State::from_bytes(state) else {
         return word(18, 0);
     };
-    match calls::ask(rules, table, recv_id, &before) {
+    match calls::ask(table, recv_id, &before) {
         Ok(after) => {
             state.copy_from_slice(&after.to_bytes());
             word(0, 0)

@@ -4,7 +4,6 @@
 //! "The first that applies, in this order, is given".
 
 use crate::answer::{Refusal, Verdict};
-use crate::faults::{Fault, Rules};
 use crate::mac::{self, Ends};
 use crate::position::{extension, moved, position};
 use crate::segment::{read_options, AoOption, Header, Options, WithAo, KIND_TCP_AO};
@@ -15,8 +14,8 @@ use crate::table::{self, by_recv_id, by_send_id, Entry, Pair};
 const AO_BYTES: usize = 16;
 
 /// Checks a table (10 to 17) and says how many entries it has.
-pub fn check_table(rules: Rules, table: &[u8]) -> Result<u32, Refusal> {
-    Ok(table::read(rules, table)?.len() as u32)
+pub fn check_table(table: &[u8]) -> Result<u32, Refusal> {
+    Ok(table::read(table)?.len() as u32)
 }
 
 /// Opens actively (19, 10 to 17, 35). A refused opening returns the empty state beside its number.
@@ -24,31 +23,24 @@ pub fn check_table(rules: Rules, table: &[u8]) -> Result<u32, Refusal> {
 /// "Active opening names a SendID; its entry must match the pair. It gives the outgoing key and, by
 /// RecvID, the key asked of the peer."
 pub fn open_active(
-    rules: Rules,
     table: &[u8],
     pair: &Pair,
     isn: u32,
     send_id: u8,
 ) -> (Result<(), Refusal>, State) {
-    match opening_state(rules, table, pair, isn, send_id) {
+    match opening_state(table, pair, isn, send_id) {
         Ok(state) => (Ok(()), state),
         // "An opening refused, or a SYN only passed, returns the empty state, family 0."
         Err(refusal) => (Err(refusal), State::EMPTY),
     }
 }
 
-fn opening_state(
-    rules: Rules,
-    table: &[u8],
-    pair: &Pair,
-    isn: u32,
-    send_id: u8,
-) -> Result<State, Refusal> {
+fn opening_state(table: &[u8], pair: &Pair, isn: u32, send_id: u8) -> Result<State, Refusal> {
     // 19 and 10 to 17.
-    let entries = addresses_then_table(rules, pair.local, pair.remote, table)?;
+    let entries = addresses_then_table(pair.local, pair.remote, table)?;
 
     // 35: "no entry matching the pair has the outgoing SendID (opening, signing)".
-    let entry = by_send_id(rules, &entries, pair, send_id).ok_or(Refusal::of(35))?;
+    let entry = by_send_id(&entries, pair, send_id).ok_or(Refusal::of(35))?;
 
     // "Opening sets each reference to that side's ISN; until the peer's ISN is known, it and its
     // reference are 0." "All [counts] are 0 at opening".
@@ -56,9 +48,7 @@ fn opening_state(
     state.outgoing_send_id = entry.send_id;
     state.asked_recv_id = entry.recv_id;
     state.our_isn = isn;
-    if !rules.has(Fault::ActiveOpeningAtZero) {
-        state.signing_reference = isn as u64;
-    }
+    state.signing_reference = isn as u64;
     Ok(state)
 }
 
@@ -76,14 +66,13 @@ pub enum Setting {
 ///
 /// "Passive: a bare SYN is judged without a state."
 pub fn judge_syn(
-    rules: Rules,
     table: &[u8],
     source: &[u8],
     destination: &[u8],
     segment: &[u8],
     setting: Setting,
 ) -> Verdict {
-    match take_syn(rules, table, source, destination, segment, setting) {
+    match take_syn(table, source, destination, segment, setting) {
         // "A bare SYN and the SYN+ACK that opens have extension 0".
         Ok(Some(_)) => Verdict::Accept(0),
         Ok(None) => Verdict::Pass,
@@ -97,7 +86,6 @@ pub fn judge_syn(
 /// the entry found, then applies the key rule below (house). An opening refused, or a SYN only
 /// passed, returns the empty state, family 0."
 pub fn open_passive(
-    rules: Rules,
     table: &[u8],
     source: &[u8],
     destination: &[u8],
@@ -105,7 +93,7 @@ pub fn open_passive(
     isn: u32,
     setting: Setting,
 ) -> (Verdict, State) {
-    let syn = match take_syn(rules, table, source, destination, segment, setting) {
+    let syn = match take_syn(table, source, destination, segment, setting) {
         Ok(Some(syn)) => syn,
         Ok(None) => return (Verdict::Pass, State::EMPTY),
         Err(refusal) => return (Verdict::Drop(refusal), State::EMPTY),
@@ -122,9 +110,7 @@ pub fn open_passive(
     state.peer_isn = syn.header.sequence;
     state.signing_reference = isn as u64;
     state.arriving_reference = syn.header.sequence as u64;
-    if !rules.has(Fault::NoKeyRuleAtPassiveOpening) {
-        key_rule(rules, &syn.entries, &pair, syn.rnext_key_id, &mut state);
-    }
+    key_rule(&syn.entries, &pair, syn.rnext_key_id, &mut state);
     (Verdict::Accept(0), state)
 }
 
@@ -138,7 +124,6 @@ struct AcceptedSyn<'t> {
 
 /// Judges a bare SYN; nothing if it passes.
 fn take_syn<'t>(
-    rules: Rules,
     table: &'t [u8],
     source: &[u8],
     destination: &[u8],
@@ -146,10 +131,10 @@ fn take_syn<'t>(
     setting: Setting,
 ) -> Result<Option<AcceptedSyn<'t>>, Refusal> {
     // 19 and 10 to 17.
-    let entries = addresses_then_table(rules, source, destination, table)?;
+    let entries = addresses_then_table(source, destination, table)?;
 
     // 20, 21, 22.
-    let (header, options) = readable(rules, segment)?;
+    let (header, options) = readable(segment)?;
 
     // 24: "wrong segment for the stage". "a bare SYN is judged without a state."
     if !header.is_bare_syn() {
@@ -159,8 +144,8 @@ fn take_syn<'t>(
     // "Bare SYN without TCP-AO: 25 if any entry matches the pair, otherwise pass."
     let pair = arriving_pair(source, destination, &header);
     let Some(ao) = options.ao else {
-        let any_matches = entries.iter().any(|entry| entry.matches(rules, &pair));
-        return if any_matches || rules.has(Fault::SynWithoutEntryDropped) {
+        let any_matches = entries.iter().any(|entry| entry.matches(&pair));
+        return if any_matches {
             Err(Refusal::of(25))
         } else {
             Ok(None)
@@ -169,7 +154,7 @@ fn take_syn<'t>(
 
     // "Bare SYN with TCP-AO: the entry is found by pair and KeyID = RecvID. If there is none, a
     // setting decides: pass (the RFC's first default) or drop 26."
-    let Some(entry) = by_recv_id(rules, &entries, &pair, ao.key_id) else {
+    let Some(entry) = by_recv_id(&entries, &pair, ao.key_id) else {
         return match setting {
             Setting::Pass => Ok(None),
             Setting::Drop => Err(Refusal::of(26)),
@@ -177,7 +162,7 @@ fn take_syn<'t>(
     };
 
     // 27: "MAC length wrong".
-    mac_length(rules, &entry, &ao)?;
+    mac_length(&entry, &ao)?;
 
     // 29: "MAC differs". "For a bare SYN (SYN set, ACK clear) the destination ISN is zero." Its
     // extension is 0.
@@ -194,7 +179,7 @@ fn take_syn<'t>(
         header,
         ao,
     };
-    mac_agrees(rules, &entry, &ends, 0, &carrier)?;
+    mac_agrees(&entry, &ends, 0, &carrier)?;
 
     Ok(Some(AcceptedSyn {
         entries,
@@ -206,7 +191,6 @@ fn take_syn<'t>(
 
 /// Judges a segment that arrives on a connection, opening or open (18, 19, 10 to 17, 20 to 29).
 pub fn judge(
-    rules: Rules,
     table: &[u8],
     source: &[u8],
     destination: &[u8],
@@ -214,14 +198,13 @@ pub fn judge(
     state: &State,
 ) -> (Verdict, State) {
     let mut after = *state;
-    let verdict = match take_arrival(rules, table, source, destination, segment, &mut after) {
+    let verdict = match take_arrival(table, source, destination, segment, &mut after) {
         Ok(extension) => Verdict::Accept(extension),
         Err(refusal) => {
             // "A refusal leaves outputs and state alike, except that drops 20 to 29 on an open
             // connection add one to that number's count."
-            let open = state.is_open() || rules.has(Fault::DropsCountedWhileOpening);
-            if open && (20..=29).contains(&refusal.number) {
-                after.count_drop(rules, refusal.number);
+            if state.is_open() && (20..=29).contains(&refusal.number) {
+                after.count_drop(refusal.number);
             }
             Verdict::Drop(refusal)
         }
@@ -232,7 +215,6 @@ pub fn judge(
 /// Judges a segment that arrives; the state changes only if it is accepted, and its extension is
 /// then given.
 fn take_arrival(
-    rules: Rules,
     table: &[u8],
     source: &[u8],
     destination: &[u8],
@@ -242,79 +224,47 @@ fn take_arrival(
     let before = *state;
     let open = before.is_open();
 
-    if rules.has(Fault::AddressesBeforeFamily) {
-        addresses(source, destination)?;
-    }
-
     // 18: "state's family is neither IPv4 nor IPv6".
     let pair = before.pair().ok_or(Refusal::of(18))?;
 
     // 19 and 10 to 17.
-    let entries = addresses_then_table(rules, source, destination, table)?;
+    let entries = addresses_then_table(source, destination, table)?;
 
     // 20, 21, 22.
-    if rules.has(Fault::PairBeforeOptions) {
-        let header = Header::read(segment).ok_or(Refusal::of(20))?;
-        if arriving_pair(source, destination, &header) != pair {
-            return Err(Refusal::of(23));
-        }
-    }
-    let (header, options) = readable(rules, segment)?;
+    let (header, options) = readable(segment)?;
 
     // 23: "pair is not the state's".
-    let same_pair = if rules.has(Fault::PairWithoutPorts) {
-        destination == pair.local && source == pair.remote
-    } else {
-        arriving_pair(source, destination, &header) == pair
-    };
+    if arriving_pair(source, destination, &header) != pair {
+        return Err(Refusal::of(23));
+    }
 
     // 24: "wrong segment for the stage". Open: "each segment that carries SYN and ACK, or no SYN".
     // Opening: "An accepted SYN+ACK opens the connection".
     let right_segment = if open {
-        !header.is_bare_syn() || rules.has(Fault::BareSynTakenOnceOpen)
-    } else if rules.has(Fault::AcknowledgmentTested) {
-        header.is_syn_ack() && header.acknowledgment == before.our_isn.wrapping_add(1)
-    } else if rules.has(Fault::OtherFlagsMatter) {
-        header.is_syn_ack() && header.flags & 0x05 == 0
+        !header.is_bare_syn()
     } else {
         header.is_syn_ack()
     };
-
-    if rules.has(Fault::StageBeforePair) && !right_segment {
-        return Err(Refusal::of(24));
-    }
-    if !same_pair {
-        return Err(Refusal::of(23));
-    }
     if !right_segment {
         return Err(Refusal::of(24));
     }
 
     // 25: "TCP-AO missing".
     let ao = options.ao.ok_or(Refusal::of(25))?;
-    if rules.has(Fault::MacLengthBeforeEntry) && ao.length != AO_BYTES {
-        return Err(Refusal::of(27));
-    }
-    if rules.has(Fault::PositionBeforeEntry) && open {
-        position(rules, before.arriving_reference, header.sequence).ok_or(Refusal::of(28))?;
-    }
 
     // 26: "no entry for its KeyID".
-    let entry = by_recv_id(rules, &entries, &pair, ao.key_id).ok_or(Refusal::of(26))?;
+    let entry = by_recv_id(&entries, &pair, ao.key_id).ok_or(Refusal::of(26))?;
 
     // 27: "MAC length wrong".
-    mac_length(rules, &entry, &ao)?;
+    mac_length(&entry, &ao)?;
 
     // 28: "no position". "A bare SYN and the SYN+ACK that opens have extension 0 and their own
     // number as position; once open, every segment goes by its position."
     let x = if open {
-        position(rules, before.arriving_reference, header.sequence).ok_or(Refusal::of(28))?
+        position(before.arriving_reference, header.sequence).ok_or(Refusal::of(28))?
     } else {
         header.sequence as u64
     };
-    if rules.has(Fault::ReferenceBeforeMac) && open {
-        state.arriving_reference = moved(rules, before.arriving_reference, x);
-    }
 
     // 29: "MAC differs". Open: "judged and signed with both ISNs". The SYN+ACK that opens: "its
     // sequence number is the peer's ISN, its extension 0."
@@ -335,76 +285,41 @@ fn take_arrival(
         header,
         ao,
     };
-    mac_agrees(rules, &entry, &ends, extension(x), &carrier)?;
+    mac_agrees(&entry, &ends, extension(x), &carrier)?;
 
     // Accepted.
     if open {
         // "An accepted or signed segment sets its direction's reference to the larger of the old
         // one and X."
-        state.arriving_reference = moved(rules, before.arriving_reference, x);
-        state.count_accept(rules);
+        state.arriving_reference = moved(before.arriving_reference, x);
+        state.count_accept();
     } else {
-        open_by_syn_ack(rules, header.sequence, state);
+        open_by_syn_ack(header.sequence, state);
     }
 
     // "After any acceptance".
-    let newest = x > before.arriving_reference;
-    let skipped = if open {
-        rules.has(Fault::KeyRuleForNewestOnly) && !newest
-    } else {
-        rules.has(Fault::NoKeyRuleAtSynAck)
-    };
-    if !skipped {
-        key_rule(rules, &entries, &pair, ao.rnext_key_id, state);
-    }
+    key_rule(&entries, &pair, ao.rnext_key_id, state);
     Ok(extension(x))
 }
 
 /// "An accepted SYN+ACK opens the connection; its sequence number is the peer's ISN". "Opening sets
 /// each reference to that side's ISN". Of the counts: "All are 0 at opening; the segment that opens
 /// is not counted."
-fn open_by_syn_ack(rules: Rules, sequence: u32, state: &mut State) {
+fn open_by_syn_ack(sequence: u32, state: &mut State) {
     state.stage = STAGE_OPEN;
     state.peer_isn = sequence;
-    if !rules.has(Fault::SynAckKeepsOurReference) {
-        state.signing_reference = state.our_isn as u64;
-    }
-    state.arriving_reference = if rules.has(Fault::SynAckKeepsLargerReference) {
-        state.arriving_reference.max(sequence as u64)
-    } else {
-        sequence as u64
-    };
-    if !rules.has(Fault::CountsKeptAtOpening) {
-        state.accepted = 0;
-        state.drops = [0; 10];
-    }
-    if rules.has(Fault::OpeningSegmentCounted) {
-        state.count_accept(rules);
-    }
+    state.signing_reference = state.our_isn as u64;
+    state.arriving_reference = sequence as u64;
+    state.accepted = 0;
+    state.drops = [0; 10];
 }
 
 /// "After any acceptance: if RNextKeyID differs from the outgoing SendID, and an entry matching the
 /// pair has that SendID, it becomes the outgoing key (7.5.2.e). Older keys may come back."
-fn key_rule(rules: Rules, entries: &[Entry], pair: &Pair, rnext_key_id: u8, state: &mut State) {
-    if rnext_key_id == state.outgoing_send_id {
-        return;
-    }
-    let available = if rules.has(Fault::KeyRuleWithoutAvailability) {
-        true
-    } else if rules.has(Fault::KeyRuleWithoutPair) {
-        entries.iter().any(|entry| entry.send_id == rnext_key_id)
-    } else if rules.has(Fault::KeyRuleByRecvId) {
-        by_recv_id(rules, entries, pair, rnext_key_id).is_some()
-    } else {
-        by_send_id(rules, entries, pair, rnext_key_id).is_some()
-    };
-    if available {
+fn key_rule(entries: &[Entry], pair: &Pair, rnext_key_id: u8, state: &mut State) {
+    let differs = rnext_key_id != state.outgoing_send_id;
+    if differs && by_send_id(entries, pair, rnext_key_id).is_some() {
         state.outgoing_send_id = rnext_key_id;
-    }
-    if rules.has(Fault::KeyRuleAsksToo) {
-        if let Some(entry) = by_send_id(rules, entries, pair, rnext_key_id) {
-            state.asked_recv_id = entry.recv_id;
-        }
     }
 }
 
@@ -421,90 +336,57 @@ pub struct Signed {
 ///
 /// "Signing puts TCP-AO directly after byte 20, the old options behind it, raises the data offset
 /// by 4, and writes checksum zero. KeyID is the outgoing SendID, RNextKeyID the asked RecvID."
-pub fn sign(
-    rules: Rules,
-    table: &[u8],
-    segment: &[u8],
-    room: usize,
-    state: &State,
-) -> Result<Signed, Refusal> {
+pub fn sign(table: &[u8], segment: &[u8], room: usize, state: &State) -> Result<Signed, Refusal> {
     // 18: "state's family is neither IPv4 nor IPv6".
     let pair = state.pair().ok_or(Refusal::of(18))?;
 
     // 10 to 17.
-    let entries = table::read(rules, table)?;
+    let entries = table::read(table)?;
 
     // 30: "signing: as 20".
     let header = Header::read(segment).ok_or(Refusal::of(30))?;
 
     // 31: "malformed, or TCP-AO or MD5 present".
-    let options = read_options(rules, segment, &header).ok_or(Refusal::of(31))?;
+    let options = read_options(segment, &header).ok_or(Refusal::of(31))?;
     if options.ao_count > 0 || options.md5_count > 0 {
         return Err(Refusal::of(31));
     }
 
-    let same_ports =
-        header.source_port == pair.local_port && header.destination_port == pair.remote_port;
-    if rules.has(Fault::PortsBeforeSize) && !same_ports {
-        return Err(Refusal::of(33));
-    }
-
     // 32: "data offset above 11, or result above 65,535 bytes".
     let signed_bytes = segment.len() + AO_BYTES;
-    let most_words = 11 - rules.has(Fault::OffsetElevenRefused) as usize;
-    let most_bytes = 65_535 - rules.has(Fault::LongestRefused) as usize;
-    if header.data_offset > most_words || signed_bytes > most_bytes {
+    if header.data_offset > 11 || signed_bytes > 65_535 {
         return Err(Refusal::of(32));
     }
 
     // 33: "ports not the state's".
-    //
+    if header.source_port != pair.local_port || header.destination_port != pair.remote_port {
+        return Err(Refusal::of(33));
+    }
+
     // 34: "wrong segment for the stage". Opening: "A bare SYN whose number is our ISN may then be
     // signed." Open: "each segment that carries SYN and ACK, or no SYN".
     let right_segment = if state.is_open() {
-        !header.is_bare_syn() || rules.has(Fault::BareSynSignedOnceOpen)
+        !header.is_bare_syn()
     } else {
         header.is_bare_syn()
     };
-    if rules.has(Fault::StageBeforePorts) && !right_segment {
-        return Err(Refusal::of(34));
-    }
-    if !same_ports {
-        return Err(Refusal::of(33));
-    }
-    let entry = by_send_id(rules, &entries, &pair, state.outgoing_send_id);
-    if rules.has(Fault::KeyBeforeStage) && entry.is_none() {
-        return Err(Refusal::of(35));
-    }
     if !right_segment {
         return Err(Refusal::of(34));
     }
 
     // 35: "no entry matching the pair has the outgoing SendID (opening, signing)".
-    let entry = entry.ok_or(Refusal::of(35))?;
-    if rules.has(Fault::SigningTestsAskedKey)
-        && by_recv_id(rules, &entries, &pair, state.asked_recv_id).is_none()
-    {
-        return Err(Refusal::of(35));
-    }
-    if rules.has(Fault::RoomBeforePosition) && room < signed_bytes {
-        return Err(Refusal::of(37));
-    }
+    let key_id = state.outgoing_send_id;
+    let entry = by_send_id(&entries, &pair, key_id).ok_or(Refusal::of(35))?;
 
     // 36: "no position, or a SYN (bare or with ACK) whose position is not our ISN". "A bare SYN and
     // the SYN+ACK that opens have extension 0 and their own number as position; once open, every
     // segment goes by its position."
     let x = if state.is_open() {
-        position(rules, state.signing_reference, header.sequence).ok_or(Refusal::of(36))?
+        position(state.signing_reference, header.sequence).ok_or(Refusal::of(36))?
     } else {
         header.sequence as u64
     };
-    let may_be_anywhere = if header.is_bare_syn() {
-        rules.has(Fault::AnySynNumberSigned)
-    } else {
-        !header.syn() || rules.has(Fault::SynAckSignedAnywhere)
-    };
-    if x != state.our_isn as u64 && !may_be_anywhere {
+    if header.syn() && x != state.our_isn as u64 {
         return Err(Refusal::of(36));
     }
 
@@ -514,7 +396,6 @@ pub fn sign(
     }
 
     // The signed segment, first with a MAC of zeros.
-    let key_id = state.outgoing_send_id;
     let rnext_key_id = state.asked_recv_id;
     let mut signed = Vec::with_capacity(signed_bytes);
     signed.extend_from_slice(&segment[..20]);
@@ -522,16 +403,11 @@ pub fn sign(
     signed.extend_from_slice(&[0; 12]);
     signed.extend_from_slice(&segment[20..]);
     signed[12] += 4 << 4;
-    if rules.has(Fault::ReservedBitsCleared) {
-        signed[12] &= 0xf0;
-    }
-    if !rules.has(Fault::ChecksumKept) {
-        signed[16..18].fill(0);
-    }
+    signed[16..18].fill(0);
 
     // "Open: ... signed with both ISNs." "For a bare SYN (SYN set, ACK clear) the destination ISN
     // is zero."
-    let bare = header.is_bare_syn() && !rules.has(Fault::SynSignedWithPeerIsn);
+    let bare = header.is_bare_syn();
     let ends = Ends {
         source: pair.local,
         destination: pair.remote,
@@ -553,13 +429,13 @@ pub fn sign(
             rnext_key_id,
         },
     };
-    let mac = mac::mac(rules, &entry, &ends, &ends, extension(x), &carrier);
+    let mac = mac::mac(&entry, &ends, extension(x), &carrier);
     signed[24..36].copy_from_slice(&mac);
 
     // "An accepted or signed segment sets its direction's reference to the larger of the old one
     // and X."
     let mut after = *state;
-    after.signing_reference = moved(rules, state.signing_reference, x);
+    after.signing_reference = moved(state.signing_reference, x);
     Ok(Signed {
         segment: signed,
         state: after,
@@ -569,18 +445,15 @@ pub fn sign(
 /// Sets the RecvID asked of the peer (18, 10 to 17, 35).
 ///
 /// "An operator call sets the RecvID asked of the peer; nothing else does."
-pub fn ask(rules: Rules, table: &[u8], recv_id: u8, state: &State) -> Result<State, Refusal> {
+pub fn ask(table: &[u8], recv_id: u8, state: &State) -> Result<State, Refusal> {
     // 18: "state's family is neither IPv4 nor IPv6".
     let pair = state.pair().ok_or(Refusal::of(18))?;
 
     // 10 to 17.
-    let entries = table::read(rules, table)?;
+    let entries = table::read(table)?;
 
     // 35: "no entry matching the pair has ... the RecvID to ask (operator call)".
-    if by_recv_id(rules, &entries, &pair, recv_id).is_none() {
-        return Err(Refusal::of(35));
-    }
-    if rules.has(Fault::AskOnlyOnceOpen) && !state.is_open() {
+    if by_recv_id(&entries, &pair, recv_id).is_none() {
         return Err(Refusal::of(35));
     }
 
@@ -599,31 +472,26 @@ fn addresses(one: &[u8], other: &[u8]) -> Result<(), Refusal> {
 
 /// 19, then 10 to 17.
 fn addresses_then_table<'t>(
-    rules: Rules,
     one: &[u8],
     other: &[u8],
     table: &'t [u8],
 ) -> Result<Vec<Entry<'t>>, Refusal> {
-    if rules.has(Fault::TableBeforeAddresses) {
-        table::read(rules, table)?;
-    }
     addresses(one, other)?;
-    table::read(rules, table)
+    table::read(table)
 }
 
 /// 20, 21 and 22 of an arriving segment.
-fn readable(rules: Rules, segment: &[u8]) -> Result<(Header, Options), Refusal> {
+fn readable(segment: &[u8]) -> Result<(Header, Options), Refusal> {
     // 20: "bad length or offset".
     let header = Header::read(segment).ok_or(Refusal::of(20))?;
 
     // 21: "malformed options".
-    let options = read_options(rules, segment, &header).ok_or(Refusal::of(21))?;
+    let options = read_options(segment, &header).ok_or(Refusal::of(21))?;
 
     // 22: "two TCP-AO, or TCP-AO and MD5 together".
     let two_ao = options.ao_count >= 2;
     let ao_and_md5 = options.ao_count >= 1 && options.md5_count >= 1;
-    let two_md5 = options.md5_count >= 2 && rules.has(Fault::TwoMd5AreTwentyTwo);
-    if two_ao || ao_and_md5 || two_md5 {
+    if two_ao || ao_and_md5 {
         return Err(Refusal::of(22));
     }
     Ok((header, options))
@@ -640,14 +508,8 @@ fn arriving_pair<'a>(source: &'a [u8], destination: &'a [u8], header: &Header) -
 }
 
 /// 27: "MAC length wrong". "TCP-AO is kind 29, length, KeyID, RNextKeyID, MAC."
-fn mac_length(rules: Rules, entry: &Entry, ao: &AoOption) -> Result<(), Refusal> {
-    let expected = 4 + entry.algorithm.mac_bytes();
-    let right = if rules.has(Fault::LongerMacTaken) {
-        ao.length >= expected
-    } else {
-        ao.length == expected
-    };
-    if right {
+fn mac_length(entry: &Entry, ao: &AoOption) -> Result<(), Refusal> {
+    if ao.length == 4 + entry.algorithm.mac_bytes() {
         Ok(())
     } else {
         Err(Refusal::of(27))
@@ -655,28 +517,8 @@ fn mac_length(rules: Rules, entry: &Entry, ao: &AoOption) -> Result<(), Refusal>
 }
 
 /// 29: "MAC differs".
-fn mac_agrees(
-    rules: Rules,
-    entry: &Entry,
-    ends: &Ends,
-    extension: u32,
-    carrier: &WithAo,
-) -> Result<(), Refusal> {
-    // "'source' is whoever sent the segment." Turned round: "Taking our own side as the source for
-    // arriving segments too."
-    let key_ends = if rules.has(Fault::OurSideAsSource) {
-        Ends {
-            source: ends.destination,
-            destination: ends.source,
-            source_port: ends.destination_port,
-            destination_port: ends.source_port,
-            source_isn: ends.destination_isn,
-            destination_isn: ends.source_isn,
-        }
-    } else {
-        *ends
-    };
-    let mac = mac::mac(rules, entry, ends, &key_ends, extension, carrier);
+fn mac_agrees(entry: &Entry, ends: &Ends, extension: u32, carrier: &WithAo) -> Result<(), Refusal> {
+    let mac = mac::mac(entry, ends, extension, carrier);
     let at = carrier.ao.at + 4;
     if carrier.segment[at..at + mac.len()] == mac {
         Ok(())

@@ -7,8 +7,7 @@
 //! from.
 //!
 //! [`calls`] has the calls with values in and out, [`boundary`] the same calls over lent bytes, as
-//! C sees them. Every call takes [`Rules`] first: `Rules::default()` are document 01's rules; with
-//! a [`Fault`] one of them is turned round on purpose.
+//! C sees them. The package `faulty` is this text with one of its rules turned round on purpose.
 //!
 //! `NOTES.md` lists what document 01 leaves open and how it was decided here.
 
@@ -19,7 +18,6 @@ pub mod answer;
 pub mod boundary;
 pub mod calls;
 pub mod crypto;
-pub mod faults;
 pub mod mac;
 pub mod position;
 pub mod segment;
@@ -27,5 +25,4 @@ pub mod state;
 pub mod table;
 
 pub use answer::{Refusal, Verdict};
-pub use faults::{Fault, Rules};
 pub use state::State;

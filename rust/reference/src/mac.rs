@@ -1,7 +1,6 @@
 //! "Traffic keys" and "What the MAC covers".
 
 use crate::crypto;
-use crate::faults::{Fault, Rules};
 use crate::segment::WithAo;
 use crate::table::{Algorithm, Entry};
 
@@ -50,14 +49,14 @@ pub fn traffic_key_input(algorithm: Algorithm, ends: &Ends) -> Vec<u8> {
 /// "Algorithm 1 applies HMAC-SHA-1 under the master key. Algorithm 2 applies AES-CMAC under the
 /// master key if that has 16 bytes; otherwise under AES-CMAC of the master key with an all-zero
 /// key."
-pub fn traffic_key(rules: Rules, algorithm: Algorithm, master_key: &[u8], ends: &Ends) -> Vec<u8> {
+pub fn traffic_key(algorithm: Algorithm, master_key: &[u8], ends: &Ends) -> Vec<u8> {
     let input = traffic_key_input(algorithm, ends);
     match algorithm {
         Algorithm::HmacSha1 => crypto::hmac_sha1(master_key, &input).to_vec(),
         Algorithm::AesCmac => {
             let key = match <[u8; 16]>::try_from(master_key) {
-                Ok(sixteen) if !rules.has(Fault::EveryMasterKeyHashed) => sixteen,
-                _ => crypto::aes128_cmac(&[0; 16], master_key),
+                Ok(sixteen) => sixteen,
+                Err(_) => crypto::aes128_cmac(&[0; 16], master_key),
             };
             crypto::aes128_cmac(&key, &input).to_vec()
         }
@@ -68,13 +67,7 @@ pub fn traffic_key(rules: Rules, algorithm: Algorithm, master_key: &[u8], ends: 
 /// as for the checksum, with the whole segment's length; the TCP header with checksum and MAC bytes
 /// zero; the data. With flag 0 only the header's first 20 bytes, data offset as sent, and TCP-AO
 /// remain."
-pub fn message(
-    rules: Rules,
-    covers_options: bool,
-    ends: &Ends,
-    extension: u32,
-    carrier: &WithAo,
-) -> Vec<u8> {
+pub fn message(covers_options: bool, ends: &Ends, extension: u32, carrier: &WithAo) -> Vec<u8> {
     let WithAo {
         segment,
         header,
@@ -90,29 +83,13 @@ pub fn message(
     let covered = if covers_options {
         zeroed
     } else {
-        let mut first_20 = zeroed[..20].to_vec();
-        if rules.has(Fault::OffsetOfShortenedHeader) {
-            first_20[12] = (first_20[12] & 0x0f) | (9 << 4);
-        }
-        let ao_bytes = if rules.has(Fault::MacBytesLeftOut) {
-            4
-        } else {
-            ao.length
-        };
-        first_20.extend_from_slice(&zeroed[ao.at..ao.at + ao_bytes]);
-        first_20
-    };
-
-    // "with the whole segment's length".
-    let length = if rules.has(Fault::ShortenedLengthInPseudoHeader) {
-        covered.len() + data.len()
-    } else {
-        segment.len()
+        [&zeroed[..20], &zeroed[ao.at..ao.at + ao.length]].concat()
     };
 
     let mut bytes = Vec::with_capacity(44 + segment.len());
     bytes.extend_from_slice(&extension.to_be_bytes());
-    bytes.extend_from_slice(&pseudo_header(ends, length));
+    // "with the whole segment's length".
+    bytes.extend_from_slice(&pseudo_header(ends, segment.len()));
     bytes.extend_from_slice(&covered);
     bytes.extend_from_slice(data);
     bytes
@@ -151,17 +128,9 @@ pub fn leftmost(algorithm: Algorithm, traffic_key: &[u8], message: &[u8]) -> [u8
     mac
 }
 
-/// The MAC that a segment must have under an entry; `key_ends` are the ends of the traffic key's
-/// context. They are the segment's own, but for a planted fault.
-pub fn mac(
-    rules: Rules,
-    entry: &Entry,
-    ends: &Ends,
-    key_ends: &Ends,
-    extension: u32,
-    carrier: &WithAo,
-) -> [u8; 12] {
-    let key = traffic_key(rules, entry.algorithm, entry.key, key_ends);
-    let covered = message(rules, entry.covers_options, ends, extension, carrier);
+/// The MAC that a segment must have under an entry.
+pub fn mac(entry: &Entry, ends: &Ends, extension: u32, carrier: &WithAo) -> [u8; 12] {
+    let key = traffic_key(entry.algorithm, entry.key, ends);
+    let covered = message(entry.covers_options, ends, extension, carrier);
     leftmost(entry.algorithm, &key, &covered)
 }

@@ -1,7 +1,5 @@
 //! "The option in a segment": the header's fields and the options.
 
-use crate::faults::{Fault, Rules};
-
 /// The kind of TCP MD5.
 pub const KIND_MD5: u8 = 19;
 /// The kind of TCP-AO.
@@ -16,8 +14,6 @@ pub struct Header {
     pub destination_port: u16,
     /// Bytes 4 to 7.
     pub sequence: u32,
-    /// Bytes 8 to 11; no rule looks at it.
-    pub acknowledgment: u32,
     /// Byte 12's high half, in 32-bit words.
     pub data_offset: usize,
     /// Byte 13, the flags.
@@ -41,7 +37,6 @@ impl Header {
             source_port: two(0),
             destination_port: two(2),
             sequence: four(4),
-            acknowledgment: four(8),
             data_offset,
             flags: segment[13],
         })
@@ -115,7 +110,7 @@ pub struct Options {
 /// one byte, 0 ends the reading, 19 is TCP MD5, 29 is TCP-AO; 2 to 18, 20 to 28 and 30 to 255 are
 /// skipped by their length byte. A length below 2, missing, or running past the area is malformed.
 /// So is kind 29 below length 4."
-pub fn read_options(rules: Rules, segment: &[u8], header: &Header) -> Option<Options> {
+pub fn read_options(segment: &[u8], header: &Header) -> Option<Options> {
     let mut options = Options {
         ao: None,
         ao_count: 0,
@@ -125,10 +120,10 @@ pub fn read_options(rules: Rules, segment: &[u8], header: &Header) -> Option<Opt
     let mut at = 20;
     while at < end {
         let kind = segment[at];
-        if kind == 0 && !rules.has(Fault::ReadingGoesOnPastKindZero) {
+        if kind == 0 {
             break;
         }
-        if kind <= 1 {
+        if kind == 1 {
             at += 1;
             continue;
         }
@@ -155,14 +150,9 @@ pub fn read_options(rules: Rules, segment: &[u8], header: &Header) -> Option<Opt
                     key_id: segment[at + 2],
                     rnext_key_id: segment[at + 3],
                 });
-            } else if rules.has(Fault::ReadingStopsAtSecondAo) {
-                break;
             }
         }
         if kind == KIND_MD5 {
-            if rules.has(Fault::Md5OfOtherLengthMalformed) && length != 18 {
-                return None;
-            }
             options.md5_count += 1;
         }
         at += length;

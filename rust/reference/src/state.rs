@@ -1,6 +1,5 @@
 //! A connection's state, as a struct and as `BOUNDARY.md`'s 152 bytes.
 
-use crate::faults::{Fault, Rules};
 use crate::table::Pair;
 
 /// How many bytes a state has at the boundary.
@@ -95,14 +94,14 @@ impl State {
     }
 
     /// "Counts of acceptances and of each drop stop at 2^64-1."
-    pub fn count_accept(&mut self, rules: Rules) {
-        self.accepted = one_more(rules, self.accepted);
+    pub fn count_accept(&mut self) {
+        self.accepted = self.accepted.saturating_add(1);
     }
 
     /// "drops 20 to 29 on an open connection add one to that number's count."
-    pub fn count_drop(&mut self, rules: Rules, number: u8) {
+    pub fn count_drop(&mut self, number: u8) {
         let count = &mut self.drops[(number - 20) as usize];
-        *count = one_more(rules, *count);
+        *count = count.saturating_add(1);
     }
 
     /// Reads a state; nothing if there are not 152 bytes.
@@ -157,13 +156,5 @@ impl State {
             bytes[72 + 8 * index..80 + 8 * index].copy_from_slice(&count.to_be_bytes());
         }
         bytes
-    }
-}
-
-fn one_more(rules: Rules, count: u64) -> u64 {
-    if rules.has(Fault::CountsWrap) {
-        count.wrapping_add(1)
-    } else {
-        count.saturating_add(1)
     }
 }

@@ -1,7 +1,6 @@
 //! "Key table (house bytes)": reading and checking the bytes, matching, and the searches.
 
 use crate::answer::Refusal;
-use crate::faults::{Fault, Rules};
 
 /// "At most 64 entries; none is allowed."
 pub const MOST_ENTRIES: usize = 64;
@@ -62,12 +61,8 @@ pub struct Side<'a> {
 impl Side<'_> {
     /// "both ports lie in the ranges and, on each side, the first prefix-length bits agree. Prefix
     /// 0 matches every address."
-    fn matches(&self, rules: Rules, address: &[u8], port: u16) -> bool {
-        let in_range = if rules.has(Fault::HighPortExcluded) {
-            self.low <= port && port < self.high
-        } else {
-            self.low <= port && port <= self.high
-        };
+    fn matches(&self, address: &[u8], port: u16) -> bool {
+        let in_range = self.low <= port && port <= self.high;
         in_range && first_bits_agree(self.address, address, self.prefix)
     }
 
@@ -76,14 +71,10 @@ impl Side<'_> {
     /// Two ranges share a port exactly if the larger of the low ends is not above the smaller of
     /// the high ends. Two prefixes share an address exactly if they agree as far as the shorter
     /// one goes: the longer one's own address is then in both.
-    fn overlaps(&self, rules: Rules, other: &Side) -> bool {
+    fn overlaps(&self, other: &Side) -> bool {
         let ports = self.low.max(other.low) <= self.high.min(other.high);
         let shorter = self.prefix.min(other.prefix);
-        let addresses = if rules.has(Fault::NestedPrefixesDoNotClash) {
-            self.prefix == other.prefix && self.address == other.address
-        } else {
-            first_bits_agree(self.address, other.address, shorter)
-        };
+        let addresses = first_bits_agree(self.address, other.address, shorter);
         ports && addresses
     }
 }
@@ -110,29 +101,22 @@ pub struct Entry<'a> {
 impl Entry<'_> {
     /// "An entry matches a socket pair of its family when both ports lie in the ranges and, on each
     /// side, the first prefix-length bits agree."
-    pub fn matches(&self, rules: Rules, pair: &Pair) -> bool {
+    pub fn matches(&self, pair: &Pair) -> bool {
         let family = self.local.address.len();
         pair.local.len() == family
             && pair.remote.len() == family
-            && self.local.matches(rules, pair.local, pair.local_port)
-            && self.remote.matches(rules, pair.remote, pair.remote_port)
+            && self.local.matches(pair.local, pair.local_port)
+            && self.remote.matches(pair.remote, pair.remote_port)
     }
 
     /// "a socket pair exists that two entries both match while they share SendID or share RecvID."
-    pub fn clashes(&self, rules: Rules, other: &Entry) -> bool {
-        let shared = if rules.has(Fault::ClashBySendIdOnly) {
-            self.send_id == other.send_id
-        } else {
-            self.send_id == other.send_id || self.recv_id == other.recv_id
-        };
-        if !shared {
-            return false;
-        }
+    pub fn clashes(&self, other: &Entry) -> bool {
+        let shared = self.send_id == other.send_id || self.recv_id == other.recv_id;
         let same_family = self.local.address.len() == other.local.address.len();
-        let pair_exists = same_family
-            && self.local.overlaps(rules, &other.local)
-            && self.remote.overlaps(rules, &other.remote);
-        pair_exists || rules.has(Fault::ClashWithoutPair)
+        shared
+            && same_family
+            && self.local.overlaps(&other.local)
+            && self.remote.overlaps(&other.remote)
     }
 }
 
@@ -156,21 +140,12 @@ fn bits_behind_are_zero(address: &[u8], count: usize) -> bool {
 ///
 /// "The first that applies, in this order, is given; table entries are taken one after another,
 /// each through to 17 against those before it, with the entry's index from 0."
-pub fn read(rules: Rules, table: &[u8]) -> Result<Vec<Entry<'_>>, Refusal> {
+pub fn read(table: &[u8]) -> Result<Vec<Entry<'_>>, Refusal> {
     let mut entries: Vec<Entry> = Vec::new();
-    let mut late_clash = None;
     let mut rest = table;
     while !rest.is_empty() {
         let index = entries.len() as u32;
-        let refused = |number| Refusal {
-            number,
-            index: index + rules.has(Fault::IndexFromOne) as u32,
-        };
-
-        let kind_known = rest[0] == 4 || rest[0] == 6;
-        if rules.has(Fault::KindBeforeSixtyFifth) && !kind_known {
-            return Err(refused(11));
-        }
+        let refused = |number| Refusal { number, index };
 
         // 12: "a 65th entry begins".
         if entries.len() == MOST_ENTRIES {
@@ -192,20 +167,17 @@ pub fn read(rules: Rules, table: &[u8]) -> Result<Vec<Entry<'_>>, Refusal> {
 
         // 13 to 16.
         let body = &rest[1..1 + body_bytes];
-        let entry = read_body(rules, address_bytes, body).map_err(refused)?;
+        let entry = read_body(address_bytes, body).map_err(refused)?;
 
         // 17: "ID clash, at the later entry".
-        if entries.iter().any(|before| before.clashes(rules, &entry)) {
-            if !rules.has(Fault::ClashAfterAllEntries) {
-                return Err(refused(17));
-            }
-            late_clash = late_clash.or(Some(refused(17)));
+        if entries.iter().any(|before| before.clashes(&entry)) {
+            return Err(refused(17));
         }
 
         entries.push(entry);
         rest = &rest[1 + body_bytes..];
     }
-    late_clash.map_or(Ok(entries), Err)
+    Ok(entries)
 }
 
 /// Reads one body of 103 or 127 bytes with addresses of 4 or 16, or gives 13, 14, 15 or 16.
@@ -214,7 +186,7 @@ pub fn read(rules: Rules, table: &[u8]) -> Result<Vec<Entry<'_>>, Refusal> {
 /// HMAC-SHA-1-96, 2 AES-128-CMAC-96), SendID, RecvID; local port low and high, remote port low and
 /// high (two bytes each, big-endian, ends included); local address, its prefix length; remote
 /// address, its prefix length; key length 1 to 80; the key, padded with zeros to 80."
-fn read_body(rules: Rules, address_bytes: usize, body: &[u8]) -> Result<Entry<'_>, u8> {
+fn read_body(address_bytes: usize, body: &[u8]) -> Result<Entry<'_>, u8> {
     let port = |at: usize| u16::from_be_bytes([body[at], body[at + 1]]);
     let (local_part, rest) = body[12..].split_at(address_bytes + 1);
     let (remote_part, key_part) = rest.split_at(address_bytes + 1);
@@ -243,23 +215,19 @@ fn read_body(rules: Rules, address_bytes: usize, body: &[u8]) -> Result<Entry<'_
         _ => return Err(13),
     };
 
-    let too_long = |side: &Side| side.prefix > 8 * address_bytes;
-    if rules.has(Fault::PrefixBeforePorts) && (too_long(&local) || too_long(&remote)) {
-        return Err(15);
-    }
-
     // 14: "low port above high".
     let bad = |side: &Side| side.low > side.high;
-    if bad(&local) || (bad(&remote) && !rules.has(Fault::PortsOfLocalSideOnly)) {
+    if bad(&local) || bad(&remote) {
         return Err(14);
     }
 
     // 15: "prefix above 32 or 128, or address bits set past it".
+    let too_long = |side: &Side| side.prefix > 8 * address_bytes;
     if too_long(&local) || too_long(&remote) {
         return Err(15);
     }
     let bits_set = |side: &Side| !bits_behind_are_zero(side.address, side.prefix);
-    if bits_set(&local) || (bits_set(&remote) && !rules.has(Fault::BitsOfLocalSideOnly)) {
+    if bits_set(&local) || bits_set(&remote) {
         return Err(15);
     }
 
@@ -269,7 +237,7 @@ fn read_body(rules: Rules, address_bytes: usize, body: &[u8]) -> Result<Entry<'_
         return Err(16);
     }
     let (key, padding) = key_part[1..].split_at(key_bytes);
-    if padding.iter().any(|byte| *byte != 0) && !rules.has(Fault::PaddingNotLookedAt) {
+    if padding.iter().any(|byte| *byte != 0) {
         return Err(16);
     }
 
@@ -285,27 +253,17 @@ fn read_body(rules: Rules, address_bytes: usize, body: &[u8]) -> Result<Entry<'_
 }
 
 /// The entry matching the pair that has this SendID; by 17 there is at most one.
-pub fn by_send_id<'t>(
-    rules: Rules,
-    entries: &[Entry<'t>],
-    pair: &Pair,
-    send_id: u8,
-) -> Option<Entry<'t>> {
+pub fn by_send_id<'t>(entries: &[Entry<'t>], pair: &Pair, send_id: u8) -> Option<Entry<'t>> {
     entries
         .iter()
-        .find(|entry| entry.send_id == send_id && entry.matches(rules, pair))
+        .find(|entry| entry.send_id == send_id && entry.matches(pair))
         .copied()
 }
 
 /// The entry matching the pair that has this RecvID; by 17 there is at most one.
-pub fn by_recv_id<'t>(
-    rules: Rules,
-    entries: &[Entry<'t>],
-    pair: &Pair,
-    recv_id: u8,
-) -> Option<Entry<'t>> {
+pub fn by_recv_id<'t>(entries: &[Entry<'t>], pair: &Pair, recv_id: u8) -> Option<Entry<'t>> {
     entries
         .iter()
-        .find(|entry| entry.recv_id == recv_id && entry.matches(rules, pair))
+        .find(|entry| entry.recv_id == recv_id && entry.matches(pair))
         .copied()
 }

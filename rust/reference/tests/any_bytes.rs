@@ -4,7 +4,7 @@
 mod common;
 
 use common::*;
-use reference::{Fault, Rules};
+use faulty::Fault;
 
 struct Random(u64);
 
@@ -48,42 +48,28 @@ fn disturb(random: &mut Random, bytes: &mut Vec<u8>) {
 
 fn disturbed(random: &mut Random, case: &Case) -> Case {
     let mut case = case.clone();
-    disturb(random, &mut case.table);
-    disturb(random, &mut case.state);
-    match &mut case.call {
-        Call::CheckTable => {}
-        Call::OpenActive { local, remote, .. } => {
-            disturb(random, local);
-            disturb(random, remote);
+    let call = &mut case.call;
+    disturb(random, &mut call.table);
+    disturb(random, &mut call.state);
+    match call.function {
+        Function::CheckTable => {}
+        Function::OpenActive => {
+            disturb(random, &mut call.source);
+            disturb(random, &mut call.destination);
         }
-        Call::JudgeSyn {
-            source,
-            destination,
-            segment,
-            ..
-        }
-        | Call::OpenPassive {
-            source,
-            destination,
-            segment,
-            ..
-        }
-        | Call::Judge {
-            source,
-            destination,
-            segment,
-        } => {
+        Function::JudgeSyn | Function::OpenPassive | Function::Judge => {
             if random.below(8) == 0 {
-                disturb(random, source);
-                disturb(random, destination);
+                disturb(random, &mut call.source);
+                disturb(random, &mut call.destination);
             }
-            disturb(random, segment);
+            disturb(random, &mut call.segment);
         }
-        Call::Sign { segment, room } => {
-            disturb(random, segment);
-            *room = (segment.len() + random.below(40)).saturating_sub(4);
+        Function::Sign => {
+            disturb(random, &mut call.segment);
+            let room = (call.segment.len() + random.below(40)).saturating_sub(4);
+            call.out.resize(room, 0xee);
         }
-        Call::Ask { recv_id } => *recv_id = random.below(8) as u8,
+        Function::Ask => call.byte = random.below(8) as u8,
     }
     case
 }
@@ -94,39 +80,39 @@ fn disturbed(random: &mut Random, case: &Case) -> Case {
 fn every_call_returns() {
     let cases: Vec<Case> = cases()
         .into_iter()
-        .filter(|case| case.table.len() < 1000)
+        .filter(|case| case.call.table.len() < 1000)
         .collect();
     let mut random = Random(20_261_115);
     for round in 0..20_000 {
         let case = disturbed(&mut random, &cases[round % cases.len()]);
-        let outcome = run(RIGHT, &case);
+        let outcome = run(&case);
         let number = number(outcome.word);
-        let allowed: Vec<u8> = match case.call {
-            Call::CheckTable => vec![0],
-            Call::OpenActive { .. } => vec![0, 18, 19, 35],
-            Call::JudgeSyn { .. } => vec![0, 1, 19, 20, 21, 22, 24, 25, 26, 27, 29],
-            Call::OpenPassive { .. } => vec![0, 1, 18, 19, 20, 21, 22, 24, 25, 26, 27, 29],
-            Call::Judge { .. } => [0].into_iter().chain(18..=29).collect(),
-            Call::Sign { .. } => [0, 18].into_iter().chain(30..=37).collect(),
-            Call::Ask { .. } => vec![0, 18, 35],
+        let allowed: Vec<u8> = match case.call.function {
+            Function::CheckTable => vec![0],
+            Function::OpenActive => vec![0, 18, 19, 35],
+            Function::JudgeSyn => vec![0, 1, 19, 20, 21, 22, 24, 25, 26, 27, 29],
+            Function::OpenPassive => vec![0, 1, 18, 19, 20, 21, 22, 24, 25, 26, 27, 29],
+            Function::Judge => [0].into_iter().chain(18..=29).collect(),
+            Function::Sign => [0, 18].into_iter().chain(30..=37).collect(),
+            Function::Ask => vec![0, 18, 35],
         };
         assert!((10..=17).contains(&number) || allowed.contains(&number));
         assert_eq!(outcome.word as u32 >> 8, 0);
         if number != 0 && !(10..=17).contains(&number) {
             assert_eq!(outcome.word >> 32, 0);
         }
-        let counted = (20..=29).contains(&number) && case.call.name() == "judge";
+        let counted = (20..=29).contains(&number) && case.call.function == Function::Judge;
         if number != 0 && !counted {
-            assert_eq!(outcome.state, case.state);
+            assert_eq!(outcome.state, case.call.state);
         }
         if counted {
-            assert_eq!(outcome.state[..72], case.state[..72]);
+            assert_eq!(outcome.state[..72], case.call.state[..72]);
         }
         if number != 0 {
             assert!(outcome.out.iter().all(|byte| *byte == 0xee));
         }
 
         let fault = Fault::ALL[random.below(Fault::ALL.len())];
-        run(Rules::with(fault), &case);
+        run_with(fault, &case);
     }
 }

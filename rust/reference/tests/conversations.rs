@@ -117,7 +117,7 @@ fn several_turns() {
     assert!(number(word) == 28 || number(word) == 29);
 
     // A step of 2^31 has no position at either end.
-    let segment = a.seg((a_at + (1 << 31)) as u32, ACK, b"").bytes();
+    let segment = a.segment((a_at + (1 << 31)) as u32, ACK, b"").bytes();
     assert_eq!(a.try_sign(&segment), Err(36));
 }
 
@@ -188,7 +188,7 @@ fn a_key_that_is_gone() {
     let mut state = a.state();
     state.outgoing_send_id = 3;
     a.set(state);
-    let segment = a.seg(A_ISN + 2, ACK, b"").bytes();
+    let segment = a.segment(A_ISN + 2, ACK, b"").bytes();
     assert_eq!(a.try_sign(&segment), Err(35));
 }
 

@@ -63,11 +63,11 @@ fn the_places_of_the_fields() {
 fn the_states_of_the_openings() {
     for (a, b, family) in [(&A4[..], &B4[..], 4), (&A6[..], &B6[..], 6)] {
         let (mut a, mut b) = ends(a, b);
-        a.state = vec![0x5a; 152];
-        b.state = vec![0x5a; 152];
+        a.state = vec![0x5a; STATE_BYTES];
+        b.state = vec![0x5a; STATE_BYTES];
 
         assert_eq!(a.open_active(0x01020304, 3), 0);
-        let mut expected = State::of_pair(&pair_of(&a));
+        let mut expected = kit::State::of_pair(&a.pair);
         expected.family = family;
         expected.stage = 0;
         expected.outgoing_send_id = 3;
@@ -75,10 +75,10 @@ fn the_states_of_the_openings() {
         expected.our_isn = 0x01020304;
         expected.signing_reference = 0x01020304;
         assert_eq!(a.state(), expected);
-        let address_bytes = a.address.len();
-        assert_eq!(a.state[16..16 + address_bytes], a.address);
+        let address_bytes = a.pair.local.len();
+        assert_eq!(a.state[16..16 + address_bytes], a.pair.local);
         assert!(a.state[16 + address_bytes..32].iter().all(|b| *b == 0));
-        assert_eq!(a.state[32..32 + address_bytes], a.peer);
+        assert_eq!(a.state[32..32 + address_bytes], a.pair.remote);
 
         // The SYN changes nothing in the state: our reference is at our ISN already.
         let before = a.state.clone();
@@ -86,7 +86,7 @@ fn the_states_of_the_openings() {
         assert_eq!(a.state, before);
 
         assert_eq!(b.open_passive(&syn, 0xf1f2f3f4, 0), 0);
-        let mut expected = State::of_pair(&pair_of(&b));
+        let mut expected = kit::State::of_pair(&b.pair);
         expected.stage = 1;
         expected.outgoing_send_id = 4;
         expected.asked_recv_id = 3;
@@ -99,7 +99,7 @@ fn the_states_of_the_openings() {
         let syn_ack = b.sign(0xf1f2f3f4, SYN | ACK, b"");
         assert_eq!(b.state(), expected);
         assert_eq!(a.judge(&syn_ack), 0);
-        let mut expected = State::of_pair(&pair_of(&a));
+        let mut expected = kit::State::of_pair(&a.pair);
         expected.stage = 1;
         expected.outgoing_send_id = 3;
         expected.asked_recv_id = 4;
@@ -148,16 +148,16 @@ fn opening_from_any_state() {
 #[test]
 fn refused_openings_by_value() {
     let (a, b) = ends(&A4, &B4);
-    let (result, state) = calls::open_active(RIGHT, &a.table, &pair_of(&a), 7, 99);
+    let (result, state) = calls::open_active(&a.table, &lent(&a.pair), 7, 99);
     assert_eq!(result, Err(Refusal::of(35)));
     assert_eq!(state, State::EMPTY);
 
-    let unknown = a.seg(1, SYN, b"").ao(16, 99, 0).bytes();
+    let unknown = a.segment(1, SYN, b"").ao(16, 99, 0).bytes();
     for (setting, verdict) in [
         (Setting::Pass, Verdict::Pass),
         (Setting::Drop, Verdict::Drop(Refusal::of(26))),
     ] {
-        let opened = calls::open_passive(RIGHT, &b.table, &A4, &B4, &unknown, 7, setting);
+        let opened = calls::open_passive(&b.table, &A4, &B4, &unknown, 7, setting);
         assert_eq!(opened, (verdict, State::EMPTY));
     }
 }
@@ -166,14 +166,14 @@ fn refused_openings_by_value() {
 #[test]
 fn signing_writes_its_length() {
     let (a, _) = opened(&A4, &B4);
-    let mut seg = a.seg(A_ISN + 1, ACK | RST, b"some data");
-    seg.reserved = 0x0b;
-    seg.options = vec![2, 4, 5, 6, 0, 29, 0, 19];
-    let segment = seg.bytes();
+    let mut plain = a.segment(A_ISN + 1, ACK | RST, b"some data");
+    plain.reserved = 0x0b;
+    plain.options = vec![2, 4, 5, 6, 0, 29, 0, 19];
+    let segment = plain.bytes();
     for spare in 0..40 {
         let mut state = a.state.clone();
         let mut out = vec![0xee; segment.len() + 16 + spare];
-        let word = c::tcpao_sign(RIGHT, &a.table, &segment, &mut out, &mut state);
+        let word = c::tcpao_sign(&a.table, &segment, &mut out, &mut state);
         assert_eq!(word, c::word(0, segment.len() as u32 + 16));
         let (signed, behind) = out.split_at(segment.len() + 16);
         assert!(behind.iter().all(|byte| *byte == 0xee));
@@ -191,14 +191,14 @@ fn signing_writes_its_length() {
 #[test]
 fn the_largest_segments() {
     let (mut a, mut b) = opened(&A6, &B6);
-    let offset_11 = a.seg(A_ISN + 1, ACK, b"x").options(&[1; 24]).bytes();
+    let offset_11 = a.segment(A_ISN + 1, ACK, b"x").options(&[1; 24]).bytes();
     let signed = a.try_sign(&offset_11).unwrap();
     assert_eq!(signed[12] >> 4, 15);
     assert_eq!(b.judge(&signed), 0);
-    let offset_12 = a.seg(A_ISN + 1, ACK, b"x").options(&[1; 28]).bytes();
+    let offset_12 = a.segment(A_ISN + 1, ACK, b"x").options(&[1; 28]).bytes();
     assert_eq!(a.try_sign(&offset_12), Err(32));
 
-    let mut longest = a.seg(A_ISN + 1, ACK, &vec![3; 65_499]).bytes();
+    let mut longest = a.segment(A_ISN + 1, ACK, &vec![3; 65_499]).bytes();
     assert_eq!(longest.len(), 65_519);
     let signed = a.try_sign(&longest).unwrap();
     assert_eq!(signed.len(), 65_535);

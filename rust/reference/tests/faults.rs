@@ -4,29 +4,41 @@
 mod common;
 
 use common::*;
-use reference::{Fault, Rules};
+use faulty::Fault;
 
 #[test]
 fn each_planted_fault_shows() {
     let cases = cases();
-    let right: Vec<Outcome> = cases.iter().map(|case| run(RIGHT, case)).collect();
+    let right: Vec<Outcome> = cases.iter().map(run).collect();
     for fault in Fault::ALL {
-        let rules = Rules::with(*fault);
         let seen: Vec<String> = cases
             .iter()
             .zip(&right)
-            .filter(|(case, outcome)| run(rules, case) != **outcome)
-            .map(|(case, _)| format!("{}: {}", case.call.name(), case.name))
+            .filter(|(case, outcome)| run_with(fault, case) != **outcome)
+            .map(|(case, _)| format!("{}: {}", case.call.function.name(), case.name))
             .collect();
         assert!(!seen.is_empty(), "{fault:?} shows nowhere");
         println!("{fault:?} shows in {} cases, first {}", seen.len(), seen[0]);
     }
 }
 
-/// The list has each fault once.
+/// The list has each fault once, with what it does and the sentence it breaks.
 #[test]
 fn the_list_is_whole() {
     for (index, fault) in Fault::ALL.iter().enumerate() {
-        assert_eq!(*fault as usize, index);
+        let same = |other: &Fault| other.name() == fault.name();
+        assert_eq!(Fault::ALL.iter().position(same), Some(index));
+        assert!(
+            !fault.does().is_empty() && fault.breaks().contains('"'),
+            "{fault:?}"
+        );
+    }
+}
+
+/// Without a fault the copy that they are planted in is the reference.
+#[test]
+fn the_copy_is_the_reference() {
+    for case in cases() {
+        assert_eq!(run_unplanted(&case), run(&case), "{}", case.name);
     }
 }

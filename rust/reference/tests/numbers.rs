@@ -3,6 +3,7 @@
 mod common;
 
 use common::*;
+use kit::State;
 use std::collections::{BTreeMap, BTreeSet};
 
 /// Each directed case gives its number and value; a refusal or a pass leaves the buffers as they
@@ -10,24 +11,33 @@ use std::collections::{BTreeMap, BTreeSet};
 #[test]
 fn each_case_gives_its_number() {
     for case in cases() {
-        let outcome = run(RIGHT, &case);
-        let call = case.call.name();
+        let outcome = run(&case);
+        let call = case.call.function.name();
         let (number, value) = case.answer;
-        let expected = (value as u64) << 32 | number as u64;
+        let expected = kit::word(number, value);
         assert_eq!(outcome.word, expected, "{call}: {}", case.name);
 
         if number == 0 {
             continue;
         }
-        let mut state = case.state.clone();
-        if call == "judge" && state.len() == 152 && state[1] == 1 && (20..=29).contains(&number) {
-            let at = 72 + 8 * (number as usize - 20);
-            let count = u64::from_be_bytes(state[at..at + 8].try_into().unwrap());
-            let count = if count == u64::MAX { count } else { count + 1 };
-            state[at..at + 8].copy_from_slice(&count.to_be_bytes());
+        let mut state = case.call.state.clone();
+        if let Some(mut counted) = judged_state(&case.call) {
+            if counted.is_open() && (20..=29).contains(&number) {
+                let count = &mut counted.drops[number as usize - 20];
+                *count = count.saturating_add(1);
+                state = counted.bytes();
+            }
         }
         assert_eq!(outcome.state, state, "{call}: {}", case.name);
         assert!(outcome.out.iter().all(|byte| *byte == 0xee));
+    }
+}
+
+/// The state that a segment is judged on.
+fn judged_state(call: &Call) -> Option<State> {
+    match call.function {
+        Function::Judge => State::read(&call.state),
+        _ => None,
     }
 }
 
@@ -36,8 +46,10 @@ fn each_case_gives_its_number() {
 fn each_number_of_each_call_is_met() {
     let mut met: BTreeMap<&str, BTreeSet<u8>> = BTreeMap::new();
     for case in cases() {
-        let number = number(run(RIGHT, &case).word);
-        met.entry(case.call.name()).or_default().insert(number);
+        let number = number(run(&case).word);
+        met.entry(case.call.function.name())
+            .or_default()
+            .insert(number);
     }
     let tables: Vec<u8> = (10..=17).collect();
     let set = |others: &[u8]| -> BTreeSet<u8> { tables.iter().chain(others).copied().collect() };
@@ -58,8 +70,8 @@ fn each_number_of_each_call_is_met() {
 fn numbers_of_an_opening_connection() {
     let mut met = BTreeSet::new();
     for case in cases() {
-        if case.call.name() == "judge" && case.state.len() == 152 && case.state[1] != 1 {
-            met.insert(number(run(RIGHT, &case).word));
+        if judged_state(&case.call).is_some_and(|state| !state.is_open()) {
+            met.insert(number(run(&case).word));
         }
     }
     for expected in (10..=17).chain(20..=27).chain([0, 29]) {

@@ -1,8 +1,5 @@
 //! "Positions": the examples P1 to P9, and the definition tried word by word.
 
-mod common;
-
-use common::RIGHT;
 use reference::position::{extension, moved, position};
 
 #[test]
@@ -19,7 +16,7 @@ fn p1_to_p9() {
         (0x0_00000000, 0x00000000, Some(0x0_00000000)), // P9
     ];
     for (index, (reference, number, result)) in examples.into_iter().enumerate() {
-        assert_eq!(position(RIGHT, reference, number), result, "P{}", index + 1);
+        assert_eq!(position(reference, number), result, "P{}", index + 1);
     }
 }
 
@@ -59,7 +56,7 @@ fn the_definition() {
                 } else {
                     u64::try_from(reference as i128 + difference as i128).ok()
                 };
-                let given = position(RIGHT, reference, number);
+                let given = position(reference, number);
                 assert_eq!(given, expected, "{reference:x} {number:x}");
                 if let Some(x) = given {
                     assert_eq!(x % (1 << 32), number as u64);
@@ -75,6 +72,6 @@ fn extension_and_reference() {
     assert_eq!(extension(0xffff_ffff), 0);
     assert_eq!(extension(0x1_0000_0000), 1);
     assert_eq!(extension(u64::MAX), u32::MAX);
-    assert_eq!(moved(RIGHT, 5, 7), 7);
-    assert_eq!(moved(RIGHT, 7, 5), 7);
+    assert_eq!(moved(5, 7), 7);
+    assert_eq!(moved(7, 5), 7);
 }

@@ -6,51 +6,54 @@ mod common;
 use common::*;
 use reference::table::{self, Algorithm, Pair};
 
-fn number_of(keys: &[Key]) -> Option<(u8, u32)> {
+fn number_of(keys: &[Entry]) -> Option<(u8, u32)> {
     let bytes = table(keys);
-    table::read(RIGHT, &bytes)
+    table::read(&bytes)
         .err()
         .map(|refusal| (refusal.number, refusal.index))
 }
 
 #[test]
 fn p10_to_p12() {
-    let mut one = Key::new(1, 2, &A4, &B4);
-    let mut other = Key::new(1, 2, &A4, &B4);
+    let mut one = Entry::between(&A4, &B4).ids(1, 2);
+    let mut other = Entry::between(&A4, &B4).ids(1, 2);
 
     // P10: 10.0.0.0/8 and 10.1.0.0/16 overlap.
-    one.local = (vec![10, 0, 0, 0], 8);
-    other.local = (vec![10, 1, 0, 0], 16);
+    one.local = Side::any(4).prefix(&[10, 0, 0, 0], 8);
+    other.local = Side::any(4).prefix(&[10, 1, 0, 0], 16);
     assert_eq!(number_of(&[one.clone(), other.clone()]), Some((17, 1)));
     assert_eq!(number_of(&[other.clone(), one.clone()]), Some((17, 1)));
-    other.local = (vec![11, 1, 0, 0], 16);
+    other.local = Side::any(4).prefix(&[11, 1, 0, 0], 16);
     assert_eq!(number_of(&[one.clone(), other.clone()]), None);
 
     // P11: ports 100-178 and 179-179 do not. P12: 100-179 and 179-179 do.
     other.local = one.local.clone();
-    one.remote_ports = (100, 178);
-    other.remote_ports = (179, 179);
+    one.remote = Side::host(&B4).ports(100, 178);
+    other.remote = Side::host(&B4).ports(179, 179);
     assert_eq!(number_of(&[one.clone(), other.clone()]), None);
-    one.remote_ports = (100, 179);
+    one.remote = Side::host(&B4).ports(100, 179);
     assert_eq!(number_of(&[one, other]), Some((17, 1)));
 }
 
 #[test]
 fn bad_tables_are_refused() {
-    for (name, bytes, number, index) in bad_tables() {
-        let refusal = table::read(RIGHT, &bytes).unwrap_err();
-        assert_eq!((refusal.number, refusal.index), (number, index), "{name}");
+    for (name, bytes, answer) in bad_tables() {
+        let refusal = table::read(&bytes).unwrap_err();
+        assert_eq!((refusal.number, refusal.index), answer, "{name}");
     }
 }
 
 /// A table cut at any place is refused with 10 at the entry that is cut.
 #[test]
 fn cut_anywhere() {
-    let keys = [Key::new(1, 2, &A4, &B4), Key::new(1, 2, &A6, &B6)];
+    let keys = [
+        Entry::between(&A4, &B4).ids(1, 2),
+        Entry::between(&A6, &B6).ids(1, 2),
+    ];
     let bytes = table(&keys);
     assert_eq!(bytes.len(), 104 + 128);
     for length in 0..=bytes.len() {
-        let result = table::read(RIGHT, &bytes[..length]).map(|entries| entries.len());
+        let result = table::read(&bytes[..length]).map(|entries| entries.len());
         match length {
             0 => assert_eq!(result, Ok(0)),
             104 => assert_eq!(result, Ok(1)),
@@ -66,20 +69,17 @@ fn cut_anywhere() {
 
 #[test]
 fn fields_stand_in_their_places() {
-    let key = Key {
-        kind: 6,
+    let key = Entry {
         flags: 0,
         algorithm: 2,
         send_id: 0x11,
         recv_id: 0x22,
-        local_ports: (0x0102, 0x0304),
-        remote_ports: (0x0506, 0x0708),
-        local: (A6.to_vec(), 128),
-        remote: (vec![0xfc; 16], 126),
+        local: Side::host(&A6).ports(0x0102, 0x0304),
+        remote: Side::any(16).prefix(&[0xfc; 16], 126).ports(0x0506, 0x0708),
         key: (1..=80).collect(),
     };
     let bytes = key.bytes();
-    let entry = table::read(RIGHT, &bytes).unwrap()[0];
+    let entry = table::read(&bytes).unwrap()[0];
     assert!(!entry.covers_options);
     assert_eq!(entry.algorithm, Algorithm::AesCmac);
     assert_eq!((entry.send_id, entry.recv_id), (0x11, 0x22));
@@ -93,11 +93,11 @@ fn fields_stand_in_their_places() {
 
 #[test]
 fn sixty_four_entries_are_taken() {
-    let key = Key::new(0, 0, &A6, &B6);
-    let keys: Vec<Key> = (0..64).map(|i| key.clone().ids(i, 255 - i)).collect();
+    let key = Entry::between(&A6, &B6);
+    let keys: Vec<Entry> = (0..64).map(|i| key.clone().ids(i, 255 - i)).collect();
     assert_eq!(number_of(&keys), None);
     let bytes = table(&keys);
-    let entries = table::read(RIGHT, &bytes).unwrap();
+    let entries = table::read(&bytes).unwrap();
     let pair = Pair {
         local: &A6,
         remote: &B6,
@@ -105,22 +105,22 @@ fn sixty_four_entries_are_taken() {
         remote_port: 2,
     };
     for i in 0..64 {
-        let found = table::by_send_id(RIGHT, &entries, &pair, i).unwrap();
+        let found = table::by_send_id(&entries, &pair, i).unwrap();
         assert_eq!(found.recv_id, 255 - i);
-        let found = table::by_recv_id(RIGHT, &entries, &pair, 255 - i).unwrap();
+        let found = table::by_recv_id(&entries, &pair, 255 - i).unwrap();
         assert_eq!(found.send_id, i);
     }
-    assert_eq!(table::by_send_id(RIGHT, &entries, &pair, 64), None);
-    assert_eq!(table::by_recv_id(RIGHT, &entries, &pair, 64), None);
+    assert_eq!(table::by_send_id(&entries, &pair, 64), None);
+    assert_eq!(table::by_recv_id(&entries, &pair, 64), None);
 }
 
 /// Ports at the ends of a range, prefixes of every length, and the other family.
 #[test]
 fn matching() {
-    let mut key = Key::new(1, 2, &A4, &B4);
-    key.local_ports = (100, 200);
+    let mut key = Entry::between(&A4, &B4).ids(1, 2);
+    key.local = Side::host(&A4).ports(100, 200);
     let bytes = key.bytes();
-    let entry = table::read(RIGHT, &bytes).unwrap()[0];
+    let entry = table::read(&bytes).unwrap()[0];
     for (port, matches) in [(99, false), (100, true), (200, true), (201, false)] {
         let pair = Pair {
             local: &A4,
@@ -128,7 +128,7 @@ fn matching() {
             local_port: port,
             remote_port: 0,
         };
-        assert_eq!(entry.matches(RIGHT, &pair), matches, "port {port}");
+        assert_eq!(entry.matches(&pair), matches, "port {port}");
     }
     let other_family = Pair {
         local: &A6,
@@ -136,7 +136,7 @@ fn matching() {
         local_port: 100,
         remote_port: 0,
     };
-    assert!(!entry.matches(RIGHT, &other_family));
+    assert!(!entry.matches(&other_family));
 
     for prefix in 0..=128u32 {
         let network = if prefix == 0 {
@@ -144,10 +144,10 @@ fn matching() {
         } else {
             u128::MAX << (128 - prefix)
         };
-        let mut key = Key::new(1, 2, &A6, &B6);
-        key.remote = (network.to_be_bytes().to_vec(), prefix as u8);
+        let mut key = Entry::between(&A6, &B6).ids(1, 2);
+        key.remote = Side::any(16).prefix(&network.to_be_bytes(), prefix as u8);
         let bytes = key.bytes();
-        let entry = table::read(RIGHT, &bytes).unwrap()[0];
+        let entry = table::read(&bytes).unwrap()[0];
         for bit in 0..128 {
             let remote = (u128::MAX ^ 1 << (127 - bit)).to_be_bytes();
             let pair = Pair {
@@ -156,7 +156,7 @@ fn matching() {
                 local_port: 0,
                 remote_port: 0,
             };
-            assert_eq!(entry.matches(RIGHT, &pair), bit >= prefix);
+            assert_eq!(entry.matches(&pair), bit >= prefix);
         }
     }
 }
@@ -175,26 +175,25 @@ fn the_clash_is_exact() {
         // Ports 0 to 3, addresses that differ in their first two bits.
         let mut keys = vec![];
         for _ in 0..2 {
-            let mut key = Key::new(random(2) as u8, random(2) as u8, &A4, &B4);
+            let mut key = Entry::between(&A4, &B4).ids(random(2) as u8, random(2) as u8);
             for side in 0..2 {
                 let (low, high) = (random(4) as u16, random(4) as u16);
-                let ports = (low.min(high), low.max(high));
                 let prefix = random(3) as u8;
                 let first = (random(4) << 6) as u8 & !(0xff >> prefix);
-                let address = (vec![first, 0, 0, 0], prefix);
+                let around = Side::any(4)
+                    .ports(low.min(high), low.max(high))
+                    .prefix(&[first, 0, 0, 0], prefix);
                 if side == 0 {
-                    key.local_ports = ports;
-                    key.local = address;
+                    key.local = around;
                 } else {
-                    key.remote_ports = ports;
-                    key.remote = address;
+                    key.remote = around;
                 }
             }
             keys.push(key);
         }
-        let bytes: Vec<Vec<u8>> = keys.iter().map(Key::bytes).collect();
-        let one = table::read(RIGHT, &bytes[0]).unwrap()[0];
-        let other = table::read(RIGHT, &bytes[1]).unwrap()[0];
+        let bytes: Vec<Vec<u8>> = keys.iter().map(Entry::bytes).collect();
+        let one = table::read(&bytes[0]).unwrap()[0];
+        let other = table::read(&bytes[1]).unwrap()[0];
         let mut exists = false;
         for case in 0..256u16 {
             let pair = Pair {
@@ -203,7 +202,7 @@ fn the_clash_is_exact() {
                 local_port: case >> 4 & 3,
                 remote_port: case >> 6 & 3,
             };
-            exists |= one.matches(RIGHT, &pair) && other.matches(RIGHT, &pair);
+            exists |= one.matches(&pair) && other.matches(&pair);
         }
         let shared = one.send_id == other.send_id || one.recv_id == other.recv_id;
         let expected = (exists && shared).then_some((17, 1));

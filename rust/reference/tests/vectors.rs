@@ -3,18 +3,24 @@
 mod common;
 
 use common::*;
+use kit::Pair;
 use reference::boundary as c;
 use reference::crypto;
 use reference::mac::{self, Ends};
 use reference::segment::{read_options, Header, WithAo};
 use reference::table;
-use reference::State;
 
 /// The lines of a file in `vectors`, split into columns, without the remarks.
 fn columns(text: &'static str) -> Vec<Vec<&'static str>> {
     text.lines()
         .filter(|line| !line.starts_with('#') && !line.trim().is_empty())
         .map(|line| line.split_whitespace().collect())
+        .collect()
+}
+
+fn hex(text: &str) -> Vec<u8> {
+    (0..text.len() / 2)
+        .map(|i| u8::from_str_radix(&text[2 * i..2 * i + 2], 16).unwrap())
         .collect()
 }
 
@@ -128,7 +134,7 @@ impl Packet {
 
     fn carrier(&self) -> WithAo<'_> {
         let header = self.header();
-        let options = read_options(RIGHT, &self.segment, &header).unwrap();
+        let options = read_options(&self.segment, &header).unwrap();
         WithAo {
             segment: &self.segment,
             header,
@@ -142,13 +148,36 @@ impl Packet {
     }
 
     /// The entry as the sender holds it.
-    fn sender_key(&self) -> Key {
+    fn sender_key(&self) -> Entry {
         let ao = self.carrier().ao;
-        Key::new(ao.key_id, ao.rnext_key_id, &self.source, &self.destination).algorithm(
-            self.flags,
-            self.algorithm,
-            b"testvector",
-        )
+        Entry {
+            flags: self.flags,
+            algorithm: self.algorithm,
+            key: b"testvector".to_vec(),
+            ..Entry::between(&self.source, &self.destination).ids(ao.key_id, ao.rnext_key_id)
+        }
+    }
+
+    /// The pair as the sender holds it.
+    fn sender_pair(&self) -> Pair {
+        let header = self.header();
+        Pair {
+            local: self.source.clone(),
+            remote: self.destination.clone(),
+            local_port: header.source_port,
+            remote_port: header.destination_port,
+        }
+    }
+
+    /// An end with the sender's key.
+    fn sender(&self) -> End {
+        End::new(REFERENCE, self.sender_pair(), self.sender_key().bytes())
+    }
+
+    /// The other end.
+    fn receiver(&self) -> End {
+        let table = self.sender_key().mirror().bytes();
+        End::new(REFERENCE, self.sender_pair().mirror(), table)
     }
 
     /// The segment as it was before TCP-AO was put in.
@@ -185,18 +214,18 @@ fn rfc_9235_keys_and_macs() {
     assert_eq!(packets.len(), 32);
     for packet in &packets {
         let bytes = packet.sender_key().bytes();
-        let entry = table::read(RIGHT, &bytes).unwrap()[0];
+        let entry = table::read(&bytes).unwrap()[0];
         let ends = packet.ends();
         let input = mac::traffic_key_input(entry.algorithm, &ends);
         assert_eq!(input.len(), if packet.source.len() == 4 { 29 } else { 53 });
         assert_eq!(
-            mac::traffic_key(RIGHT, entry.algorithm, entry.key, &ends),
+            mac::traffic_key(entry.algorithm, entry.key, &ends),
             packet.traffic_key,
             "{}",
             packet.section
         );
         assert_eq!(
-            mac::mac(RIGHT, &entry, &ends, &ends, 0, &packet.carrier()),
+            mac::mac(&entry, &ends, 0, &packet.carrier()),
             packet.mac(),
             "{}",
             packet.section
@@ -216,22 +245,8 @@ fn rfc_9235_conversations() {
             panic!("not four");
         };
         let client_key = syn.sender_key();
-        let header = syn.header();
-        let (client_port, server_port) = (header.source_port, header.destination_port);
-        let mut client = End::new(
-            client_key.bytes(),
-            &syn.source,
-            &syn.destination,
-            client_port,
-            server_port,
-        );
-        let mut server = End::new(
-            client_key.mirror().bytes(),
-            &syn.destination,
-            &syn.source,
-            server_port,
-            client_port,
-        );
+        let mut client = syn.sender();
+        let mut server = syn.receiver();
         let section = syn.section;
 
         // The SYN.
@@ -270,14 +285,8 @@ fn rfc_9235_conversations() {
 
         // All but the SYN once more, on open connections that are put together here.
         for packet in &four[1..] {
-            let mut end = End::new(
-                packet.sender_key().mirror().bytes(),
-                &packet.destination,
-                &packet.source,
-                packet.header().destination_port,
-                packet.header().source_port,
-            );
-            let mut state = State::of_pair(&pair_of(&end));
+            let mut end = packet.receiver();
+            let mut state = kit::State::of_pair(&end.pair);
             state.stage = 1;
             state.our_isn = packet.destination_isn;
             state.peer_isn = packet.source_isn;

@@ -2,45 +2,29 @@
 #![allow(dead_code)] // each test file uses a part
 
 use embankery::{Algorithm, Connection, Covered, Entry, KeyTable, UnknownKeyId, Verdict};
+use kit::segment::{ACK, SYN};
+use kit::Segment;
 use std::net::IpAddr;
 
-pub const SYN: u8 = 0x02;
-pub const ACK: u8 = 0x10;
 pub const PORTS: [u16; 2] = [40_000, 179];
 pub const ISNS: [u32; 2] = [1_000, 2_000];
 /// SendID at the first end and RecvID at the second; the other way round.
 pub const IDS: [u8; 2] = [1, 2];
 
-/// Bytes to try things with: the same at each run.
-pub struct Bytes(pub u64);
-
-impl Bytes {
-    pub fn byte(&mut self) -> u8 {
-        self.0 ^= self.0 << 13;
-        self.0 ^= self.0 >> 7;
-        self.0 ^= self.0 << 17;
-        (self.0 >> 32) as u8
-    }
-
-    pub fn take(&mut self, n: usize) -> Vec<u8> {
-        (0..n).map(|_| self.byte()).collect()
-    }
-
-    pub fn below(&mut self, n: usize) -> usize {
-        usize::from(u16::from_be_bytes([self.byte(), self.byte()])) % n
-    }
-}
-
-/// A segment with its checksum zero. `options` are whole words.
+/// A segment with its checksum zero.
 pub fn segment(ports: [u16; 2], number: u32, flags: u8, options: &[u8], data: &[u8]) -> Vec<u8> {
-    assert_eq!(options.len() % 4, 0);
-    let offset = (5 + options.len() / 4) as u8;
-    let mut segment = [ports[0].to_be_bytes(), ports[1].to_be_bytes()].concat();
-    segment.extend(number.to_be_bytes());
-    segment.extend([0, 0, 0, 7, offset << 4, flags, 0xFF, 0xFF, 0, 0, 0, 0]);
-    segment.extend(options);
-    segment.extend(data);
-    segment
+    Segment {
+        source_port: ports[0],
+        destination_port: ports[1],
+        sequence: number,
+        acknowledgment: 7,
+        flags,
+        window: 0xFFFF,
+        options: options.to_vec(),
+        data: data.to_vec(),
+        ..Segment::default()
+    }
+    .bytes()
 }
 
 /// What may differ from line to line.

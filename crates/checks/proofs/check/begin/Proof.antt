@@ -3,7 +3,7 @@ use borrow.Author.Needs.{needs}
 use mathlib.Core.Path.{refl, ap, _∙_}
 use mathlib.Core.List.{_++_}
 use Rattle.wire.specs.declared.header.Header.{Header}
-use Rattle.rules.specs.Numbers.{first}
+use Rattle.octets.specs.Tests.{first}
 use Rattle.rules.specs.Calls.{unrefused, stateTests, lengthTests, formTests, arrivalTests}
 use Rattle.checks.specs.Groups.{optionLines, arrivalLines}
 use Rattle.checks.specs.GroupLaws.{passed}

@@ -3,7 +3,7 @@ use borrow.Author.Needs.{needs}
 use mathlib.Core.Bool.{not}
 use mathlib.Core.Path.{refl, _∙_}
 use mathlib.Core.List.{[], _∷_, _++_}
-use Rattle.rules.specs.Numbers.{test, first}
+use Rattle.octets.specs.Tests.{test, first}
 use Rattle.rules.specs.Calls.{refuse, unrefused, familyTests, tableTests}
 use Rattle.checks.specs.GroupLaws.{stop, pass}
 use Rattle.checks.proofs.opening.ask_faults.Statement.{statement}

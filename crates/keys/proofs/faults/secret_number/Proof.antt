@@ -1,23 +1,23 @@
--- The tests are the lines, in their order.
+-- The tests, in their order.
 use borrow.Author.Tests.{lt-ltb, le-ltb}
-use Rattle.keys.specs.Table.{first}
+use Rattle.keys.specs.Table.{numberOf}
 use Rattle.keys.proofs.faults.secret_number.Statement.{statement}
 use Rattle.keys.proofs.faults.secret_number.Tie as tie
 
 returns : tie.Need-returns
-unfolding first
+unfolding numberOf
 returns c = simp (lt-ltb _ _ (c .if1 .taken))
 
 returns-2 : tie.Need-returns-2
-unfolding first
+unfolding numberOf
 returns-2 c = simp (le-ltb _ _ (c .before .before .if1 .left), lt-ltb _ _ (c .if2 .taken))
 
 returns-3 : tie.Need-returns-3
-unfolding first
+unfolding numberOf
 returns-3 c = simp (le-ltb _ _ (c .before .before .before .before .if1 .left), le-ltb _ _ (c .before .before .if2 .left), lt-ltb _ _ (c .if3 .taken))
 
 returns-4 : tie.Need-returns-4
-unfolding first
+unfolding numberOf
 returns-4 c = simp (le-ltb _ _ (c .before .before .before .before .if1 .left), le-ltb _ _ (c .before .before .if2 .left), le-ltb _ _ (c .if3 .left))
 
 pub secret-number-spec : {M : Type 1} → statement M

@@ -1,4 +1,4 @@
--- The two lines of a side.
+-- The two tests of a side.
 use borrow.Author.Needs.{needs}
 use mathlib.Core.Bool.{true, false}
 use borrow.Author.Tests.{not-true, not-false}

@@ -1,4 +1,4 @@
--- The lines, in their order.
+-- The tests, in their order.
 use borrow.Author.Needs.{needs}
 use mathlib.Core.Bool.{true, false}
 use borrow.Author.Tests.{not-true, not-false}

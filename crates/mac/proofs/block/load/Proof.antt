@@ -1,15 +1,16 @@
 -- `load`: the first t words are those of the block.
-use mathlib.Core.Path.{_≡_, refl, _∙_}
+use mathlib.Core.Path.{_≡_, refl, sym, _∙_}
 use Prim.Native.Nat.{_-_, _≤_}
 use native.Mathlib.Omega.{arith}
 use lib.ListN.{length, take, length-set}
+use lib.Seq.{take-all}
 use Rattle.mac.specs.Sha1.{words}
 use Rattle.mac.proofs.Compression.{words-more}
 use Rattle.mac.proofs.block.load.Statement.{statement}
 use Rattle.mac.proofs.block.load.Tie as tie
 
 abbrev Inv-loop : tie.InvT-loop
-Inv-loop m w₀ t₀ w t = (t ≤ 16) × (length w ≡ 80) × (take t w ≡ words t m)
+Inv-loop m w₀ t₀ w t = (t ≤ 16) × (length w ≡ 16) × (take t w ≡ words t m)
 
 abbrev μ-loop : tie.MeasureT-loop
 μ-loop m w₀ t₀ w t = 16 - t
@@ -27,7 +28,10 @@ loop-again c =
     )
 
 returns : tie.Need-returns Inv-loop μ-loop
-returns c = let q : c .before .loop .t ≡ 16 = omega arith in rw q at (c .before .loop .inv .2)
+returns c =
+    let l = c .before .loop in
+    let q : l .t ≡ 16 = omega arith in
+    sym (take-all 16 (l .w) (omega arith)) ∙ (rw q at (l .inv .2))
 
 pub load-spec : {M : Type 1} → statement M
 load-spec =

@@ -19,15 +19,18 @@ bytes-are c =
 value : (c : tie.After-join) → Value (c .before .before .before .before .before .before .before .args .s)
 value c =
     record {
-      local = search needs;
-      remote = search needs;
-      counts = search needs;
+      typed =
+          record {
+            sent = search needs;
+            seen = search needs;
+            isn = search needs;
+            peer = search needs;
+            local = search needs;
+            remote = search needs;
+            counts = search needs;
+          };
       local-port = search needs;
       remote-port = search needs;
-      isn = search needs;
-      peer-isn = search needs;
-      sent = search needs;
-      seen = search needs;
       accepted = search needs;
       drops = λ i. let f : Fits w64 (getD (c .before .before .before .before .before .before .before .args .s .drops) i 0) = search needs in f .fits;
     }

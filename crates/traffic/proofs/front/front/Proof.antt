@@ -4,11 +4,10 @@ use Prim.Native.Nat.{_+_, _≤_}
 use native.Mathlib.Omega.{arith}
 use borrow.Author.Needs.{needs}
 use Rattle.octets.specs.Octets.{bytes32}
-use Rattle.rules.specs.Mac.{front, pseudoHeader}
-use Rattle.traffic.specs.Flow.{flowOf}
+use Rattle.rules.specs.Mac.{front}
 use Rattle.traffic.specs.declared.assembled.Assembled.{Assembled}
 use Rattle.traffic.proofs.Assembly.{pushed-on, pushed-more}
-use Rattle.traffic.proofs.Sizes.{pseudo-pushed}
+use Rattle.traffic.proofs.Sizes.{pseudo, pseudo-pushed}
 use Rattle.traffic.proofs.front.front.Statement.{statement}
 use Rattle.traffic.proofs.front.front.Tie as tie
 
@@ -38,7 +37,8 @@ returns c =
     let e = ap (λ (a : Assembled). a .len) (n .new .ensures) in
     let h : p .push-pseudo-header .result .len ≤ p .before .push32 .result .len + 40 = pseudo-pushed (a .flow) _ (p .push-pseudo-header .ensures) in
     pushed-more _ _ (omega (arith, p .before .push32 .ensures .len))
-    (pushed-more (bytes32 (a .extension)) (pseudoHeader (flowOf (a .flow)) (a .len)) (omega (arith, p .before .push32 .ensures .len)) (pushed-on (n .new .ensures) (p .before .push32 .ensures)) (p .push-pseudo-header .ensures))
+    (pushed-more (bytes32 (a .extension)) (pseudo (a .flow) (a .len)) (omega (arith, p .before .push32 .ensures .len))
+    (pushed-on (n .new .ensures) (p .before .push32 .ensures)) (p .push-pseudo-header .ensures))
     (c .push-header .ensures)
 
 pub front-spec : {M : Type 1} → statement M

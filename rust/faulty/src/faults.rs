@@ -1,0 +1,761 @@
+//! The faults that can be planted, each as an edit of the reference's text.
+
+use crate::switches::Edit::{Before, Behind, Instead};
+use crate::switches::Planted;
+
+pub const FAULTS: &[Planted] = &[
+    // The key table.
+    Planted {
+        name: "KindBeforeSixtyFifth",
+        does: "An unknown kind is 11 even where a 65th entry begins.",
+        breaks: "\"The first that applies, in this order, is given\": 12, 11, 10",
+        file: "table.rs",
+        function: "fn read(",
+        edits: &[Before(
+            "// 12: \"a 65th entry begins\".",
+            "if rest[0] != 4 && rest[0] != 6 { return Err(refused(11)); }",
+        )],
+    },
+    Planted {
+        name: "PortsOfLocalSideOnly",
+        does: "14 looks at the local ports only.",
+        breaks: "14: \"low port above high\"",
+        file: "table.rs",
+        function: "fn read_body(",
+        edits: &[Instead("bad(&local) || bad(&remote)", "bad(&local)")],
+    },
+    Planted {
+        name: "BitsOfLocalSideOnly",
+        does: "15 looks at the bits behind the prefix on the local side only.",
+        breaks: "15: \"prefix above 32 or 128, or address bits set past it\"",
+        file: "table.rs",
+        function: "fn read_body(",
+        edits: &[Instead("bits_set(&local) || bits_set(&remote)", "bits_set(&local)")],
+    },
+    Planted {
+        name: "PaddingNotLookedAt",
+        does: "16 does not look at the padding.",
+        breaks: "16: \"key length 0 or above 80, or padding not zero\"",
+        file: "table.rs",
+        function: "fn read_body(",
+        edits: &[Instead("padding.iter().any(|byte| *byte != 0)", "false")],
+    },
+    Planted {
+        name: "ClashWithoutPair",
+        does: "17 for any shared ID, whether a pair exists or not.",
+        breaks: "\"a socket pair exists that two entries both match while they share SendID or share RecvID\"",
+        file: "table.rs",
+        function: "fn clashes(",
+        edits: &[Before("let same_family", "return shared;")],
+    },
+    Planted {
+        name: "ClashBySendIdOnly",
+        does: "17 for a shared SendID only.",
+        breaks: "\"while they share SendID or share RecvID\"",
+        file: "table.rs",
+        function: "fn clashes(",
+        edits: &[Instead(
+            "self.send_id == other.send_id || self.recv_id == other.recv_id",
+            "self.send_id == other.send_id",
+        )],
+    },
+    Planted {
+        name: "NestedPrefixesDoNotClash",
+        does: "17 for equal prefixes only: P10's do not overlap.",
+        breaks: "\"a socket pair exists that two entries both match\"",
+        file: "table.rs",
+        function: "fn overlaps(",
+        edits: &[Instead(
+            "first_bits_agree(self.address, other.address, shorter)",
+            "self.prefix == other.prefix && self.address == other.address",
+        )],
+    },
+    Planted {
+        name: "HighPortExcluded",
+        does: "A range's high port does not match.",
+        breaks: "\"local port low and high, remote port low and high (two bytes each, big-endian, ends included)\"",
+        file: "table.rs",
+        function: "fn matches(&self, address",
+        edits: &[Instead("port <= self.high", "port < self.high")],
+    },
+    Planted {
+        name: "IndexFromOne",
+        does: "Indices are counted from 1.",
+        breaks: "\"with the entry's index from 0\"",
+        file: "table.rs",
+        function: "fn read(",
+        edits: &[Instead("entries.len() as u32", "entries.len() as u32 + 1")],
+    },
+    Planted {
+        name: "PrefixBeforePorts",
+        does: "15 before 14.",
+        breaks: "\"The first that applies, in this order, is given\"",
+        file: "table.rs",
+        function: "fn read_body(",
+        edits: &[Before(
+            "// 14: \"low port above high\".",
+            "if local.prefix.max(remote.prefix) > 8 * address_bytes { return Err(15); }",
+        )],
+    },
+    Planted {
+        name: "ClashAfterAllEntries",
+        does: "17 is looked for when all entries are read: behind 10 to 16 of later entries.",
+        breaks: "\"table entries are taken one after another, each through to 17 against those before it\"",
+        file: "table.rs",
+        function: "fn read(",
+        edits: &[
+            Instead("entries.iter().any(|before| before.clashes(&entry))", "false"),
+            Instead(
+                "Ok(entries)",
+                "let clash = |later: &usize| {
+                    let entry = &entries[*later];
+                    entries[..*later].iter().any(|before| before.clashes(entry))
+                };
+                match (0..entries.len()).find(clash) {
+                    Some(later) => Err(Refusal { number: 17, index: later as u32 }),
+                    None => Ok(entries),
+                }",
+            ),
+        ],
+    },
+    // The options.
+    Planted {
+        name: "ReadingGoesOnPastKindZero",
+        does: "Kind 0 takes one byte and does not end the reading.",
+        breaks: "\"kinds 0 and 1 take one byte, 0 ends the reading\"",
+        file: "segment.rs",
+        function: "fn read_options(",
+        edits: &[
+            Instead("kind == 0", "false"),
+            Instead("kind == 1", "kind <= 1"),
+        ],
+    },
+    Planted {
+        name: "Md5OfOtherLengthMalformed",
+        does: "MD5 of another length than 18 is malformed.",
+        breaks: "\"A length below 2, missing, or running past the area is malformed. So is kind 29 below length 4.\"",
+        file: "segment.rs",
+        function: "fn read_options(",
+        edits: &[Before(
+            "options.md5_count += 1;",
+            "if length != 18 { return None; }",
+        )],
+    },
+    Planted {
+        name: "TwoMd5AreTwentyTwo",
+        does: "Two MD5 without TCP-AO are 22.",
+        breaks: "22: \"two TCP-AO, or TCP-AO and MD5 together\"",
+        file: "calls.rs",
+        function: "fn readable(",
+        edits: &[Instead(
+            "two_ao || ao_and_md5",
+            "two_ao || ao_and_md5 || options.md5_count >= 2",
+        )],
+    },
+    Planted {
+        name: "ReadingStopsAtSecondAo",
+        does: "A second TCP-AO ends the reading: 22, also where malformed options follow.",
+        breaks: "\"The first that applies, in this order, is given\": 21, 22",
+        file: "segment.rs",
+        function: "fn read_options(",
+        edits: &[Behind(
+            "options.ao_count += 1;",
+            "if options.ao.is_some() { break; }",
+        )],
+    },
+    // Positions.
+    Planted {
+        name: "RolloverComparison",
+        does: "An error that looks right: \"Comparing with 7FFF while a rollover flag is set (004, section 6): \
+               P8 then gets extension 0.\" The flag is taken as set while the reference is below 7FFF.",
+        breaks: "\"The position of a 32-bit number s is the whole number X with remainder s modulo 2^32 and \
+                 |X - reference| < 2^31\"",
+        file: "position.rs",
+        function: "fn position(",
+        edits: &[Before(
+            "let stretch",
+            "let previous = reference as u32;
+            let extension = extension(reference);
+            let extension = if previous > 0x7fff && number < 0x7fff {
+                extension.wrapping_add(1)
+            } else if extension > 0 && previous < 0x7fff && number > 0x7fff {
+                extension - 1
+            } else {
+                extension
+            };
+            return Some((extension as u64) << 32 | number as u64);",
+        )],
+    },
+    Planted {
+        name: "DistanceOfHalfAccepted",
+        does: "A distance of exactly 2^31 is accepted.",
+        breaks: "\"|X - reference| < 2^31\"",
+        file: "position.rs",
+        function: "fn position(",
+        edits: &[Instead(
+            "(x - reference).abs() < 1 << 31",
+            "(x - reference).abs() <= 1 << 31",
+        )],
+    },
+    Planted {
+        name: "PositionWraps",
+        does: "A position below 0 or from 2^64 on wraps: P3 and P7 get one.",
+        breaks: "\"if there is one with 0 <= X < 2^64\"",
+        file: "position.rs",
+        function: "fn position(",
+        edits: &[Instead("(0..1 << 64).contains(&x)", "true")],
+    },
+    Planted {
+        name: "ReferenceFollowsLast",
+        does: "The reference becomes X also where X is smaller.",
+        breaks: "\"sets its direction's reference to the larger of the old one and X\"",
+        file: "position.rs",
+        function: "fn moved(",
+        edits: &[Instead("reference.max(x)", "x")],
+    },
+    Planted {
+        name: "ReferenceStays",
+        does: "\"a reference that never moves\".",
+        breaks: "\"An accepted or signed segment sets its direction's reference\"",
+        file: "position.rs",
+        function: "fn moved(",
+        edits: &[Instead("reference.max(x)", "reference")],
+    },
+    Planted {
+        name: "ReferenceBeforeMac",
+        does: "An error that looks right: \"Moving the reference before the MAC is checked\".",
+        breaks: "\"A refusal leaves outputs and state alike\"",
+        file: "calls.rs",
+        function: "fn take_arrival(",
+        edits: &[Before(
+            "// 29: \"MAC differs\".",
+            "if open { state.arriving_reference = moved(before.arriving_reference, x); }",
+        )],
+    },
+    // Traffic keys and the MAC.
+    Planted {
+        name: "OurSideAsSource",
+        does: "An error that looks right: \"Taking our own side as the source for arriving segments too.\"",
+        breaks: "\"'source' is whoever sent the segment\"",
+        file: "calls.rs",
+        function: "fn mac_agrees(",
+        edits: &[Instead(
+            "mac::mac(entry, ends, extension, carrier)",
+            "let from_us = Ends {
+                source: ends.destination,
+                destination: ends.source,
+                source_port: ends.destination_port,
+                destination_port: ends.source_port,
+                source_isn: ends.destination_isn,
+                destination_isn: ends.source_isn,
+            };
+            let key = mac::traffic_key(entry.algorithm, entry.key, &from_us);
+            let covered = mac::message(entry.covers_options, ends, extension, carrier);
+            mac::leftmost(entry.algorithm, &key, &covered)",
+        )],
+    },
+    Planted {
+        name: "ShortenedLengthInPseudoHeader",
+        does: "An error that looks right: \"Putting the shortened header's length in the pseudo-header when \
+               options are left out.\"",
+        breaks: "\"the IP pseudo-header as for the checksum, with the whole segment's length\"",
+        file: "mac.rs",
+        function: "fn message(",
+        edits: &[Instead(
+            "pseudo_header(ends, segment.len())",
+            "pseudo_header(ends, covered.len() + data.len())",
+        )],
+    },
+    Planted {
+        name: "OffsetOfShortenedHeader",
+        does: "With flag 0 the data offset is the shortened header's, not the one sent.",
+        breaks: "\"With flag 0 only the header's first 20 bytes, data offset as sent, and TCP-AO remain.\"",
+        file: "mac.rs",
+        function: "fn message(",
+        edits: &[Before(
+            "let covered",
+            "if !covers_options { zeroed[12] = (zeroed[12] & 0x0f) | (9 << 4); }",
+        )],
+    },
+    Planted {
+        name: "MacBytesLeftOut",
+        does: "With flag 0 the zeroed MAC bytes are left out too, as in source document 000.",
+        breaks: "\"the TCP header with checksum and MAC bytes zero\"; flag 0: \"and TCP-AO remain\"",
+        file: "mac.rs",
+        function: "fn message(",
+        edits: &[Instead(
+            "&zeroed[ao.at..ao.at + ao.length]",
+            "&zeroed[ao.at..ao.at + 4]",
+        )],
+    },
+    Planted {
+        name: "EveryMasterKeyHashed",
+        does: "Algorithm 2 applies AES-CMAC with an all-zero key also to a master key of 16 bytes.",
+        breaks: "\"Algorithm 2 applies AES-CMAC under the master key if that has 16 bytes\"",
+        file: "mac.rs",
+        function: "fn traffic_key(",
+        edits: &[Instead(
+            "<[u8; 16]>::try_from(master_key)",
+            "<[u8; 16]>::try_from(&[][..])",
+        )],
+    },
+    // The order of the numbers.
+    Planted {
+        name: "AddressesBeforeFamily",
+        does: "19 before 18.",
+        breaks: "\"The first that applies, in this order, is given\"",
+        file: "calls.rs",
+        function: "fn take_arrival(",
+        edits: &[Before(
+            "// 18: \"state's family is neither IPv4 nor IPv6\".",
+            "addresses(source, destination)?;",
+        )],
+    },
+    Planted {
+        name: "TableBeforeAddresses",
+        does: "10 to 17 before 19.",
+        breaks: "\"The first that applies, in this order, is given\"",
+        file: "calls.rs",
+        function: "fn addresses_then_table<",
+        edits: &[Before("addresses(one, other)?;", "table::read(table)?;")],
+    },
+    Planted {
+        name: "StageBeforePair",
+        does: "24 before 23.",
+        breaks: "\"The first that applies, in this order, is given\"",
+        file: "calls.rs",
+        function: "fn take_arrival(",
+        edits: &[Before(
+            "// 23: \"pair is not the state's\".",
+            "let right = if open { !header.is_bare_syn() } else { header.is_syn_ack() };
+            if !right { return Err(Refusal::of(24)); }",
+        )],
+    },
+    Planted {
+        name: "MacLengthBeforeEntry",
+        does: "26 after 27, on a connection.",
+        breaks: "\"The first that applies, in this order, is given\"",
+        file: "calls.rs",
+        function: "fn take_arrival(",
+        edits: &[Before(
+            "// 26: \"no entry for its KeyID\".",
+            "if ao.length != AO_BYTES { return Err(Refusal::of(27)); }",
+        )],
+    },
+    Planted {
+        name: "PairBeforeOptions",
+        does: "23 before 21 and 22.",
+        breaks: "\"The first that applies, in this order, is given\"",
+        file: "calls.rs",
+        function: "fn take_arrival(",
+        edits: &[Before(
+            "// 20, 21, 22.",
+            "let header = Header::read(segment).ok_or(Refusal::of(20))?;
+            if arriving_pair(source, destination, &header) != pair { return Err(Refusal::of(23)); }",
+        )],
+    },
+    Planted {
+        name: "PositionBeforeEntry",
+        does: "28 before 26 and 27.",
+        breaks: "\"The first that applies, in this order, is given\"",
+        file: "calls.rs",
+        function: "fn take_arrival(",
+        edits: &[Before(
+            "// 26: \"no entry for its KeyID\".",
+            "if open { position(before.arriving_reference, header.sequence).ok_or(Refusal::of(28))?; }",
+        )],
+    },
+    Planted {
+        name: "PortsBeforeSize",
+        does: "33 before 32.",
+        breaks: "\"The first that applies, in this order, is given\"",
+        file: "calls.rs",
+        function: "fn sign(",
+        edits: &[Before(
+            "// 32: \"data offset above 11, or result above 65,535 bytes\".",
+            "if header.source_port != pair.local_port || header.destination_port != pair.remote_port {
+                return Err(Refusal::of(33));
+            }",
+        )],
+    },
+    Planted {
+        name: "StageBeforePorts",
+        does: "34 before 33.",
+        breaks: "\"The first that applies, in this order, is given\"",
+        file: "calls.rs",
+        function: "fn sign(",
+        edits: &[Before(
+            "// 33: \"ports not the state's\".",
+            "if header.is_bare_syn() == state.is_open() { return Err(Refusal::of(34)); }",
+        )],
+    },
+    Planted {
+        name: "KeyBeforeStage",
+        does: "35 before 34.",
+        breaks: "\"The first that applies, in this order, is given\"",
+        file: "calls.rs",
+        function: "fn sign(",
+        edits: &[Before(
+            "// 34: \"wrong segment for the stage\".",
+            "by_send_id(&entries, &pair, state.outgoing_send_id).ok_or(Refusal::of(35))?;",
+        )],
+    },
+    Planted {
+        name: "RoomBeforePosition",
+        does: "37 before 36.",
+        breaks: "\"The first that applies, in this order, is given\"",
+        file: "calls.rs",
+        function: "fn sign(",
+        edits: &[Before(
+            "// 36: \"no position,",
+            "if room < signed_bytes { return Err(Refusal::of(37)); }",
+        )],
+    },
+    // Judging.
+    Planted {
+        name: "PairWithoutPorts",
+        does: "23 compares the addresses only.",
+        breaks: "23: \"pair is not the state's\"",
+        file: "calls.rs",
+        function: "fn take_arrival(",
+        edits: &[Instead(
+            "arriving_pair(source, destination, &header) != pair",
+            "destination != pair.local || source != pair.remote",
+        )],
+    },
+    Planted {
+        name: "BareSynTakenOnceOpen",
+        does: "A bare SYN is judged on an open connection like any other segment.",
+        breaks: "\"each segment that carries SYN and ACK, or no SYN\"",
+        file: "calls.rs",
+        function: "fn take_arrival(",
+        edits: &[Instead("!header.is_bare_syn()", "true")],
+    },
+    Planted {
+        name: "AcknowledgmentTested",
+        does: "While opening, 24 unless the acknowledgment number is our ISN and one.",
+        breaks: "\"An accepted SYN+ACK opens the connection\"",
+        file: "calls.rs",
+        function: "fn take_arrival(",
+        edits: &[Instead(
+            "header.is_syn_ack()",
+            "header.is_syn_ack() && segment[8..12] == before.our_isn.wrapping_add(1).to_be_bytes()",
+        )],
+    },
+    Planted {
+        name: "OtherFlagsMatter",
+        does: "While opening, 24 if FIN or RST is set.",
+        breaks: "\"An accepted SYN+ACK opens the connection\"",
+        file: "calls.rs",
+        function: "fn take_arrival(",
+        edits: &[Instead(
+            "header.is_syn_ack()",
+            "header.is_syn_ack() && header.flags & 0x05 == 0",
+        )],
+    },
+    Planted {
+        name: "SynWithoutEntryDropped",
+        does: "A bare SYN without TCP-AO is 25 even if no entry matches.",
+        breaks: "\"Bare SYN without TCP-AO: 25 if any entry matches the pair, otherwise pass.\"",
+        file: "calls.rs",
+        function: "fn take_syn<",
+        edits: &[Instead("entries.iter().any(|entry| entry.matches(&pair))", "true")],
+    },
+    Planted {
+        name: "LongerMacTaken",
+        does: "27 only for a MAC that is too short.",
+        breaks: "27: \"MAC length wrong\"",
+        file: "calls.rs",
+        function: "fn mac_length(",
+        edits: &[Instead(
+            "ao.length == 4 + entry.algorithm.mac_bytes()",
+            "ao.length >= 4 + entry.algorithm.mac_bytes()",
+        )],
+    },
+    // Opening.
+    Planted {
+        name: "ActiveOpeningAtZero",
+        does: "An active opening has our reference at 0.",
+        breaks: "\"Opening sets each reference to that side's ISN\"",
+        file: "calls.rs",
+        function: "fn opening_state(",
+        edits: &[Instead("isn as u64", "0")],
+    },
+    Planted {
+        name: "SynAckKeepsOurReference",
+        does: "The SYN+ACK that opens leaves our reference as it was.",
+        breaks: "\"Opening sets each reference to that side's ISN\"",
+        file: "calls.rs",
+        function: "fn open_by_syn_ack(",
+        edits: &[Instead("state.our_isn as u64", "state.signing_reference")],
+    },
+    Planted {
+        name: "SynAckKeepsLargerReference",
+        does: "The SYN+ACK that opens sets the peer's reference to the larger of the old one and its number.",
+        breaks: "\"Opening sets each reference to that side's ISN\"",
+        file: "calls.rs",
+        function: "fn open_by_syn_ack(",
+        edits: &[Instead(
+            "sequence as u64",
+            "state.arriving_reference.max(sequence as u64)",
+        )],
+    },
+    Planted {
+        name: "CountsKeptAtOpening",
+        does: "The SYN+ACK that opens leaves the counts as they were.",
+        breaks: "\"All are 0 at opening\"",
+        file: "calls.rs",
+        function: "fn open_by_syn_ack(",
+        edits: &[
+            Instead("state.accepted = 0", ""),
+            Instead("state.drops = [0; 10]", ""),
+        ],
+    },
+    Planted {
+        name: "OpeningSegmentCounted",
+        does: "The SYN+ACK that opens is counted.",
+        breaks: "\"the segment that opens is not counted\"",
+        file: "calls.rs",
+        function: "fn open_by_syn_ack(",
+        edits: &[Behind("state.drops = [0; 10];", "state.count_accept();")],
+    },
+    // Counts.
+    Planted {
+        name: "DropsCountedWhileOpening",
+        does: "Drops 20 to 29 are counted while opening too.",
+        breaks: "\"drops 20 to 29 on an open connection add one to that number's count\"",
+        file: "calls.rs",
+        function: "fn judge(",
+        edits: &[Instead("state.is_open()", "true")],
+    },
+    Planted {
+        name: "CountsWrap",
+        does: "Counts go from 2^64-1 to 0.",
+        breaks: "\"Counts of acceptances and of each drop stop at 2^64-1.\"",
+        file: "state.rs",
+        function: "impl State {",
+        edits: &[
+            Instead("self.accepted.saturating_add(1)", "self.accepted.wrapping_add(1)"),
+            Instead("count.saturating_add(1)", "count.wrapping_add(1)"),
+        ],
+    },
+    // The key rule.
+    Planted {
+        name: "KeyRuleWithoutAvailability",
+        does: "RNextKeyID becomes the outgoing key whether an entry has it or not.",
+        breaks: "\"and an entry matching the pair has that SendID\"",
+        file: "calls.rs",
+        function: "fn key_rule(",
+        edits: &[Instead("by_send_id(entries, pair, rnext_key_id).is_some()", "true")],
+    },
+    Planted {
+        name: "KeyRuleWithoutPair",
+        does: "Any entry with that SendID will do, whether it matches the pair or not.",
+        breaks: "\"and an entry matching the pair has that SendID\"",
+        file: "calls.rs",
+        function: "fn key_rule(",
+        edits: &[Instead(
+            "by_send_id(entries, pair, rnext_key_id).is_some()",
+            "entries.iter().any(|entry| entry.send_id == rnext_key_id)",
+        )],
+    },
+    Planted {
+        name: "KeyRuleByRecvId",
+        does: "An entry is looked for that has RNextKeyID as its RecvID.",
+        breaks: "\"and an entry matching the pair has that SendID\"",
+        file: "calls.rs",
+        function: "fn key_rule(",
+        edits: &[Instead(
+            "by_send_id(entries, pair, rnext_key_id).is_some()",
+            "by_recv_id(entries, pair, rnext_key_id).is_some()",
+        )],
+    },
+    Planted {
+        name: "KeyRuleForNewestOnly",
+        does: "Not after an old or repeated segment.",
+        breaks: "\"After any acceptance\"; \"Older keys may come back.\"",
+        file: "calls.rs",
+        function: "fn take_arrival(",
+        edits: &[Instead(
+            "key_rule(&entries, &pair, ao.rnext_key_id, state)",
+            "if !open || x > before.arriving_reference {
+                key_rule(&entries, &pair, ao.rnext_key_id, state)
+            }",
+        )],
+    },
+    Planted {
+        name: "NoKeyRuleAtSynAck",
+        does: "Not after the SYN+ACK that opens.",
+        breaks: "\"After any acceptance\"",
+        file: "calls.rs",
+        function: "fn take_arrival(",
+        edits: &[Instead(
+            "key_rule(&entries, &pair, ao.rnext_key_id, state)",
+            "if open { key_rule(&entries, &pair, ao.rnext_key_id, state) }",
+        )],
+    },
+    Planted {
+        name: "NoKeyRuleAtPassiveOpening",
+        does: "Not after the SYN of a passive opening.",
+        breaks: "\"opens with the entry found, then applies the key rule below\"",
+        file: "calls.rs",
+        function: "fn open_passive(",
+        edits: &[Instead(
+            "key_rule(&syn.entries, &pair, syn.rnext_key_id, &mut state)",
+            "",
+        )],
+    },
+    Planted {
+        name: "KeyRuleAsksToo",
+        does: "The RecvID asked of the peer changes with the outgoing key.",
+        breaks: "\"An operator call sets the RecvID asked of the peer; nothing else does.\"",
+        file: "calls.rs",
+        function: "fn key_rule(",
+        edits: &[Behind(
+            "state.outgoing_send_id = rnext_key_id;",
+            "if let Some(entry) = by_send_id(entries, pair, rnext_key_id) {
+                state.asked_recv_id = entry.recv_id;
+            }",
+        )],
+    },
+    // Signing and the operator's call.
+    Planted {
+        name: "BareSynSignedOnceOpen",
+        does: "A bare SYN is signed on an open connection like any other segment.",
+        breaks: "\"each segment that carries SYN and ACK, or no SYN\"",
+        file: "calls.rs",
+        function: "fn sign(",
+        edits: &[Instead("!header.is_bare_syn()", "true")],
+    },
+    Planted {
+        name: "AnySynNumberSigned",
+        does: "While opening, a bare SYN of any number is signed.",
+        breaks: "\"A bare SYN whose number is our ISN may then be signed.\"",
+        file: "calls.rs",
+        function: "fn sign(",
+        edits: &[Instead("header.syn()", "header.is_syn_ack()")],
+    },
+    Planted {
+        name: "SynAckSignedAnywhere",
+        does: "A SYN+ACK is signed at any position.",
+        breaks: "36: \"a SYN (bare or with ACK) whose position is not our ISN\"",
+        file: "calls.rs",
+        function: "fn sign(",
+        edits: &[Instead("header.syn()", "header.is_bare_syn()")],
+    },
+    Planted {
+        name: "SynSignedWithPeerIsn",
+        does: "A bare SYN is signed with the peer's ISN that the state holds.",
+        breaks: "\"For a bare SYN (SYN set, ACK clear) the destination ISN is zero.\"",
+        file: "calls.rs",
+        function: "fn sign(",
+        edits: &[Instead("if bare { 0 } else { state.peer_isn }", "state.peer_isn")],
+    },
+    Planted {
+        name: "OffsetElevenRefused",
+        does: "32 for a data offset of 11.",
+        breaks: "32: \"data offset above 11\"",
+        file: "calls.rs",
+        function: "fn sign(",
+        edits: &[Instead("header.data_offset > 11", "header.data_offset > 10")],
+    },
+    Planted {
+        name: "LongestRefused",
+        does: "32 for 65,519 bytes.",
+        breaks: "32: \"result above 65,535 bytes\"",
+        file: "calls.rs",
+        function: "fn sign(",
+        edits: &[Instead("signed_bytes > 65_535", "signed_bytes > 65_534")],
+    },
+    Planted {
+        name: "SigningTestsAskedKey",
+        does: "35 also where no entry has the asked RecvID.",
+        breaks: "35: \"no entry matching the pair has the outgoing SendID (opening, signing)\"",
+        file: "calls.rs",
+        function: "fn sign(",
+        edits: &[Before(
+            "// 36: \"no position,",
+            "by_recv_id(&entries, &pair, state.asked_recv_id).ok_or(Refusal::of(35))?;",
+        )],
+    },
+    Planted {
+        name: "ReservedBitsCleared",
+        does: "The low four bits of byte 12 become zero.",
+        breaks: "\"raises the data offset by 4\", and of the rest of byte 12 nothing is said",
+        file: "calls.rs",
+        function: "fn sign(",
+        edits: &[Behind("signed[12] += 4 << 4;", "signed[12] &= 0xf0;")],
+    },
+    Planted {
+        name: "ChecksumKept",
+        does: "The checksum stays as it was.",
+        breaks: "\"and writes checksum zero\"",
+        file: "calls.rs",
+        function: "fn sign(",
+        edits: &[Instead("signed[16..18].fill(0)", "")],
+    },
+    Planted {
+        name: "AskOnlyOnceOpen",
+        does: "The operator's call gives 35 while opening.",
+        breaks: "\"An operator call sets the RecvID asked of the peer\"",
+        file: "calls.rs",
+        function: "fn ask(",
+        edits: &[Before(
+            "let mut after",
+            "if !state.is_open() { return Err(Refusal::of(35)); }",
+        )],
+    },
+    // The boundary.
+    Planted {
+        name: "RefusedOpeningEmptiesBuffer",
+        does: "A refused active opening writes the empty state.",
+        breaks: "\"A call that is refused leaves every buffer as it was\"",
+        file: "boundary.rs",
+        function: "fn tcpao_open_active(",
+        edits: &[Instead("result.is_ok()", "true")],
+    },
+    Planted {
+        name: "PassedOpeningEmptiesBuffer",
+        does: "A passive opening that only passes writes the empty state.",
+        breaks: "\"before Ticket 2 the bytes stay\", where a SYN is only passed",
+        file: "boundary.rs",
+        function: "fn tcpao_open_passive(",
+        edits: &[Instead(
+            "matches!(verdict, Verdict::Accept(_))",
+            "matches!(verdict, Verdict::Accept(_) | Verdict::Pass)",
+        )],
+    },
+    Planted {
+        name: "OtherSettingsPass",
+        does: "Of the settings only 1 means drop 26.",
+        breaks: "\"0 pass, any other value drop 26\"",
+        file: "boundary.rs",
+        function: "fn setting_of(",
+        edits: &[Instead("byte == 0", "byte != 1")],
+    },
+    Planted {
+        name: "UnusedAddressBytesCleared",
+        does: "What stands behind an IPv4 address is set to zero by judging.",
+        breaks: "\"IPv4 in the first four bytes; what stands behind is carried untouched\"",
+        file: "boundary.rs",
+        function: "fn tcpao_judge(",
+        edits: &[Behind(
+            "state.copy_from_slice(&after.to_bytes());",
+            "if after.family == 4 {
+                state[20..32].fill(0);
+                state[36..48].fill(0);
+            }",
+        )],
+    },
+    Planted {
+        name: "OutputFilledUp",
+        does: "Signing fills the output behind the signed segment with zeros.",
+        breaks: "\"Signing writes only the signed length's bytes of the output.\"",
+        file: "boundary.rs",
+        function: "fn tcpao_sign(",
+        edits: &[Behind(
+            "out[..length].copy_from_slice(&signed.segment);",
+            "out[length..].fill(0);",
+        )],
+    },
+];

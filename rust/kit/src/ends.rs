@@ -1,0 +1,131 @@
+//! Socket pairs, and one end of a connection.
+
+use crate::calls::{number, value, Boundary};
+use crate::segment::Segment;
+use crate::state::State;
+
+/// A socket pair as one end holds it. Addresses have 4 or 16 bytes.
+#[derive(Clone, Debug, PartialEq, Eq)]
+pub struct Pair {
+    pub local: Vec<u8>,
+    pub remote: Vec<u8>,
+    pub local_port: u16,
+    pub remote_port: u16,
+}
+
+impl Pair {
+    /// The pair as the other end holds it.
+    pub fn mirror(&self) -> Pair {
+        Pair {
+            local: self.remote.clone(),
+            remote: self.local.clone(),
+            local_port: self.remote_port,
+            remote_port: self.local_port,
+        }
+    }
+}
+
+/// One end of a connection, and which side makes its calls.
+#[derive(Clone, Debug)]
+pub struct End {
+    pub boundary: Boundary,
+    pub pair: Pair,
+    pub table: Vec<u8>,
+    pub state: Vec<u8>,
+}
+
+impl End {
+    /// With the empty state.
+    pub fn new(boundary: Boundary, pair: Pair, table: Vec<u8>) -> End {
+        End {
+            boundary,
+            pair,
+            table,
+            state: State::default().bytes(),
+        }
+    }
+
+    pub fn state(&self) -> State {
+        State::read(&self.state).unwrap()
+    }
+
+    pub fn set(&mut self, state: State) {
+        self.state = state.bytes();
+    }
+
+    /// A segment from here to the peer.
+    pub fn segment(&self, sequence: u32, flags: u8, data: &[u8]) -> Segment {
+        Segment {
+            source_port: self.pair.local_port,
+            destination_port: self.pair.remote_port,
+            sequence,
+            flags,
+            checksum: 0xbeef,
+            data: data.to_vec(),
+            ..Segment::default()
+        }
+    }
+
+    pub fn open_active(&mut self, isn: u32, send_id: u8) -> u64 {
+        let Pair {
+            local,
+            remote,
+            local_port,
+            remote_port,
+        } = &self.pair;
+        (self.boundary.open_active)(
+            &self.table,
+            local,
+            remote,
+            *local_port,
+            *remote_port,
+            isn,
+            send_id,
+            &mut self.state,
+        )
+    }
+
+    pub fn judge_syn(&self, segment: &[u8], setting: u8) -> u64 {
+        let Pair { local, remote, .. } = &self.pair;
+        (self.boundary.judge_syn)(&self.table, remote, local, segment, setting)
+    }
+
+    pub fn open_passive(&mut self, segment: &[u8], isn: u32, setting: u8) -> u64 {
+        let Pair { local, remote, .. } = &self.pair;
+        let state = &mut self.state;
+        (self.boundary.open_passive)(&self.table, remote, local, segment, isn, setting, state)
+    }
+
+    pub fn judge(&mut self, segment: &[u8]) -> u64 {
+        let Pair { local, remote, .. } = &self.pair;
+        (self.boundary.judge)(&self.table, remote, local, segment, &mut self.state)
+    }
+
+    pub fn ask(&mut self, recv_id: u8) -> u64 {
+        (self.boundary.ask)(&self.table, recv_id, &mut self.state)
+    }
+
+    pub fn sign_into(&mut self, segment: &[u8], out: &mut [u8]) -> u64 {
+        (self.boundary.sign)(&self.table, segment, out, &mut self.state)
+    }
+
+    /// Signs into a buffer that is just long enough, which must stay if signing is refused.
+    pub fn try_sign(&mut self, segment: &[u8]) -> Result<Vec<u8>, u64> {
+        let mut out = vec![0xee; segment.len() + 16];
+        let word = self.sign_into(segment, &mut out);
+        if number(word) == 0 {
+            assert_eq!(value(word) as usize, out.len());
+            Ok(out)
+        } else {
+            assert!(out.iter().all(|byte| *byte == 0xee));
+            Err(word)
+        }
+    }
+
+    /// Signs what must be signed.
+    pub fn sign(&mut self, sequence: u32, flags: u8, data: &[u8]) -> Vec<u8> {
+        let segment = self.segment(sequence, flags, data).bytes();
+        self.try_sign(&segment)
+            .unwrap_or_else(|word| panic!("signing gave {}", number(word)))
+    }
+}

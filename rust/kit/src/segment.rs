@@ -1,0 +1,94 @@
+//! TCP segments (RFC 793) and the option TCP-AO.
+
+pub const FIN: u8 = 0x01;
+pub const SYN: u8 = 0x02;
+pub const RST: u8 = 0x04;
+pub const ACK: u8 = 0x10;
+
+/// A segment before it is written. What is not said is [`Segment::default`]'s.
+#[derive(Clone, Debug)]
+pub struct Segment {
+    pub source_port: u16,
+    pub destination_port: u16,
+    pub sequence: u32,
+    pub acknowledgment: u32,
+    /// The low half of byte 12.
+    pub reserved: u8,
+    pub flags: u8,
+    pub window: u16,
+    pub checksum: u16,
+    pub urgent: u16,
+    /// Filled up with kind 1 to whole words; at most 40 bytes.
+    pub options: Vec<u8>,
+    pub data: Vec<u8>,
+}
+
+impl Default for Segment {
+    /// Ports and numbers 0, no flag, no option, no data.
+    fn default() -> Segment {
+        Segment {
+            source_port: 0,
+            destination_port: 0,
+            sequence: 0,
+            acknowledgment: 0,
+            reserved: 0,
+            flags: 0,
+            window: 4096,
+            checksum: 0,
+            urgent: 0,
+            options: vec![],
+            data: vec![],
+        }
+    }
+}
+
+impl Segment {
+    pub fn bytes(&self) -> Vec<u8> {
+        let mut options = self.options.clone();
+        options.resize(options.len().next_multiple_of(4), 1);
+        assert!(options.len() <= 40);
+        let offset = 5 + options.len() as u8 / 4;
+        let mut bytes = vec![];
+        bytes.extend(self.source_port.to_be_bytes());
+        bytes.extend(self.destination_port.to_be_bytes());
+        bytes.extend(self.sequence.to_be_bytes());
+        bytes.extend(self.acknowledgment.to_be_bytes());
+        bytes.extend([offset << 4 | self.reserved, self.flags]);
+        bytes.extend(self.window.to_be_bytes());
+        bytes.extend(self.checksum.to_be_bytes());
+        bytes.extend(self.urgent.to_be_bytes());
+        bytes.extend(options);
+        bytes.extend(&self.data);
+        bytes
+    }
+
+    pub fn flags(self, flags: u8) -> Segment {
+        Segment { flags, ..self }
+    }
+
+    pub fn sequence(self, sequence: u32) -> Segment {
+        Segment { sequence, ..self }
+    }
+
+    pub fn options(self, options: &[u8]) -> Segment {
+        Segment {
+            options: options.to_vec(),
+            ..self
+        }
+    }
+
+    /// With TCP-AO in front of the options; see [`ao`].
+    pub fn ao(self, length: u8, key_id: u8, rnext_key_id: u8) -> Segment {
+        Segment {
+            options: [ao(length, key_id, rnext_key_id), self.options].concat(),
+            ..self
+        }
+    }
+}
+
+/// TCP-AO of this length, 4 or more, whose MAC is zero.
+pub fn ao(length: u8, key_id: u8, rnext_key_id: u8) -> Vec<u8> {
+    let mut option = vec![29, length, key_id, rnext_key_id];
+    option.resize(usize::from(length), 0);
+    option
+}

@@ -1,0 +1,213 @@
+//! The directed cases: every number of every call, and every rule that a planted fault turns round.
+
+pub mod ask;
+pub mod inputs;
+pub mod judge;
+pub mod open;
+pub mod sign;
+pub mod table;
+
+use super::calls::Case;
+use super::ends::*;
+use kit::segment::{ACK, SYN};
+use kit::{Call, End, Entry, Function, Segment, State};
+use reference::mac::Ends;
+
+pub fn cases() -> Vec<Case> {
+    let scene = Scene::new();
+    let mut list = List(vec![]);
+    table::refused(&scene, &mut list);
+    table::taken(&scene, &mut list);
+    inputs::states(&scene, &mut list);
+    inputs::addresses(&scene, &mut list);
+    open::active(&scene, &mut list);
+    judge::unreadable(&scene, &mut list);
+    open::bare_syn(&scene, &mut list);
+    judge::opening(&scene, &mut list);
+    judge::positions(&scene, &mut list);
+    judge::open(&scene, &mut list);
+    judge::other_pairs(&scene, &mut list);
+    sign::segments(&scene, &mut list);
+    sign::rooms(&scene, &mut list);
+    ask::ids(&scene, &mut list);
+    list.0
+}
+
+/// What the answer must be: the number and the value beside it.
+pub type Answer = (u8, u32);
+
+/// The cases so far.
+pub struct List(Vec<Case>);
+
+impl List {
+    pub fn add(&mut self, name: &str, table: &[u8], state: &[u8], call: Call, answer: Answer) {
+        self.0.push(Case {
+            name: name.to_string(),
+            call: Call {
+                table: table.to_vec(),
+                state: state.to_vec(),
+                ..call
+            },
+            answer,
+        });
+    }
+}
+
+/// What the cases are made of: A and B in IPv4, and what a call gets where nothing is wrong.
+pub struct Scene {
+    /// As A holds them.
+    pub keys: Vec<Entry>,
+    /// A and B, open.
+    pub a: End,
+    pub b: End,
+    /// A and B, not opened.
+    pub new_a: End,
+    pub new_b: End,
+    /// A, opening.
+    pub opening: End,
+    /// The empty state.
+    pub empty: Vec<u8>,
+    /// A's SYN before it is signed, and after.
+    pub plain_syn: Segment,
+    pub syn: Vec<u8>,
+    /// A segment for A to sign.
+    pub data: Vec<u8>,
+    /// A segment that B has signed.
+    pub from_b: Vec<u8>,
+    /// A's own segment, with RST: arriving at A it has the wrong ports, and it is wrong for every stage.
+    pub elsewhere: Segment,
+}
+
+impl Scene {
+    fn new() -> Scene {
+        let (a, b) = opened(&A4, &B4);
+        let (new_a, new_b) = ends(&A4, &B4);
+        let mut opening = new_a.clone();
+        assert_eq!(opening.open_active(A_ISN, 1), 0);
+        Scene {
+            keys: keys(&A4, &B4),
+            empty: State::default().bytes(),
+            plain_syn: new_a.segment(A_ISN, SYN, b""),
+            syn: opening.clone().sign(A_ISN, SYN, b""),
+            data: a.segment(A_ISN + 1, ACK, b"data").bytes(),
+            from_b: b.clone().sign(B_ISN + 1, ACK, b"from B"),
+            elsewhere: a.segment(0, kit::segment::RST, b""),
+            a,
+            b,
+            new_a,
+            new_b,
+            opening,
+        }
+    }
+
+    /// A segment of B's with the MAC of the first key, at extension 0.
+    pub fn sealed(&self, segment: Segment) -> Vec<u8> {
+        seal(&self.keys[0], &B_TO_A, 0, segment.bytes())
+    }
+
+    /// A's open state with both references here.
+    pub fn at(&self, reference: u64) -> Vec<u8> {
+        let state = State {
+            arriving_reference: reference,
+            signing_reference: reference,
+            ..self.a.state()
+        };
+        state.bytes()
+    }
+}
+
+/// The ends of a bare SYN that A sends to B.
+pub const SYN_TO_B: Ends = Ends {
+    source: &A4,
+    destination: &B4,
+    source_port: A_PORT,
+    destination_port: B_PORT,
+    source_isn: A_ISN,
+    destination_isn: 0,
+};
+
+/// The ends of a segment that B sends to A.
+pub const B_TO_A: Ends = Ends {
+    source: &B4,
+    destination: &A4,
+    source_port: B_PORT,
+    destination_port: A_PORT,
+    source_isn: B_ISN,
+    destination_isn: A_ISN,
+};
+
+pub fn check_table() -> Call {
+    Call::new(Function::CheckTable, &[])
+}
+
+/// A opens.
+pub fn active(send_id: u8) -> Call {
+    Call {
+        source: A4.to_vec(),
+        destination: B4.to_vec(),
+        local_port: A_PORT,
+        remote_port: B_PORT,
+        isn: A_ISN,
+        byte: send_id,
+        ..Call::new(Function::OpenActive, &[])
+    }
+}
+
+/// A segment from A arrives at B, which listens.
+pub fn judge_syn(segment: &[u8], setting: u8) -> Call {
+    Call {
+        source: A4.to_vec(),
+        destination: B4.to_vec(),
+        segment: segment.to_vec(),
+        byte: setting,
+        ..Call::new(Function::JudgeSyn, &[])
+    }
+}
+
+/// B opens by a segment from A.
+pub fn passive(segment: &[u8], setting: u8) -> Call {
+    Call {
+        function: Function::OpenPassive,
+        isn: B_ISN,
+        ..judge_syn(segment, setting)
+    }
+}
+
+/// A segment from B arrives at A.
+pub fn judge(segment: &[u8]) -> Call {
+    Call {
+        source: B4.to_vec(),
+        destination: A4.to_vec(),
+        segment: segment.to_vec(),
+        ..Call::new(Function::Judge, &[])
+    }
+}
+
+/// Into a buffer that is just long enough.
+pub fn sign(segment: &[u8]) -> Call {
+    sign_into(segment, segment.len() + 16)
+}
+
+pub fn sign_into(segment: &[u8], room: usize) -> Call {
+    Call {
+        segment: segment.to_vec(),
+        out: vec![0xee; room],
+        ..Call::new(Function::Sign, &[])
+    }
+}
+
+pub fn ask(recv_id: u8) -> Call {
+    Call {
+        byte: recv_id,
+        ..Call::new(Function::Ask, &[])
+    }
+}
+
+/// A call with other addresses.
+pub fn with_addresses(call: Call, source: &[u8], destination: &[u8]) -> Call {
+    Call {
+        source: source.to_vec(),
+        destination: destination.to_vec(),
+        ..call
+    }
+}

@@ -1,0 +1,91 @@
+//! The two ends of a connection, A that opens and B that listens, in either family.
+
+use super::calls::REFERENCE;
+use kit::entry::{mirrored, table};
+use kit::segment::{ACK, SYN};
+use kit::{End, Entry, Pair};
+use reference::mac::{self, Ends};
+use reference::segment::{read_options, Header, WithAo};
+
+pub const A4: [u8; 4] = [10, 0, 0, 1];
+pub const B4: [u8; 4] = [10, 0, 0, 2];
+pub const A6: [u8; 16] = [0xfd, 0, 0, 0, 0, 0, 0, 0, 0, 0, 0, 0, 0, 0, 0, 1];
+pub const B6: [u8; 16] = [0xfd, 0, 0, 0, 0, 0, 0, 0, 0, 0, 0, 0, 0, 0, 0, 2];
+pub const A_PORT: u16 = 40_000;
+pub const B_PORT: u16 = 179;
+pub const A_ISN: u32 = 0x1000_0000;
+pub const B_ISN: u32 = 0x2000_0000;
+
+/// The keys of the connection between A and B in one family, as A holds them: two that match, under
+/// both algorithms, and one for another peer.
+pub fn keys(a: &[u8], b: &[u8]) -> Vec<Entry> {
+    let mut elsewhere = b.to_vec();
+    *elsewhere.last_mut().unwrap() = 77;
+    let mut first = Entry::between(a, b).ids(1, 2);
+    first.remote = first.remote.ports(B_PORT, B_PORT);
+    let second = Entry {
+        flags: 0,
+        algorithm: 2,
+        key: b"sixteen bytes ..".to_vec(),
+        ..Entry::between(a, b).ids(3, 4)
+    };
+    let third = Entry::between(a, &elsewhere).ids(5, 6);
+    vec![first, second, third]
+}
+
+/// A and B, not opened.
+pub fn ends(a: &[u8], b: &[u8]) -> (End, End) {
+    let keys = keys(a, b);
+    let pair = Pair {
+        local: a.to_vec(),
+        remote: b.to_vec(),
+        local_port: A_PORT,
+        remote_port: B_PORT,
+    };
+    (
+        End::new(REFERENCE, pair.clone(), table(&keys)),
+        End::new(REFERENCE, pair.mirror(), mirrored(&keys)),
+    )
+}
+
+/// A and B after the three opening segments.
+pub fn opened(a: &[u8], b: &[u8]) -> (End, End) {
+    let (mut a, mut b) = ends(a, b);
+    assert_eq!(a.open_active(A_ISN, 1), 0);
+    let syn = a.sign(A_ISN, SYN, b"");
+    assert_eq!(b.judge_syn(&syn, 1), 0);
+    assert_eq!(b.open_passive(&syn, B_ISN, 1), 0);
+    let syn_ack = b.sign(B_ISN, SYN | ACK, b"");
+    assert_eq!(a.judge(&syn_ack), 0);
+    let ack = a.sign(A_ISN + 1, ACK, b"");
+    assert_eq!(b.judge(&ack), 0);
+    (a, b)
+}
+
+/// An end's pair, for the reference.
+pub fn lent(pair: &Pair) -> reference::table::Pair<'_> {
+    reference::table::Pair {
+        local: &pair.local,
+        remote: &pair.remote,
+        local_port: pair.local_port,
+        remote_port: pair.remote_port,
+    }
+}
+
+/// Writes into a segment's first TCP-AO the MAC that the entry gives for these ends.
+pub fn seal(key: &Entry, ends: &Ends, extension: u32, mut segment: Vec<u8>) -> Vec<u8> {
+    let bytes = key.bytes();
+    let entry = reference::table::read(&bytes).unwrap()[0];
+    let header = Header::read(&segment).unwrap();
+    let ao = read_options(&segment, &header).unwrap().ao.unwrap();
+    let mac = {
+        let carrier = WithAo {
+            segment: &segment,
+            header,
+            ao,
+        };
+        mac::mac(&entry, ends, extension, &carrier)
+    };
+    segment[ao.at + 4..ao.at + 16].copy_from_slice(&mac);
+    segment
+}
