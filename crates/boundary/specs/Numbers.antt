@@ -1,6 +1,6 @@
--- docs/BOUNDARY.md, "The answer", of every call: the number fits its eight bits, an index and a signed length their thirty-two, and the value is
--- 0 beside every number but 0 and 10 to 17; the number is 0 exactly on accept or done, and 1 exactly on pass. (That an extension fits is
--- known by its type, and by the contract, since the answer is a u64.) Assumes nothing.
+-- docs/BOUNDARY.md, "The answer", of every call: the number fits its eight bits, an index and a signed length their thirty-two, and the
+-- value is 0 beside every number but 0 and 10 to 17; the number is 0 exactly on accept or done, and 1 exactly on pass. (That an
+-- extension fits is known by its type, and by the contract, since the answer is a u64.) Assumes nothing.
 use Prim.Native.Nat.{ℕ, _^_, _%_, _≤_, _<_}
 use mathlib.Core.Path.{_≡_, refl, subst, subst⁻¹}
 use mathlib.Core.Bool.{Bool, true, false, cond, not, _&&_, _||_}

@@ -1,5 +1,5 @@
-// The calls on a key table and on a connection for C: docs/BOUNDARY.md, "The calls" and "The state". They are those of the crate `boundary`.
-// Assumes nothing.
+// The calls on a key table and on a connection for C: docs/BOUNDARY.md, "The calls" and "The state". They are those of the crate
+// `boundary`. Assumes nothing.
 ghost use mathlib.Core.Path.{_≡_};
 ghost use Rattle.boundary.specs.Exports.{answers, leaves, writes, checkTableExport, openActiveExport, judgeSynExport};
 ghost use Rattle.boundary.specs.Exports.{openPassiveExport, judgeExport, signExport, askExport};
