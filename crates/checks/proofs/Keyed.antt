@@ -10,7 +10,7 @@ use borrow.Author.Tests.{eq-eqb, ne-eqb}
 use Rattle.wire.specs.Header.{headerEnd, wellSized, area}
 use Rattle.wire.specs.HeaderLaws.{sized, area-length}
 use Rattle.wire.specs.Options.{optionsOf, aoIn}
-use Rattle.wire.specs.OptionPlaces.{found-within}
+use Rattle.wire.specs.OptionPlaceLaws.{found-within}
 use Rattle.wire.specs.declared.options.Occurrence.{Occurrence}
 use Rattle.wire.specs.declared.options.Options.{Options}
 use Rattle.wire.specs.declared.options.Options.the-variants.{Malformed, Found}

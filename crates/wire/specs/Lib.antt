@@ -3,7 +3,7 @@ pub mod BytesLaws
 pub mod Header
 pub mod HeaderLaws
 pub mod OptionLaws
-pub mod OptionPlaces
+pub mod OptionPlaceLaws
 pub mod OptionSteps
 pub mod Options
 pub mod Prefix
