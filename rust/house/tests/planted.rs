@@ -1,6 +1,6 @@
 //! Each check is tried itself: what is wrong in a tree that was changed in memory, it finds.
 
-use house::{claims, numbers, picture, reading, Check, Tree};
+use house::{claims, layout, numbers, picture, reading, Check, Tree};
 
 /// The tree with one place of one file changed, which must be there.
 fn changed(path: &str, old: &str, new: &str) -> Tree {
@@ -161,4 +161,26 @@ fn files_to_believe_that_are_not_listed() {
         "- `crates/rules/specs/PositionLaws.antt`",
     );
     finds(reading::check, &laws, "PositionLaws.antt holds proofs");
+}
+
+#[test]
+fn lines_that_are_too_long() {
+    let long = |path: &str, length: usize| {
+        let tree = Tree::read();
+        let text = tree.text(path).unwrap().to_string();
+        tree.with(path, text + &"≡".repeat(length))
+    };
+    let finds_in = |path: &str, length| {
+        let faults = layout::check(&long(path, length)).faults;
+        faults.iter().any(|fault| fault.starts_with(path))
+    };
+    for path in [
+        "crates/mac/src/hmac.rt",
+        "crates/rules/specs/Position.antt",
+        "rust/house/src/antt.rs",
+    ] {
+        assert!(!finds_in(path, 140), "{path}");
+        assert!(finds_in(path, 141), "{path}");
+    }
+    assert!(!finds_in("crates/rules/specs/PositionLaws.antt", 141));
 }
