@@ -4,9 +4,11 @@
 pub mod antt;
 pub mod claims;
 pub mod crates;
+pub mod layout;
 pub mod numbers;
 pub mod picture;
 pub mod rattle;
+pub mod reading;
 pub mod tree;
 
 pub use tree::Tree;
@@ -24,10 +26,12 @@ pub struct Report {
 pub type Check = fn(&Tree) -> Report;
 
 /// Every check, under the name that is printed before its line.
-pub const CHECKS: [(&str, Check); 3] = [
+pub const CHECKS: [(&str, Check); 5] = [
     ("claims", claims::check),
     ("numbers", numbers::check),
     ("picture", picture::check),
+    ("reading", reading::check),
+    ("layout", layout::check),
 ];
 
 /// Runs every check and prints its lines. Says whether nothing is wrong.

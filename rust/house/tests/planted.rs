@@ -1,6 +1,6 @@
 //! Each check is tried itself: what is wrong in a tree that was changed in memory, it finds.
 
-use house::{claims, numbers, picture, Check, Tree};
+use house::{claims, layout, numbers, picture, reading, Check, Tree};
 
 /// The tree with one place of one file changed, which must be there.
 fn changed(path: &str, old: &str, new: &str) -> Tree {
@@ -108,4 +108,79 @@ fn pictures_of_other_crates() {
     finds(picture::check, &listed, "lists mac for states");
     let gone = changed("crates.txt", "\nrollover: ", "\n# rollover: ");
     finds(picture::check, &gone, "does not have the picture");
+}
+
+/// A file that must be believed, with a line more.
+fn believed_with(line: &str) -> Tree {
+    let path = "crates/rules/specs/Position.antt";
+    let tree = Tree::read();
+    let text = tree.text(path).unwrap().to_string();
+    tree.with(path, text + line)
+}
+
+#[test]
+fn proofs_in_files_to_believe() {
+    let words = "Position.antt holds proofs";
+    for line in [
+        "\npub same : (n : ℕ) → n ≡ n\nsame n = proved n\n",
+        "\nabbrev pub same : (n : ℕ) → n ≡ n\nsame n = refl\n",
+        "\nabbrev pub below : ℕ → Type 0\nbelow n = (omega arith)\n",
+        "\nuse native.Mathlib.Omega.{arith}\n",
+        "\nuse mathlib.Core.Path.{_≡_, sym}\n",
+    ] {
+        finds(reading::check, &believed_with(line), words);
+    }
+    let laws = believed_with("\nuse Rattle.rules.specs.PositionLaws.{sound}\n");
+    finds(
+        reading::check,
+        &laws,
+        "rests on crates/rules/specs/PositionLaws.antt",
+    );
+    let definition = believed_with("\nabbrev pub twice : ℕ → ℕ\ntwice n = n + n -- refl\n");
+    let holds = |fault: &String| fault.contains("Position.antt");
+    assert!(!reading::check(&definition).faults.iter().any(holds));
+}
+
+#[test]
+fn files_to_believe_that_are_not_listed() {
+    let listed = "- `crates/rules/specs/Position.antt`";
+    let gone = changed(
+        reading::READING,
+        listed,
+        "- `crates/rules/specs/Positions.antt`",
+    );
+    finds(
+        reading::check,
+        &gone,
+        "lists crates/rules/specs/Positions.antt, which is not there",
+    );
+    finds(reading::check, &gone, "Position.antt is not named Laws");
+    let laws = changed(
+        reading::READING,
+        listed,
+        "- `crates/rules/specs/PositionLaws.antt`",
+    );
+    finds(reading::check, &laws, "PositionLaws.antt holds proofs");
+}
+
+#[test]
+fn lines_that_are_too_long() {
+    let long = |path: &str, length: usize| {
+        let tree = Tree::read();
+        let text = tree.text(path).unwrap().to_string();
+        tree.with(path, text + &"≡".repeat(length))
+    };
+    let finds_in = |path: &str, length| {
+        let faults = layout::check(&long(path, length)).faults;
+        faults.iter().any(|fault| fault.starts_with(path))
+    };
+    for path in [
+        "crates/mac/src/hmac.rt",
+        "crates/rules/specs/Position.antt",
+        "rust/house/src/antt.rs",
+    ] {
+        assert!(!finds_in(path, 140), "{path}");
+        assert!(finds_in(path, 141), "{path}");
+    }
+    assert!(!finds_in("crates/rules/specs/PositionLaws.antt", 141));
 }
