@@ -4,7 +4,8 @@ ghost use mathlib.Core.Path.{_≡_};
 ghost use Prim.Native.Nat.{_+_, _≤_};
 ghost use lib.ListN.{length};
 ghost use lib.Seq.{paste};
-ghost use Rattle.octets.specs.Octets.{be16 as be16Of, be32 as be32Of, bytes16 as bytes16Of, bytes32 as bytes32Of, bytes64 as bytes64Of, get16, get32};
+ghost use Rattle.octets.specs.Octets.{be16 as be16Of, be32 as be32Of, get16, get32};
+ghost use Rattle.octets.specs.Octets.{bytes16 as bytes16Of, bytes32 as bytes32Of, bytes64 as bytes64Of};
 
 // Copies the whole of src to the place `at` of dst. What stands before and behind it stays.
 pub fn copy_at(dst: &mut [u8], at: usize, src: &[u8])

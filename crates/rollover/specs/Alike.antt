@@ -14,4 +14,6 @@ same (x ∷ a) (y ∷ b) = eqb x y && same a b
 
 -- the counts, the reference of the arriving direction and the outgoing key
 unfoldable pub alike : State → State → Bool
-alike q r = eqb (q .accepted) (r .accepted) && (eqb (q .seen) (r .seen) && (eqb (q .«send_id») (r .«send_id») && same (q .drops) (r .drops)))
+alike q r =
+    eqb (q .accepted) (r .accepted)
+    && (eqb (q .seen) (r .seen) && (eqb (q .«send_id») (r .«send_id») && same (q .drops) (r .drops)))

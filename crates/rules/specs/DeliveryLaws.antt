@@ -16,13 +16,13 @@ use Rattle.rules.specs.declared.Outcome.{Outcome}
 use Rattle.rules.specs.declared.State.{State}
 use Rattle.rules.specs.Mac.{Flow, applied, trafficKey, segmentMac}
 use Rattle.rules.specs.MacLaws.{length-mac, Agree, mac-agree}
-use Rattle.rules.specs.Segment.{optionBytes, signedWith}
+use Rattle.rules.specs.Segment.{optionBytes, signedWith, Whole, Fits}
 use Rattle.rules.specs.Connection.{leaving, value, extensionOf}
 use Rattle.rules.specs.Calls.{outgoing, addedBytes, signedSegment, written, outputBy, output}
 use Rattle.rules.specs.Ends.{SignedAt, rechecked}
-use Rattle.rules.specs.RoundTripLaws.{Whole, Arrived, arrival, covers, length-signed}
+use Rattle.rules.specs.RoundTripLaws.{Arrived, arrival, covers, length-signed}
 use Rattle.rules.specs.SigningLaws.{Signs, signs-good, signed-good}
-use Rattle.rules.specs.GrowthLaws.{Fits, added-under, fits-found}
+use Rattle.rules.specs.GrowthLaws.{added-under, fits-found}
 
 -- what was signed, by the outgoing entry: it has as many bytes as the answer says
 module _ (t : Tables) (s out : List ℕ) (q : State) (signs : Signs t s out q) (x : ℕ) where

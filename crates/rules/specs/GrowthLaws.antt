@@ -15,16 +15,10 @@ use Rattle.keys.specs.Table.{Tables, ValidTable, sendEntry}
 use Rattle.keys.specs.SearchLaws.{valid-proper, send-holder}
 use Rattle.rules.specs.declared.Signing.the-variants as S
 use Rattle.octets.specs.Tests.{tests}
-use Rattle.rules.specs.Segment.{optionBytes}
+use Rattle.rules.specs.Segment.{optionBytes, Fits}
 use Rattle.rules.specs.Calls.{refuse, outgoing, addedBytes, growthTests}
-use Rattle.rules.specs.RoundTripLaws.{Whole}
 use Rattle.rules.specs.SigningLaws.{signs-good, signed-good}
 use Rattle.rules.specs.Growth.{Added16, GrowthIs, Signed16}
-
--- a MAC of n bytes that can be signed with: both algorithms give as many, and its option fills whole words
-pub record Fits (n : ℕ) : Type 0 where
-  pub short : n ≤ 16
-  pub words : Whole (optionBytes n)
 
 -- what is added under an entry that was found
 pub added-under : (f : Found) → f .there ≡ true → addedBytes f ≡ optionBytes (f .entry .secret .«mac_bytes»)

@@ -16,7 +16,7 @@ use Rattle.octets.specs.Octets.{bytes32}
 use Rattle.keys.specs.declared.entry.Secret.{Secret}
 use Rattle.keys.specs.Entry.{allOptions}
 use Rattle.rules.specs.Mac.{Flow, pseudoHeader, zeroed, coveredHeader, front, message}
-use Rattle.rules.specs.Segment.{malformed, ao, md5, keyId, rnextKeyId, macIn, inserted, withOption, optionOf, optionBytes, signedWith}
+use Rattle.rules.specs.Segment.{malformed, ao, md5, keyId, rnextKeyId, macIn, inserted, withOption, optionOf, optionBytes, signedWith, Whole}
 use Rattle.rules.specs.Ends.{rechecked}
 
 -- a header's twenty fixed bytes, by name, so that what is read of them computes
@@ -115,10 +115,6 @@ pub record Arrived (s b : List ℕ) (k r : ℕ) (m : List ℕ) : Type 0 where
   pub number : sequence b ≡ sequence s
   pub its-syn : syn b ≡ syn s
   pub its-ack : ack b ≡ ack s
-
--- an option fills whole words
-abbrev pub Whole : ℕ → Type 0
-Whole n = 4 * (n / 4) ≡ n
 
 -- How the option looks that is inserted: TCP-AO, then so many bytes of padding, today none; and its length. What follows uses nothing else of
 -- `optionOf` and `optionBytes`.

@@ -1,6 +1,7 @@
 -- Document 01, "The option in a segment": what a segment's TCP-AO says. Every reader is total: where there is no TCP-AO, or the options are
 -- malformed, it reads the place 0 of the option area, and an earlier line of document 01's table decides.
-use Prim.Native.Nat.{ℕ, _+_, _-_, _*_, _/_}
+use Prim.Native.Nat.{ℕ, _+_, _-_, _*_, _/_, _≤_}
+use mathlib.Core.Path.{_≡_}
 use mathlib.Core.Bool.{Bool, not, _&&_}
 use mathlib.Core.List.{List, _∷_, _++_}
 use lib.ListN.{length, getD, take, drop}
@@ -54,6 +55,15 @@ optionOf k r m = 29 ∷ (4 + length m) ∷ k ∷ r ∷ m
 
 abbrev pub optionBytes : ℕ → ℕ
 optionBytes n = 4 + n
+
+-- an option fills whole words
+abbrev pub Whole : ℕ → Type 0
+Whole n = 4 * (n / 4) ≡ n
+
+-- a MAC of n bytes that can be signed with: both algorithms give as many, and its option fills whole words
+pub record Fits (n : ℕ) : Type 0 where
+  pub short : n ≤ 16
+  pub words : Whole (optionBytes n)
 
 -- "Signing puts TCP-AO directly after byte 20, the old options behind it, raises the data offset by 4, and writes checksum zero."
 -- (4 words where the MAC has 12 bytes)

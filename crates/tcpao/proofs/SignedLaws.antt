@@ -14,9 +14,8 @@ use Rattle.rules.specs.declared.Outcome.the-variants.{Good}
 use Rattle.rules.specs.declared.State.{State}
 use Rattle.rules.specs.Mac.{Flow, trafficKey, front, segmentMac}
 use Rattle.rules.specs.MacLaws.{length-mac}
-use Rattle.rules.specs.Segment.{inserted, withOption, optionOf, optionBytes, signedWith}
+use Rattle.rules.specs.Segment.{inserted, withOption, optionOf, optionBytes, Fits, signedWith}
 use Rattle.rules.specs.RoundTripLaws.{length-option}
-use Rattle.rules.specs.GrowthLaws.{Fits}
 use Rattle.rules.specs.Connection.{leaving, extensionOf}
 use Rattle.rules.specs.Calls.{signedSegment, written}
 use Rattle.traffic.specs.Padded.{padded, digestRoom}

@@ -7,8 +7,7 @@ use mathlib.Core.List.{List, [], _∷_}
 use lib.ListN.{length, getD}
 use Rattle.wire.specs.Header.{headerEnd}
 use Rattle.keys.specs.declared.entry.Secret.{Secret}
-use Rattle.rules.specs.Segment.{optionBytes}
-use Rattle.rules.specs.GrowthLaws.{Fits}
+use Rattle.rules.specs.Segment.{optionBytes, Fits}
 
 -- the header's twenty bytes with w words more and the checksum zero, then the first four of a TCP-AO whose MAC has n bytes
 unfoldable pub headBytes : ℕ → ℕ → ℕ → ℕ → List ℕ → List ℕ

@@ -1,6 +1,7 @@
 // The MAC of a segment, before it is cut to the entry's MAC bytes: document 01, "What the MAC covers". The laws in specs/TagLaws say what
-// its first bytes are in terms of the crate `rules`. Begin takes all that needs no data; data go in by MacContext::update, from where they lie.
-// It assumes that TCP-AO and its MAC lie in a header of at most 60 bytes: judging knows it behind 20, 21 and 27, signing behind 30, 31 and 32.
+// its first bytes are in terms of the crate `rules`. Begin takes all that needs no data; data go in by MacContext::update, from where
+// they lie. It assumes that TCP-AO and its MAC lie in a header of at most 60 bytes: judging knows it behind 20, 21 and 27, signing behind
+// 30, 31 and 32.
 ghost use mathlib.Core.Path.{_≡_};
 ghost use Prim.Native.Nat.{_+_, _≤_};
 ghost use lib.ListN.{length};

@@ -34,7 +34,8 @@ syn s = eqb (getD s 13 0 / 2 % 2) 1
 abbrev pub ack : List ℕ → Bool
 ack s = eqb (getD s 13 0 / 16 % 2) 1
 
--- "A segment has 20 to 65,535 bytes. The data offset is 5 to 15 words and its header lies inside the segment": what is wrong, one test to a line
+-- "A segment has 20 to 65,535 bytes. The data offset is 5 to 15 words and its header lies inside the segment": what is wrong, one test to
+-- a line
 abbrev pub sizeFaults : List ℕ → List Bool
 sizeFaults s =
     ltb (length s) 20

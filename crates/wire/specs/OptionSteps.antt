@@ -38,4 +38,5 @@ none = record { count = 0; at = 0; len = 0 }
 
 -- one occurrence more, the later one last
 unfoldable pub noted : Occurrence → ℕ → ℕ → Occurrence
-noted o at len = cond (eqb (o .count) 0) (record { count = 1; at = at; len = len }) (record { count = o .count + 1; at = o .at; len = o .len })
+noted o at len =
+    cond (eqb (o .count) 0) (record { count = 1; at = at; len = len }) (record { count = o .count + 1; at = o .at; len = o .len })

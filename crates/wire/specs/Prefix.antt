@@ -1,5 +1,6 @@
 -- The bits of an address, from the first byte's highest on, one by one.
--- Document 01, "Key table": "the first prefix-length bits agree. Prefix 0 matches every address", and number 15, "address bits set past it".
+-- Document 01, "Key table": "the first prefix-length bits agree. Prefix 0 matches every address", and number 15, "address bits set past
+-- it".
 use Prim.Native.Nat.{ℕ, suc, zero, _*_, _-_, _/_, _%_, _^_}
 use mathlib.Core.Bool.{Bool, true, _&&_, _||_}
 use mathlib.Core.List.{List}

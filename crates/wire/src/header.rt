@@ -1,7 +1,8 @@
 // The header of a TCP segment: document 01, "The option in a segment"; field places by RFC 793, section 3.1.
 // Assumes nothing: each reader takes any bytes, and one that is not there counts as 0.
 ghost use mathlib.Core.Path.{_≡_};
-ghost use Rattle.wire.specs.Header.{sourcePort, destinationPort, sequence as sequenceOf, dataOffset, headerEnd, syn as synOf, ack as ackOf, wellSized, headerOf};
+ghost use Rattle.wire.specs.Header.{sourcePort, destinationPort, sequence as sequenceOf, dataOffset, headerEnd};
+ghost use Rattle.wire.specs.Header.{syn as synOf, ack as ackOf, wellSized, headerOf};
 use crate::bytes::byte_at;
 use crate::options::Options;
 use crate::options::of_segment;

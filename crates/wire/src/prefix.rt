@@ -1,5 +1,5 @@
-// Address prefixes by shifts and masks: document 01, "Key table", "the first prefix-length bits agree", and number 15, "address bits set past it".
-// Assumes nothing: addresses of any length, and prefixes longer than they are. A byte that is not there counts as 0.
+// Address prefixes by shifts and masks: document 01, "Key table", "the first prefix-length bits agree", and number 15, "address bits set
+// past it". Assumes nothing: addresses of any length, and prefixes longer than they are. A byte that is not there counts as 0.
 ghost use mathlib.Core.Path.{_≡_};
 ghost use Prim.Native.Nat.{_*_, _-_, _/_, _%_, _^_, _≤_, min};
 ghost use lib.ListN.{length};
@@ -38,7 +38,8 @@ fn front_agrees(a: &[u8], b: &[u8], n: usize) -> bool
     difference == 0
 }
 
-// The first `bits` bits of two addresses are the same: first the bytes that both have, then those that one lacks, then what is left of a byte.
+// The first `bits` bits of two addresses are the same: first the bytes that both have, then those that one lacks, then what is left of a
+// byte.
 pub fn agrees(a: &[u8], b: &[u8], bits: u8) -> bool
     ensures { λ r. ⌜ r ≡ agree bits (now (a .entry)) (now (b .entry)) ⌝ }
 {
