@@ -33,7 +33,7 @@ abbrev pub stateAfter : List ℕ → State → List ℕ
 stateAfter b q = changed b (encodeOf q) b
 
 -- (boundary) "A call that is refused, or only passes a SYN, leaves every buffer as it was": an opening writes its state only where it
--- opened. The other calls write the state back that they return; Unchanged.antt proves that a refusal then leaves every byte, but for the
+-- opened. The other calls write the state back that they return; Unchanged.antt says that a refusal then leaves every byte, but for the
 -- count
 abbrev pub stateWhere : List ℕ → Bool → State → List ℕ
 stateWhere b opened q = changed b (cond opened (encodeOf q) b) b

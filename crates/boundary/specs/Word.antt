@@ -2,7 +2,6 @@
 -- `rules`. Assumes nothing.
 use Prim.Native.Nat.{ℕ, _+_, _*_, _^_, _/_, _%_, _<_}
 use mathlib.Core.Path.{_≡_}
-use native.Mathlib.Omega.{arith}
 use Rattle.rules.specs.declared.Judged.{Judged}
 use Rattle.rules.specs.declared.Checked.{Checked}
 use Rattle.rules.specs.declared.Signed.{Signed}
@@ -26,13 +25,13 @@ ofSigned s = signingAnswer (s .answer) (s .index)
 abbrev pub ofSettled : Settled → Answer
 ofSettled s = doneAnswer (s .answer) (s .index)
 
--- What C reads in the word w: it is there, and nothing else. The word is a u64, so it is below 2^64; Numbers.antt proves that every call's
--- number is below 2^8.
+-- What C reads in the word w: it is there, and nothing else. The word is a u64, so it is below 2^64; NumberFits of Numbers.antt says that
+-- every call's number is below 2^8.
 pub record Reads (w : ℕ) (a : Answer) : Type 0 where
   pub number : w % 2 ^ 8 ≡ a .number
   pub zero : w / 2 ^ 8 % 2 ^ 24 ≡ 0
   pub value : w / 2 ^ 32 ≡ a .value
 
-pub reads : (a : Answer) → a .number < 2 ^ 8 → word a < 2 ^ 64 → Reads (word a) a
-unfolding word
-reads a n w = record { number = omega arith; zero = omega arith; value = omega arith }
+-- The statement; WordLaws proves it.
+abbrev pub WordReads : Type 0
+WordReads = (a : Answer) → a .number < 2 ^ 8 → word a < 2 ^ 64 → Reads (word a) a

@@ -1,5 +1,5 @@
 // The answer of a call as one number: docs/BOUNDARY.md, "The answer". The number stands in bits 0 to 7, the value in bits 32 to 63.
-// The functions assume that the value fits there; specs/Numbers.antt proves that every call's does.
+// The functions assume that the value fits there; specs/NumberLaws.antt proves that every call's does.
 ghost use mathlib.Core.Path.{_≡_};
 ghost use Prim.Native.Nat.{_^_, _<_};
 ghost use Rattle.rules.specs.Answers.{answer as answerOf, verdictAnswer, signingAnswer, doneAnswer, tableAnswer};

@@ -1,5 +1,5 @@
--- Judging that has begun (src/begun.rt): what a value of the code's Begun stands for, once all is tested that needs no data. A reader need not
--- believe these: the calls cite the crate `rules` alone.
+-- Judging that has begun (src/begun.rt): what a value of the code's Begun stands for, once all is tested that needs no data. A reader need
+-- not believe these: the calls cite the crate `rules` alone.
 use Prim.Native.Nat.{ℕ, _≤_}
 use mathlib.Core.Path.{_≡_}
 use mathlib.Core.Bool.{Bool, cond}
@@ -62,12 +62,15 @@ JudgesSyn t a strict b =
 -- their tests by key
 abbrev pub Keyed : Tables → Connection → ℕ → List ℕ → Begun → Type 0
 Keyed t l reference s b =
-    Begins (first (keyTests (refuse 25) (refuse 26) (recvEntry t (l .pair) (keyId s)) (placeOn l reference (sequence s)) s) (goodAt (placeOn l reference (sequence s)) s))
+    Begins
+    (first (keyTests (refuse 25) (refuse 26) (recvEntry t (l .pair) (keyId s)) (placeOn l reference (sequence s)) s)
+    (goodAt (placeOn l reference (sequence s)) s))
     (recvEntry t (l .pair) (keyId s) .entry) (arriving l s) s b
 
 abbrev pub KeyedSyn : Tables → Pair → Bool → Flow → List ℕ → Begun → Type 0
 KeyedSyn t p strict f s b =
-    Begins (first (keyTests (synMissing t p) (synUnknown strict) (recvEntry t p (keyId s)) (At (sequence s)) s) (goodAt (At (sequence s)) s))
+    Begins
+    (first (keyTests (synMissing t p) (synUnknown strict) (recvEntry t p (keyId s)) (At (sequence s)) s) (goodAt (At (sequence s)) s))
     (recvEntry t p (keyId s) .entry) f s b
 
 -- data go into the MAC, and nothing else changes

@@ -7,7 +7,7 @@ use Rattle.rules.specs.Calls.{asked}
 use Rattle.states.specs.Layout.{decodeOf, encodeOf}
 use Rattle.boundary.specs.Word.{ofSettled}
 use Rattle.boundary.specs.Exports.{askExport}
-use Rattle.boundary.specs.Numbers.{asked-fits}
+use Rattle.boundary.specs.NumberLaws.{asked-fits}
 use Rattle.boundary.proofs.Exported.{left, other, whole, refused, done}
 use Rattle.boundary.proofs.calls.ask.Statement.{statement}
 use Rattle.boundary.proofs.calls.ask.Tie as tie

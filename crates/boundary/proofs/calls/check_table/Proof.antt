@@ -6,7 +6,7 @@ use Rattle.keys.specs.declared.table.Loaded.{Loaded}
 use Rattle.rules.specs.Answers.{tableAnswer}
 use Rattle.boundary.specs.Word.{word}
 use Rattle.boundary.specs.Exports.{checkTableExport, answers}
-use Rattle.boundary.specs.Numbers.{table-fits}
+use Rattle.boundary.specs.NumberLaws.{table-fits}
 use Rattle.boundary.proofs.calls.check_table.Statement.{statement}
 use Rattle.boundary.proofs.calls.check_table.Tie as tie
 

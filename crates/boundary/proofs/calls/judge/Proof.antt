@@ -8,7 +8,7 @@ use Rattle.rules.specs.Calls.{judged}
 use Rattle.states.specs.Layout.{decodeOf, encodeOf}
 use Rattle.boundary.specs.Word.{ofJudged}
 use Rattle.boundary.specs.Exports.{judgeExport}
-use Rattle.boundary.specs.Numbers.{judged-fits}
+use Rattle.boundary.specs.NumberLaws.{judged-fits}
 use Rattle.boundary.proofs.Exported.{left, other, whole, refused, done}
 use Rattle.boundary.proofs.calls.judge.Statement.{statement}
 use Rattle.boundary.proofs.calls.judge.Tie as tie

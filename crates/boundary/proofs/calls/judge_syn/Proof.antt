@@ -5,7 +5,7 @@ use borrow.Author.Needs.{needs}
 use Rattle.rules.specs.declared.Checked.{Checked}
 use Rattle.boundary.specs.Word.{word, ofChecked}
 use Rattle.boundary.specs.Exports.{judgeSynExport, answers}
-use Rattle.boundary.specs.Numbers.{judgedSyn-fits}
+use Rattle.boundary.specs.NumberLaws.{judgedSyn-fits}
 use Rattle.boundary.proofs.calls.judge_syn.Statement.{statement}
 use Rattle.boundary.proofs.calls.judge_syn.Tie as tie
 

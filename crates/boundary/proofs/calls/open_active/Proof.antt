@@ -9,7 +9,7 @@ use Rattle.rules.specs.Calls.{openedActively}
 use Rattle.states.specs.Layout.{encodeOf}
 use Rattle.boundary.specs.Word.{ofSettled}
 use Rattle.boundary.specs.Exports.{openActiveExport, opens}
-use Rattle.boundary.specs.Numbers.{active-fits}
+use Rattle.boundary.specs.NumberLaws.{active-fits}
 use Rattle.boundary.proofs.Exported.{left, other, whole, refused, done}
 use Rattle.boundary.proofs.calls.open_active.Statement.{statement}
 use Rattle.boundary.proofs.calls.open_active.Tie as tie

@@ -10,7 +10,7 @@ use Rattle.rules.specs.Calls.{openedPassively}
 use Rattle.states.specs.Layout.{encodeOf}
 use Rattle.boundary.specs.Word.{ofJudged}
 use Rattle.boundary.specs.Exports.{openPassiveExport, accepts, strictly}
-use Rattle.boundary.specs.Numbers.{opened-fits}
+use Rattle.boundary.specs.NumberLaws.{opened-fits}
 use Rattle.boundary.proofs.Exported.{left, other, whole, refused, done}
 use Rattle.boundary.proofs.calls.open_passive.Statement.{statement}
 use Rattle.boundary.proofs.calls.open_passive.Tie as tie

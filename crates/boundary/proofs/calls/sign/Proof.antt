@@ -7,7 +7,7 @@ use Rattle.rules.specs.Calls.{signed, output}
 use Rattle.states.specs.Layout.{decodeOf, encodeOf}
 use Rattle.boundary.specs.Word.{ofSigned}
 use Rattle.boundary.specs.Exports.{signExport, writes}
-use Rattle.boundary.specs.Numbers.{signed-fits}
+use Rattle.boundary.specs.NumberLaws.{signed-fits}
 use Rattle.boundary.proofs.Exported.{unchanged, made, other, whole, refused, done}
 use Rattle.boundary.proofs.calls.sign.Statement.{statement}
 use Rattle.boundary.proofs.calls.sign.Tie as tie

@@ -1,0 +1,90 @@
+-- A call that is refused, or only passes a SYN, leaves every buffer as it was, but for the count: the statements of Unchanged.antt,
+-- proved. Assumes of a state buffer that its bytes are below 256.
+use Prim.Native.Nat.{ℕ}
+use mathlib.Core.Path.{_≡_, refl, ap, _∙_}
+use mathlib.Core.Bool.{Bool, true, false, cond, _&&_}
+use mathlib.Core.List.{List}
+use native.Mathlib.Omega.{arith}
+use lib.ListN.{length}
+use borrow.Author.Tests.{eqb-true}
+use Rattle.octets.specs.Each.{Octets}
+use Rattle.rules.specs.declared.State.{State}
+use Rattle.rules.specs.Connection.{arrivalOf, isOpen, isCounted}
+use Rattle.rules.specs.Calls.{openedActively, asked, signed, output}
+use Rattle.rules.specs.History.{judge, sign, ask}
+use Rattle.rules.specs.Refusals.{on, byVerdict, bySigning, oneMore}
+use Rattle.rules.specs.RefusalLaws.{refusal}
+use Rattle.rules.specs.GivenNumberLaws.{judge-never-passes}
+use Rattle.states.specs.Layout.{isState, stateBytes, decodeOf, encodeOf}
+use Rattle.states.specs.LayoutLaws.{encode-decode}
+use Rattle.boundary.specs.Exports.{changed, stateAfter, accepts, opens, stateWhere}
+use Rattle.boundary.specs.Exports.{openPassiveExport, openActiveExport, judgeExport, signExport, askExport}
+use Rattle.boundary.specs.Unchanged.{OtherLength, passively, PassivelyRefused, PassivelyPassed, ActivelyRefused}
+use Rattle.boundary.specs.Unchanged.{judging, JudgeRefused, JudgePassesNone, SignRefused, AskRefused}
+
+pub other-length : OtherLength
+unfolding changed
+other-length b x y h = rw h
+
+-- an opening that did not open
+closed : (b : List ℕ) (q : State) (o : Bool) → o ≡ false → stateWhere b o q ≡ b
+unfolding changed
+closed b q o e = go (isState b) refl
+  where
+    go : (c : Bool) → isState b ≡ c → stateWhere b o q ≡ b
+    go true p = rw (p, e)
+    go false p = rw p
+
+pub passively-refused : PassivelyRefused
+unfolding openPassiveExport
+passively-refused t source destination segment isn setting b n e =
+    closed b (passively t source destination segment isn setting .state) _ (ap accepts e)
+
+pub passively-passed : PassivelyPassed
+unfolding openPassiveExport
+passively-passed t source destination segment isn setting b e =
+    closed b (passively t source destination segment isn setting .state) _ (ap accepts e)
+
+pub actively-refused : ActivelyRefused
+unfolding openActiveExport
+actively-refused t local remote localPort remotePort isn sendId b n e =
+    closed b (openedActively t local remote localPort remotePort isn sendId .state) _ (ap opens e)
+
+-- a state that is left alone is written as the bytes that it was read from
+alike : (b : List ℕ) → Octets b → (q : State) (c : Bool) (m : State) → q ≡ cond c m (decodeOf b) → stateAfter b q ≡ stateWhere b c m
+unfolding changed
+alike b o q c m e = go (isState b) c refl refl
+  where
+    go : (d k : Bool) → isState b ≡ d → c ≡ k → stateAfter b q ≡ stateWhere b c m
+    go false k p r = rw p
+    go true true p r = rw (p, r) (ap encodeOf (rw r at e))
+    go true false p r = rw (p, r) (ap encodeOf (rw r at e) ∙ encode-decode b (eqb-true (length b) stateBytes p) o)
+
+kept : (b : List ℕ) → Octets b → (q : State) → q ≡ decodeOf b → stateAfter b q ≡ b
+kept b o q e = alike b o q false q e ∙ closed b q false refl
+
+pub judge-refused : JudgeRefused
+unfolding judgeExport
+judge-refused b o t source destination segment n e =
+    let r = refusal (on (judge t (arrivalOf source destination segment)) (decodeOf b)) n (ap byVerdict e) in
+    alike b o (judging b t source destination segment .state)
+    (isOpen (decodeOf b .conn) && isCounted n) (oneMore n (decodeOf b)) (r .state)
+
+pub judge-passes-none : JudgePassesNone
+judge-passes-none b o t source destination segment e =
+    let z : _≡_ {A = ℕ} 0 1 = cc (rw e at (judge-never-passes t (arrivalOf source destination segment) (decodeOf b))) in
+    omega arith
+
+pub sign-refused : SignRefused
+unfolding changed signExport
+sign-refused b o t s out n e =
+    let u = refusal (on (sign t s out) (decodeOf b)) n (ap bySigning e) in
+    (kept b o (signed t s out (decodeOf b) .state) (u .state), go (isState b) refl (u .output))
+  where
+    go : (c : Bool) → isState b ≡ c → output t s out (decodeOf b) ≡ out → changed b (output t s out (decodeOf b)) out ≡ out
+    go true p u = rw p u
+    go false p u = rw p
+
+pub ask-refused : AskRefused
+unfolding askExport
+ask-refused b o t id n e = kept b o (asked t id (decodeOf b) .state) (refusal (on (ask t id) (decodeOf b)) n e .state)

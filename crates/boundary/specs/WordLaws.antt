@@ -1,0 +1,7 @@
+-- What C reads in an answer's word: the statement of Word.antt, proved. Assumes nothing.
+use native.Mathlib.Omega.{arith}
+use Rattle.boundary.specs.Word.{word, WordReads}
+
+pub reads : WordReads
+unfolding word
+reads a n w = record { number = omega arith; zero = omega arith; value = omega arith }
