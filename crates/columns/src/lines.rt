@@ -4,7 +4,7 @@ ghost use mathlib.Core.Path.{_≡_};
 ghost use Prim.Native.Nat.{_+_, _≤_, min};
 ghost use lib.Dec.{eqb};
 ghost use lib.ListN.{length, drop};
-ghost use Rattle.columns.specs.Lines.{before, lineAt, column as columnOf};
+ghost use Rattle.columns.specs.Lines.{before, lineAt, column as columnOf, isRemark};
 
 // The index of the first b from `at` on, or the length where there is none.
 pub fn find(s: &[u8], at: usize, b: u8) -> usize
@@ -64,7 +64,9 @@ pub fn ends(line: &[u8], k: usize) -> bool
 }
 
 // A line that only speaks to the reader.
-pub fn is_remark(line: &[u8]) -> bool {
+pub fn is_remark(line: &[u8]) -> bool
+    ensures { λ r. ⌜ r ≡ isRemark (now (line .entry)) ⌝ }
+{
     if line.len() == 0 {
         return false;
     }
