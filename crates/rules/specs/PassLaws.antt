@@ -1,23 +1,20 @@
 -- The statements of Passes.antt, proved.
 use Prim.Native.Nat.{ℕ}
-use mathlib.Core.Path.{_≡_, refl, ap, sym, _∙_}
-use mathlib.Core.Bool.{Bool, true, false, cond, not, _&&_, _||_}
+use mathlib.Core.Path.{_≡_, refl, ap, _∙_}
+use mathlib.Core.Bool.{Bool, true, false, cond}
 use native.Mathlib.Omega.{arith}
 use borrow.Author.Tests.{not-true}
-use Rattle.octets.specs.Tests.{any, first}
+use Rattle.octets.specs.Tests.{any}
 use Rattle.octets.specs.TestLaws.{first-passes}
-use Rattle.wire.specs.Header.{sequence, sizeFaults}
+use Rattle.wire.specs.Header.{sizeFaults}
 use Rattle.keys.specs.declared.table.Loaded.{Loaded}
 use Rattle.keys.specs.declared.table.Loaded.the-variants.{Valid, Refused}
 use Rattle.keys.specs.Table as K
 use Rattle.rules.specs.declared.Outcome.{Outcome}
 use Rattle.rules.specs.declared.Outcome.the-variants.{Good, Passed, Bad}
-use Rattle.rules.specs.declared.Verdict.{Verdict}
-use Rattle.rules.specs.declared.Verdict.the-variants.{Accept, Pass, Drop}
-use Rattle.rules.specs.Segment.{ao, md5, keyId, rnextKeyId}
+use Rattle.rules.specs.declared.Verdict.the-variants.{Pass, Drop}
 use Rattle.rules.specs.Connection.{Arrival, arrivalPair}
-use Rattle.rules.specs.Calls.{refuse, refusal, verdictOf, judgeSynTests, checkSyn, judgedSyn, openedPassively}
-use Rattle.rules.specs.Sentences.{synRows, firstOf}
+use Rattle.rules.specs.Calls.{refusal, verdictOf, judgeSynTests, checkSyn, judgedSyn, openedPassively}
 use Rattle.rules.specs.SentenceLaws.{syn-table}
 use Rattle.rules.specs.Passes.{JudgedUnmatched, OpenedUnmatched, UnknownKey, MatchedDropped, SettingDecides}
 
