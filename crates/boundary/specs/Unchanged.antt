@@ -1,6 +1,7 @@
 -- (boundary) "A call that is refused leaves every buffer as it was, but for a drop's count on an open connection", and "A passive opening
--- whose SYN is only passed is no refusal: it writes the empty state, all zero". The contracts say what stands in each buffer at exit; here are the statements that this is the sentence. UnchangedLaws proves them.
--- Assumes of a state buffer b that its bytes are below 256, as every byte is.
+-- whose SYN is only passed is no refusal: it writes the empty state, all zero". The contracts say what stands in each buffer at exit;
+-- here are the statements that this is the sentence. UnchangedLaws proves them. Assumes of a state buffer b that its bytes are below 256,
+-- as every byte is.
 use Prim.Native.Nat.{ℕ}
 use mathlib.Core.Path.{_≡_}
 use mathlib.Core.Bool.{true, false, _&&_}
