@@ -1,5 +1,5 @@
--- Which bare SYN is passed without a state, as statements: document 01, "A connection's life", with document 02, Ticket 2. What is passed, with or
--- without TCP-AO, matches no entry of the table. PassLaws proves them.
+-- Which bare SYN is passed without a state, as statements: document 01, "A connection's life", with document 02, Ticket 2. What is
+-- passed, with or without TCP-AO, matches no entry of the table. PassLaws proves them.
 use Prim.Native.Nat.{ℕ}
 use mathlib.Core.Path.{_≡_}
 use mathlib.Core.Bool.{Bool, true, false, cond}
