@@ -34,8 +34,7 @@ extern "C" {
  *
  *   no.  meaning
  *    0   accept, or done
- *    1   pass: a bare SYN without TCP-AO whose pair no entry matches, or, with setting 0, one
- *        whose KeyID no entry that matches the pair has as its RecvID
+ *    1   pass: a bare SYN whose pair no entry matches, without TCP-AO or, with setting 0, with it
  *
  *   The table of keys is refused:
  *   10   the entry is cut off before its end
@@ -83,8 +82,9 @@ extern "C" {
  * list. Of the table's entries the first that is refused counts; of one entry 12 comes first, then 11,
  * 10, 13, 14, 15, 16 and 17.
  *
- * A call that is refused (10 and above), or that only passes a SYN, leaves every buffer as it was, but
- * for one thing: drops 20 to 29 by tcpao_judge on an open connection add one to that number's count.
+ * A call that is refused (10 and above) leaves every buffer as it was, but for one thing: drops 20 to 29
+ * by tcpao_judge on an open connection add one to that number's count. A passive opening that only passes
+ * its SYN is not refused: it writes the empty state, all zero.
  */
 #define EMBANKERY_NUMBER(answer) ((unsigned)((uint64_t)(answer) & 255u))
 #define EMBANKERY_VALUE(answer) ((uint32_t)((uint64_t)(answer) >> 32))
@@ -154,9 +154,10 @@ extern "C" {
  * lower half and lies less than 2^31 from its direction's reference, if there is one; the extension is
  * the upper half. While opening a segment's position is its sequence number, and its extension 0.
  *
- * WARNING: an opening that is refused, or whose SYN is only passed, does not clear the buffer. One that
- * was used before still holds the old connection, and later calls would go on with that. Look at the
- * answer's number, and use a buffer of zeros for each opening.
+ * WARNING: an opening that is refused does not clear the buffer. One that was used before still holds the
+ * old connection, and later calls would go on with that. Look at the answer's number, and use a buffer of
+ * zeros for each opening. A passive opening whose SYN is only passed does clear it: all bytes are zero
+ * then, and later calls give 18.
  */
 #define EMBANKERY_STATE_BYTES 152
 
@@ -188,8 +189,9 @@ uint64_t tcpao_open_active(const uint8_t *table, size_t table_len, const uint8_t
 /* Judges a bare SYN (SYN set, ACK clear) without a state. source and destination are the segment's, so
  * source is the peer.
  *
- * Without TCP-AO it gets 25 if any entry matches the pair, else 1. With TCP-AO whose KeyID has no entry
- * for the pair, setting decides: 0 gives 1 (pass), any other value gives 26.
+ * Without TCP-AO it gets 25 if any entry matches the pair, else 1. With TCP-AO whose KeyID no entry for
+ * the pair has, it gets 26 if any entry matches the pair, whatever setting is. Only where no entry matches
+ * the pair does setting decide: 0 gives 1 (pass), any other value gives 26.
  *
  * Gives 0 with the extension, which is 0; or 1, 19, 10 to 17, 20 to 22, 24 to 27, 29. Writes nothing.
  *
@@ -205,7 +207,7 @@ uint64_t tcpao_judge_syn(const uint8_t *table, size_t table_len, const uint8_t *
  * outgoing key, as at tcpao_judge.
  *
  * Gives what tcpao_judge_syn gives, or 18 (of state_len only) before all others. Writes all of state where
- * it gives 0; else state stays, also where it gives 1: see the warning above.
+ * it gives 0, and where it gives 1: then all zero, the empty state. Else state stays: see the warning above.
  *
  * C needs: pointers good for their lengths; state overlaps neither table, source, destination nor segment.
  */

@@ -32,23 +32,30 @@ changed b x y = cond (isState b) x y
 abbrev pub stateAfter : List ℕ → State → List ℕ
 stateAfter b q = changed b (encodeOf q) b
 
--- (boundary) "A call that is refused, or only passes a SYN, leaves every buffer as it was": an opening writes its state only where it
--- opened. The other calls write the state back that they return; Unchanged.antt says that a refusal then leaves every byte, but for the
+-- (boundary) "A call that is refused leaves every buffer as it was": an opening writes the state that it returns only where it is not
+-- refused. The other calls write the state back that they return; Unchanged.antt says that a refusal then leaves every byte, but for the
 -- count
 abbrev pub stateWhere : List ℕ → Bool → State → List ℕ
-stateWhere b opened q = changed b (cond opened (encodeOf q) b) b
+stateWhere b written q = changed b (cond written (encodeOf q) b) b
 
--- whether a passive opening opened, and an active one
+-- whether a segment is accepted
 abbrev pub accepts : Verdict → Bool
 accepts (Accept e) = true
 accepts Pass = false
 accepts (Drop n) = false
 
+-- whether a passive opening is not refused: "A passive opening whose SYN is only passed is no refusal: it writes the empty state, all zero"
+abbrev pub settles : Verdict → Bool
+settles (Accept e) = true
+settles Pass = true
+settles (Drop n) = false
+
+-- whether an active one is not
 abbrev pub opens : Done → Bool
 opens D.Done = true
 opens (D.Refused n) = false
 
--- "`setting` says what a bare SYN with TCP-AO gets where no entry has its KeyID: 0 pass, any other value drop 26."
+-- "`setting` says what a bare SYN with TCP-AO gets where no entry matches its pair: 0 pass, any other value drop 26."
 abbrev pub strictly : ℕ → Bool
 strictly setting = not (eqb setting 0)
 
@@ -73,7 +80,7 @@ abbrev pub afterJudged : List ℕ → Judged → Export
 afterJudged b j = leaves (answered b (ofJudged j)) (stateAfter b (j .state))
 
 abbrev pub afterOpenedPassively : List ℕ → Judged → Export
-afterOpenedPassively b j = leaves (answered b (ofJudged j)) (stateWhere b (accepts (j .verdict)) (j .state))
+afterOpenedPassively b j = leaves (answered b (ofJudged j)) (stateWhere b (settles (j .verdict)) (j .state))
 
 abbrev pub afterOpenedActively : List ℕ → Settled → Export
 afterOpenedActively b s = leaves (answered b (ofSettled s)) (stateWhere b (opens (s .answer)) (s .state))

@@ -30,6 +30,7 @@ use Rattle.rules.specs.Connection.{Arrival, arrivalPair, pairOf, empty}
 use Rattle.rules.specs.Calls.{refuse, isRefused, refusal, verdictOf, indexOf, judgeTests, check, judged, judgeSynTests, checkSyn}
 use Rattle.rules.specs.Calls.{judgedSyn, openedPassively, unrefused, settledBy, openTests, openedWith, openedActively, askTests, asked}
 use Rattle.rules.specs.Calls.{outgoing, signTests, checkSign, signed}
+use Rattle.rules.specs.GroupLaws.{unknown-passes}
 use Rattle.rules.specs.SigningLaws.{signs-good}
 use Rattle.rules.specs.History.{judge, sign, ask}
 use Rattle.rules.specs.Refusals.{on, judgeSyn, openPassively, openActively, byVerdict, bySigning}
@@ -94,7 +95,7 @@ checkSyn-fits : (t : K.Tables) (a : Arrival) (strict : Bool) → fits (checkSyn 
 unfolding checkSyn
 checkSyn-fits t a strict =
     first-passes fits (judgeSynTests t a strict) _
-    (rw (refusal-fits t, refused-fits (K.anyEntry t (arrivalPair a)) 25 refl, refused-fits strict 26 refl)) refl
+    (rw (refusal-fits t, refused-fits (K.anyEntry t (arrivalPair a)) 25 refl, unknown-passes fits t (arrivalPair a) strict refl refl)) refl
 
 settled-fits : (l : List (Test Outcome)) → eachGives fits l ≡ true → fits (first l unrefused) ≡ true
 settled-fits l e = first-passes fits l unrefused e refl

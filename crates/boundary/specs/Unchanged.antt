@@ -1,10 +1,12 @@
--- (boundary) "A call that is refused, or only passes a SYN, leaves every buffer as it was, but for a drop's count on an open connection."
--- The contracts say what stands in each buffer at exit; here are the statements that this is the sentence. UnchangedLaws proves them.
--- Assumes of a state buffer b that its bytes are below 256, as every byte is.
+-- (boundary) "A call that is refused leaves every buffer as it was, but for a drop's count on an open connection", and "A passive opening
+-- whose SYN is only passed is no refusal: it writes the empty state, all zero". The contracts say what stands in each buffer at exit;
+-- here are the statements that this is the sentence. UnchangedLaws proves them. Assumes of a state buffer b that its bytes are below 256,
+-- as every byte is.
 use Prim.Native.Nat.{ℕ}
 use mathlib.Core.Path.{_≡_}
-use mathlib.Core.Bool.{false, _&&_}
+use mathlib.Core.Bool.{true, false, _&&_}
 use mathlib.Core.List.{List}
+use lib.ListN.{replicate}
 use Rattle.octets.specs.Each.{Octets}
 use Rattle.keys.specs.Table.{Tables}
 use Rattle.rules.specs.declared.Verdict.the-variants.{Pass, Drop}
@@ -14,7 +16,7 @@ use Rattle.rules.specs.declared.Judged.{Judged}
 use Rattle.rules.specs.Connection.{arrivalOf, isOpen, isCounted}
 use Rattle.rules.specs.Calls.{judged, openedPassively, openedActively, asked, signed}
 use Rattle.rules.specs.Refusals.{oneMore}
-use Rattle.states.specs.Layout.{isState, decodeOf}
+use Rattle.states.specs.Layout.{isState, stateBytes, decodeOf}
 use Rattle.boundary.specs.Exports.{changed, stateWhere, strictly}
 use Rattle.boundary.specs.Exports.{openPassiveExport, openActiveExport, judgeExport, signExport, askExport}
 
@@ -22,7 +24,7 @@ use Rattle.boundary.specs.Exports.{openPassiveExport, openActiveExport, 
 abbrev pub OtherLength : Type 0
 OtherLength = (b x y : List ℕ) → isState b ≡ false → changed b x y ≡ y
 
--- An opening that is refused, or whose SYN is only passed.
+-- An opening that is refused, and one whose SYN is only passed.
 
 -- what the call of `tcpao` returns
 abbrev pub passively : Tables → (source destination segment : List ℕ) (isn setting : ℕ) → Judged
@@ -36,8 +38,8 @@ PassivelyRefused = (t : Tables) (source destination segment : List ℕ) (isn set
 
 abbrev pub PassivelyPassed : Type 0
 PassivelyPassed = (t : Tables) (source destination segment : List ℕ) (isn setting : ℕ) (b : List ℕ)
-    → passively t source destination segment isn setting .verdict ≡ Pass
-    → openPassiveExport t source destination segment isn setting b .state ≡ b
+    → isState b ≡ true → passively t source destination segment isn setting .verdict ≡ Pass
+    → openPassiveExport t source destination segment isn setting b .state ≡ replicate stateBytes 0
 
 abbrev pub ActivelyRefused : Type 0
 ActivelyRefused = (t : Tables) (local remote : List ℕ) (localPort remotePort isn sendId : ℕ) (b : List ℕ) (n : ℕ)

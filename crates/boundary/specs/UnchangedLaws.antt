@@ -1,23 +1,23 @@
--- A call that is refused, or only passes a SYN, leaves every buffer as it was, but for the count: the statements of Unchanged.antt,
--- proved. Assumes of a state buffer that its bytes are below 256.
+-- A call that is refused leaves every buffer as it was, but for the count, and a SYN that is only passed leaves the empty state: the
+-- statements of Unchanged.antt, proved. Assumes of a state buffer that its bytes are below 256.
 use Prim.Native.Nat.{ℕ}
 use mathlib.Core.Path.{_≡_, refl, ap, _∙_}
 use mathlib.Core.Bool.{Bool, true, false, cond, _&&_}
 use mathlib.Core.List.{List}
 use native.Mathlib.Omega.{arith}
-use lib.ListN.{length}
+use lib.ListN.{length, replicate}
 use borrow.Author.Tests.{eqb-true}
 use Rattle.octets.specs.Each.{Octets}
 use Rattle.rules.specs.declared.State.{State}
-use Rattle.rules.specs.Connection.{arrivalOf, isOpen, isCounted}
+use Rattle.rules.specs.Connection.{arrivalOf, isOpen, isCounted, empty}
 use Rattle.rules.specs.Calls.{openedActively, asked, signed, output}
 use Rattle.rules.specs.History.{judge, sign, ask}
 use Rattle.rules.specs.Refusals.{on, byVerdict, bySigning, oneMore}
-use Rattle.rules.specs.RefusalLaws.{refusal}
+use Rattle.rules.specs.RefusalLaws.{refusal, passed-empty}
 use Rattle.rules.specs.GivenNumberLaws.{judge-never-passes}
-use Rattle.states.specs.Layout.{isState, stateBytes, decodeOf, encodeOf}
+use Rattle.states.specs.Layout.{isState, stateBytes, decodeOf, wordBytes, rows, joined, encodeOf}
 use Rattle.states.specs.LayoutLaws.{encode-decode}
-use Rattle.boundary.specs.Exports.{changed, stateAfter, accepts, opens, stateWhere}
+use Rattle.boundary.specs.Exports.{changed, stateAfter, settles, opens, stateWhere, strictly}
 use Rattle.boundary.specs.Exports.{openPassiveExport, openActiveExport, judgeExport, signExport, askExport}
 use Rattle.boundary.specs.Unchanged.{OtherLength, passively, PassivelyRefused, PassivelyPassed, ActivelyRefused}
 use Rattle.boundary.specs.Unchanged.{judging, JudgeRefused, JudgePassesNone, SignRefused, AskRefused}
@@ -35,15 +35,26 @@ closed b q o e = go (isState b) refl
     go true p = rw (p, e)
     go false p = rw p
 
+-- every byte of the empty state is zero
+empty-zeros : encodeOf empty ≡ replicate stateBytes 0
+unfolding encodeOf joined rows wordBytes
+empty-zeros = refl
+
+-- one that wrote the empty state
+cleared : (b : List ℕ) (q : State) (o : Bool) → isState b ≡ true → o ≡ true → q ≡ empty → stateWhere b o q ≡ replicate stateBytes 0
+unfolding changed
+cleared b q o h e p = rw (h, e) (ap encodeOf p ∙ empty-zeros)
+
 pub passively-refused : PassivelyRefused
 unfolding openPassiveExport
 passively-refused t source destination segment isn setting b n e =
-    closed b (passively t source destination segment isn setting .state) _ (ap accepts e)
+    closed b (passively t source destination segment isn setting .state) _ (ap settles e)
 
 pub passively-passed : PassivelyPassed
 unfolding openPassiveExport
-passively-passed t source destination segment isn setting b e =
-    closed b (passively t source destination segment isn setting .state) _ (ap accepts e)
+passively-passed t source destination segment isn setting b h e =
+    cleared b (passively t source destination segment isn setting .state) _ h (ap settles e)
+    (passed-empty t (arrivalOf source destination segment) isn (strictly setting) e)
 
 pub actively-refused : ActivelyRefused
 unfolding openActiveExport

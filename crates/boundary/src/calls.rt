@@ -1,7 +1,7 @@
 // The calls on a key table and on a connection: docs/BOUNDARY.md, "The calls" and "The state". Each turns the lent bytes into a state,
 // makes the call of the crate `tcpao`, and turns the state back. Assumes nothing.
 ghost use mathlib.Core.Path.{_≡_};
-ghost use Rattle.boundary.specs.Exports.{accepts as acceptsOf, opens as opensOf, answers, leaves, writes};
+ghost use Rattle.boundary.specs.Exports.{settles as settlesOf, opens as opensOf, answers, leaves, writes};
 ghost use Rattle.boundary.specs.Exports.{checkTableExport, openActiveExport, judgeSynExport, openPassiveExport};
 ghost use Rattle.boundary.specs.Exports.{judgeExport, signExport, askExport};
 use crate::answer::of_done;
@@ -19,13 +19,13 @@ use states::state::decode;
 // The number for a state buffer of another length.
 const WRONG_STATE: u8 = 18;
 
-// Whether a passive opening opened, and an active one.
-fn accepts(verdict: Verdict) -> bool
-    ensures { λ r. ⌜ r ≡ acceptsOf verdict ⌝ }
+// Whether a passive opening is not refused, and an active one.
+fn settles(verdict: Verdict) -> bool
+    ensures { λ r. ⌜ r ≡ settlesOf verdict ⌝ }
 {
     match verdict {
         Verdict::Accept(_) => true,
-        Verdict::Pass => false,
+        Verdict::Pass => true,
         Verdict::Drop(_) => false,
     }
 }
@@ -87,7 +87,7 @@ pub fn judge_syn(
     of_verdict(verdict, r.index)
 }
 
-// Judges the bare SYN again and, only on accept, opens and writes the state.
+// Judges the bare SYN again and, only on accept, opens. Writes the state that it opened, or the empty one where the SYN is only passed.
 pub fn open_passive(
     table: &[u8],
     source: &[u8],
@@ -107,7 +107,7 @@ pub fn open_passive(
     let r = tcpao::judge::open_passive(table, source, destination, segment, isn, setting != 0);
     let verdict = r.verdict;
     let opened = r.state;
-    put_where(state, accepts(verdict), opened);
+    put_where(state, settles(verdict), opened);
     of_verdict(verdict, r.index)
 }
 

@@ -70,7 +70,7 @@ Keyed t l reference s b =
 abbrev pub KeyedSyn : Tables → Pair → Bool → Flow → List ℕ → Begun → Type 0
 KeyedSyn t p strict f s b =
     Begins
-    (first (keyTests (synMissing t p) (synUnknown strict) (recvEntry t p (keyId s)) (At (sequence s)) s) (goodAt (At (sequence s)) s))
+    (first (keyTests (synMissing t p) (synUnknown t p strict) (recvEntry t p (keyId s)) (At (sequence s)) s) (goodAt (At (sequence s)) s))
     (recvEntry t p (keyId s) .entry) f s b
 
 -- data go into the MAC, and nothing else changes

@@ -9,6 +9,7 @@ use Rattle.wire.specs.Bytes.{sameBytes}
 use Rattle.wire.specs.Header.{sequence, headerEnd}
 use Rattle.keys.specs.declared.entry.Entry.{Entry}
 use Rattle.keys.specs.declared.entry.Ids.{Ids}
+use Rattle.keys.specs.declared.entry.Pair.{Pair}
 use Rattle.keys.specs.Table.{Tables, checked, recvEntry, anyEntry}
 use Rattle.rules.specs.declared.Connection.{Connection}
 use Rattle.rules.specs.declared.Place.{Place}
@@ -20,7 +21,8 @@ use Rattle.octets.specs.TestLaws.{first-none, first-append, first-joined, eachG
 use Rattle.rules.specs.Mac.{Flow, front, segmentMac}
 use Rattle.rules.specs.Segment.{aoAt, keyId, macIn}
 use Rattle.rules.specs.Connection.{Arrival, arrivalPair, arriving, arrivingSyn, placeOn, value, extensionOf}
-use Rattle.rules.specs.Calls.{refuse, macTests, Groups, inOrder, judgeGroups, check, synMissing, synUnknown, synGroups, checkSyn}
+use Rattle.rules.specs.Calls.{refuse, macTests, Groups, inOrder, judgeGroups, check, synUnknown, synGroups, checkSyn}
+use Rattle.rules.specs.GroupLaws.{unknown-passes}
 use Rattle.traffic.specs.MacContext.{macView, macAbsorb, macFinished}
 use Rattle.traffic.specs.TagLaws.{tagged, tag-mac}
 use Rattle.checks.specs.Groups.{untilMac, goodAt}
@@ -98,9 +100,8 @@ pub missing-final : (b : Bool) → isFinal (cond b (refuse 25) Passed) ≡ true
 missing-final true = refl
 missing-final false = refl
 
-pub unknown-final : (b : Bool) → isFinal (synUnknown b) ≡ true
-unknown-final true = refl
-unknown-final false = refl
+pub unknown-final : (t : Tables) (p : Pair) (strict : Bool) → isFinal (synUnknown t p strict) ≡ true
+unknown-final t p strict = unknown-passes isFinal t p strict refl refl
 
 module _ (t : Tables) (a : Arrival) (strict : Bool) (b : Begun) (begins : JudgesSyn t a strict b) {o : Outcome}
     (gave : o ≡ ended (b .outcome) (agrees b (macAbsorb (macView (b .mac)) (drop (headerEnd (a .segment)) (a .segment))))) where
@@ -108,7 +109,7 @@ module _ (t : Tables) (a : Arrival) (strict : Bool) (b : Begun) (begins : Judges
   unfolding checkSyn
   syn-ends =
       ends (synGroups t a strict) (At (sequence (a .segment))) (recvEntry t (arrivalPair a) (keyId (a .segment)) .entry) (arrivingSyn a) (a .segment) refl
-      (rw (refusal-final (checked t), missing-final (anyEntry t (arrivalPair a)), unknown-final strict)) b begins gave
+      (rw (refusal-final (checked t), missing-final (anyEntry t (arrivalPair a)), unknown-final t (arrivalPair a) strict)) b begins gave
 
   -- the entry found is the one that opens
   pub syn-ids : {x r : ℕ} → o ≡ Good x r → b .ids ≡ recvEntry t (arrivalPair a) (keyId (a .segment)) .entry .ids

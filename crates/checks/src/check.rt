@@ -1,13 +1,13 @@
 // Which number an arriving segment gets, or its position: document 01, "Numbers given back", with a state and without one. Nothing here
 // writes a state. The two checks assume nothing. What a step assumes is what the tests before it left.
 ghost use mathlib.Core.Path.{_≡_};
-ghost use mathlib.Core.Bool.{true, false, cond};
+ghost use mathlib.Core.Bool.{true, false, cond, _||_};
 ghost use Rattle.wire.specs.Header.{sequence as sequenceOf, wellSized, headerOf};
 ghost use lib.ListN.{length};
 ghost use Rattle.keys.specs.Table.{checked, recvEntry};
 ghost use Rattle.rules.specs.Segment.{ao, keyId};
 ghost use Rattle.rules.specs.Connection.{sized, arrivalOf, arrivalPair, isOpen};
-ghost use Rattle.rules.specs.Calls.{isRefused, synMissing, synUnknown, check as checkOf, checkSyn};
+ghost use Rattle.rules.specs.Calls.{isRefused, refuse, check as checkOf, checkSyn};
 ghost use Rattle.traffic.specs.Flow.{flowOf};
 ghost use Rattle.checks.specs.Groups.{arrivingOn};
 ghost use Rattle.checks.specs.Begin.{Judges, JudgesSyn, Keyed, KeyedSyn};
@@ -134,21 +134,22 @@ pub fn check(
     finished(begun, segment)
 }
 
-// "Bare SYN without TCP-AO: 25 if any entry matches the pair, otherwise pass."
-fn syn_missing(table: &[u8], pair: Pair) -> Outcome
-    ensures { λ r. ⌜ r ≡ synMissing (now (table .entry)) pair ⌝ }
+// "Bare SYN without TCP-AO: 25 if any entry matches the pair, otherwise pass." `matched` says whether any does.
+fn syn_missing(matched: bool) -> Outcome
+    ensures { λ r. ⌜ r ≡ cond matched (refuse 25) Outcome.Passed ⌝ }
 {
-    if keys::table::any_match(table, pair) {
+    if matched {
         return Outcome::Bad(25, 0);
     }
     Outcome::Passed
 }
 
-// A bare SYN with an unknown KeyID: "a setting decides: pass (the RFC's first default) or drop 26".
-fn syn_unknown(strict: bool) -> Outcome
-    ensures { λ r. ⌜ r ≡ synUnknown strict ⌝ }
+// A bare SYN with an unknown KeyID. Document 02, Ticket 2: "drop 26 is given whenever any entry matches the pair and none has the KeyID;
+// the setting decides only where no entry matches the pair."
+fn syn_unknown(matched: bool, strict: bool) -> Outcome
+    ensures { λ r. ⌜ r ≡ cond (matched || strict) (refuse 26) Outcome.Passed ⌝ }
 {
-    if strict {
+    if matched || strict {
         return Outcome::Bad(26, 0);
     }
     Outcome::Passed
@@ -186,9 +187,10 @@ fn keyed_syn(table: &[u8], segment: &[u8], header: Header, pair: Pair, strict: b
     let found = entry_for(table, pair, option, segment);
     let number = header.sequence;
     let flow = arriving_flow(pair, number, 0);
+    let matched = keys::table::any_match(table, pair);
     by_key(
-        syn_missing(table, pair),
-        syn_unknown(strict),
+        syn_missing(matched),
+        syn_unknown(matched, strict),
         found,
         flow,
         own_place(number),

@@ -264,10 +264,12 @@ module _ (q : State) (typed : Typed q) (opening : isOpen (q .conn) ≡ false) (e
           destinationIsn = ap (λ (w : Bool). cond w (q .conn .«peer_isn») 0) (sym opening) j;
         }
 
-        keys : NoneApplies (keyTests (synMissing t (arrivalPair synArrival)) (synUnknown strict) (recvEntry t (arrivalPair synArrival) (keyId syn-came)) (At (sequence syn-came)) syn-came)
+        keys : NoneApplies (keyTests (synMissing t (arrivalPair synArrival)) (synUnknown t (arrivalPair synArrival) strict)
+            (recvEntry t (arrivalPair synArrival) (keyId syn-came)) (At (sequence syn-came)) syn-came)
             × NoneApplies (macTests (recvEntry t (arrivalPair synArrival) (keyId syn-came) .entry) (arrivingSyn synArrival) (At (sequence syn-came)) syn-came)
         keys =
-            keyed q e x b g c d (synMissing t (arrivalPair synArrival)) (synUnknown strict) i ours (arrivingSyn synArrival) (sequence syn-came)
+            keyed q e x b g c d (synMissing t (arrivalPair synArrival)) (synUnknown t (arrivalPair synArrival) strict) i ours
+            (arrivingSyn synArrival) (sequence syn-came)
             (recvEntry t (arrivalPair synArrival) (keyId syn-came)) (agree-of (arrivalPair synArrival) (q .conn .pair) ours e mirror)
             syn-found flow (ap extensionOf (syn-number ∙ sym (syn-at q e x b g its-syn)))
 

@@ -1,7 +1,7 @@
 -- Every call of document 01, for every input: its numbers in order, of which the first that applies is given; then the answer, the new
 -- state, and every byte of the output.
 use Prim.Native.Nat.{ℕ, _+_}
-use mathlib.Core.Bool.{Bool, true, false, cond, not, _&&_}
+use mathlib.Core.Bool.{Bool, true, false, cond, not, _&&_, _||_}
 use mathlib.Core.List.{List, [], _∷_, _++_}
 use lib.ListN.{length, drop, replicate}
 use lib.Dec.{eqb, ltb}
@@ -158,12 +158,14 @@ check t l reference a =
     first (judgeTests t l reference a) (Good (value (placeOn l reference (sequence (a .segment)))) (rnextKeyId (a .segment)))
 
 -- a bare SYN, without a state. "Bare SYN without TCP-AO: 25 if any entry matches the pair, otherwise pass. Bare SYN with TCP-AO: the
--- entry is found by pair and KeyID = RecvID. If there is none, a setting decides: pass (the RFC's first default) or drop 26."
+-- entry is found by pair and KeyID = RecvID."
 abbrev pub synMissing : Tables → Pair → Outcome
 synMissing t p = cond (anyEntry t p) (refuse 25) Passed
 
-abbrev pub synUnknown : Bool → Outcome
-synUnknown strict = cond strict (refuse 26) Passed
+-- Document 02, Ticket 2: "drop 26 is given whenever any entry matches the pair and none has the KeyID; the setting decides only where no
+-- entry matches the pair": pass, or drop 26.
+abbrev pub synUnknown : Tables → Pair → Bool → Outcome
+synUnknown t p strict = cond (anyEntry t p || strict) (refuse 26) Passed
 
 abbrev pub synGroups : Tables → Arrival → Bool → Groups
 synGroups t a strict =
@@ -173,8 +175,8 @@ synGroups t a strict =
       form = formTests (a .segment);
       arrival = synTests (a .segment);
       key =
-          keyTests (synMissing t (arrivalPair a)) (synUnknown strict) (recvEntry t (arrivalPair a) (keyId (a .segment)))
-          (At (sequence (a .segment))) (a .segment);
+          keyTests (synMissing t (arrivalPair a)) (synUnknown t (arrivalPair a) strict)
+          (recvEntry t (arrivalPair a) (keyId (a .segment))) (At (sequence (a .segment))) (a .segment);
       mac = macTests (recvEntry t (arrivalPair a) (keyId (a .segment)) .entry) (arrivingSyn a) (At (sequence (a .segment))) (a .segment);
     }
 

@@ -28,6 +28,7 @@ use Rattle.rules.specs.Calls.{refuse, isRefused, refusal, verdictOf, jud
 use Rattle.rules.specs.Calls.{openedPassively, unrefused, settledBy, openTests, openedWith, openedActively, askTests, asked, outgoing}
 use Rattle.rules.specs.Calls.{signTests, checkSign, signedBy, signed}
 use Rattle.rules.specs.History.{judge, sign, ask}
+use Rattle.rules.specs.GroupLaws.{unknown-passes}
 use Rattle.rules.specs.Refusals.{Request, on, judgeSyn, openPassively, openActively, byVerdict, bySigning}
 use Rattle.rules.specs.GivenNumbers.{among, tableNumbers, judgeNumbers, synNumbers, signNumbers, askNumbers, openNumbers, numbersOf}
 use Rattle.rules.specs.GivenNumbers.{Within, isPass, RefusedAmong, RefusedBounds, CheckedWithin, TableBounds, JudgeNeverPasses}
@@ -119,7 +120,7 @@ table-only pass l t e = go (K.checked t) (checked-within t)
     go (Valid n) w = or-true (among 0 l)
     go (Refused n i) w = rw (among-every (λ (m : ℕ). among m l) n tableNumbers e (w .0))
 
--- 25 and 26 of a bare SYN, or pass
+-- 25 of a bare SYN, or pass
 pass-only : (l : List ℕ) (b : Bool) (n : ℕ) → among n l ≡ true → only true l (cond b (refuse n) Passed) ≡ true
 pass-only l true n e = e
 pass-only l false n e = refl
@@ -131,8 +132,10 @@ check-only t l reference a = first-only false judgeNumbers (judgeTests t l refer
 pub checkSyn-only : (t : K.Tables) (a : Arrival) (strict : Bool) → only true synNumbers (checkSyn t a strict) ≡ true
 unfolding checkSyn
 checkSyn-only t a strict =
+    let missing = pass-only synNumbers (K.anyEntry t (arrivalPair a)) 25 refl in
+    let unknown = unknown-passes (only true synNumbers) t (arrivalPair a) strict refl refl in
     first-only true synNumbers (judgeSynTests t a strict) _
-    (rw (table-only true synNumbers t refl, pass-only synNumbers (K.anyEntry t (arrivalPair a)) 25 refl, pass-only synNumbers strict 26 refl)) refl
+    (rw (table-only true synNumbers t refl, missing, unknown)) refl
 
 pub checkSign-only : (t : K.Tables) (s : List ℕ) (room : ℕ) (q : State) → only false signNumbers (checkSign t s room q) ≡ true
 unfolding checkSign

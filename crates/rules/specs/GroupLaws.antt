@@ -1,14 +1,17 @@
 -- What the groups of tests leave, each by its name: nothing here or above says at which place a test stands.
 -- Assumes nothing.
 use Prim.Native.Nat.{ℕ}
-use mathlib.Core.Path.{_≡_, ap}
-use mathlib.Core.Bool.{not, true, false}
+use mathlib.Core.Path.{_≡_, refl, ap}
+use mathlib.Core.Bool.{Bool, not, true, false}
 use mathlib.Core.List.{List, _∷_}
 use Rattle.octets.specs.Tests.{any, joined, first}
 use Rattle.wire.specs.Header.{sizeFaults, wellSized}
+use Rattle.keys.specs.declared.entry.Pair.{Pair}
+use Rattle.keys.specs.Table.{Tables, anyEntry}
 use Rattle.rules.specs.declared.Outcome.{Outcome}
+use Rattle.rules.specs.declared.Outcome.the-variants.{Passed}
 use Rattle.octets.specs.TestLaws.{NoneApplies, first-none, first-past, none-any, none-joined, joined-none}
-use Rattle.rules.specs.Calls.{refuse, lengthTests, Groups, segmentGroups, inOrder}
+use Rattle.rules.specs.Calls.{refuse, lengthTests, Groups, segmentGroups, inOrder, synUnknown}
 
 -- no test of any group applies
 pub record Clear (g : Groups) : Type 0 where
@@ -35,6 +38,17 @@ module _ (g : Groups) where
   -- a right input leaves it to the segment
   pub past-input : (o : Outcome) → NoneApplies (g .input) → first (inOrder g) o ≡ first (joined (segmentGroups g)) o
   past-input o n = first-past (g .input) (joined (segmentGroups g)) o n
+
+-- a bare SYN whose KeyID is unknown gets 26 or pass: what holds of both, holds of that
+pub unknown-passes : (f : Outcome → Bool) (t : Tables) (p : Pair) (strict : Bool) → f (refuse 26) ≡ true → f Passed ≡ true
+    → f (synUnknown t p strict) ≡ true
+unknown-passes f t p strict n y = go (anyEntry t p) strict refl refl
+  where
+    go : (b s : Bool) → anyEntry t p ≡ b → strict ≡ s → f (synUnknown t p strict) ≡ true
+    go true true e d = cc
+    go true false e d = cc
+    go false true e d = cc
+    go false false e d = cc
 
 -- 20 leaves a segment of a right size
 pub sized-of : (n : ℕ) (s : List ℕ) → NoneApplies (lengthTests n s) → wellSized s ≡ true

@@ -1,5 +1,6 @@
 -- The demands are not empty: one connection across a rollover, with a true arrival and one of the other kind, of which demand 3 holds; and
--- a bare SYN that demand 2 accepts. As statements, with the MAC shut: it is whatever it is. InhabitedLaws proves them.
+-- a bare SYN that demand 2 accepts; and one whose KeyID is unknown. As statements, with the MAC shut: it is whatever it is. InhabitedLaws
+-- proves them.
 use Prim.Native.Nat.{ℕ}
 use mathlib.Core.Path.{_≡_}
 use mathlib.Core.Bool.{true, false}
@@ -8,12 +9,14 @@ use lib.ListN.{replicate}
 use Rattle.keys.specs.declared.entry.Entry.{Entry}
 use Rattle.keys.specs.declared.entry.Pair.{Pair}
 use Rattle.keys.specs.Entry.{entryOf}
-use Rattle.rules.specs.declared.Verdict.the-variants.{Accept}
+use Rattle.keys.specs.Table.{anyEntry}
+use Rattle.rules.specs.declared.Verdict.the-variants.{Accept, Pass, Drop}
 use Rattle.rules.specs.declared.State.{State}
 use Rattle.rules.specs.Connection.{Arrival, arrivalPair, isOpen, localAddress, remoteAddress, slots}
 use Rattle.rules.specs.Calls.{judgedSyn, signedSegment}
 use Rattle.rules.specs.Ends.{Typed, Delivered, SignedAt, Holds, rechecked, TrueSegment, Verifies}
 use Rattle.rules.specs.Demand3.{Arriving, real, other, Given, Demand3}
+use Rattle.rules.specs.Passes.{UnknownKey}
 
 -- a table of one entry for every IPv4 pair, HMAC-SHA-1-96, all options covered, the key 01 02
 abbrev pub table : ℕ → ℕ → List ℕ
@@ -134,3 +137,20 @@ pub record BareSynNotEmpty : Type 0 where
   pub delivered : Delivered (localAddress (opener .conn .pair)) (remoteAddress (opener .conn .pair)) synBytes (fromThem synBytes)
   pub holds : Holds ourTable (arrivalPair (fromThem synBytes)) (opener .conn .pair) theirEntry
   pub accepted : judgedSyn ourTable (fromThem synBytes) true ≡ record { verdict = Accept 0; index = 0 }
+
+-- A bare SYN with the KeyID 85, where our one entry has the RecvID 84.
+
+abbrev pub unknownSyn : Arrival
+unknownSyn =
+    fromThem
+    ((0 ∷ 179 ∷ 233 ∷ 215 ∷ 255 ∷ 255 ∷ 255 ∷ 240 ∷ 0 ∷ 0 ∷ 0 ∷ 0 ∷ 144 ∷ 2 ∷ 128 ∷ 0 ∷ 0 ∷ 0 ∷ 0 ∷ 0 ∷ 29 ∷ 16 ∷ 85 ∷ 61 ∷ [])
+    ++ replicate 12 0)
+
+-- our entry matches the pair: 26, though the setting says pass. With an empty table the setting decides.
+pub record UnknownKeyNotEmpty : Type 0 where
+  pub with-entry : UnknownKey ourTable unknownSyn
+  pub matches : anyEntry ourTable (arrivalPair unknownSyn) ≡ true
+  pub dropped : judgedSyn ourTable unknownSyn false .verdict ≡ Drop 26
+  pub without : UnknownKey [] unknownSyn
+  pub none : anyEntry [] (arrivalPair unknownSyn) ≡ false
+  pub passed : judgedSyn [] unknownSyn false .verdict ≡ Pass

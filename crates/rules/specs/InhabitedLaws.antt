@@ -1,7 +1,7 @@
 -- The statements of Inhabited.antt, proved: what is given there holds by computing, with the MAC shut.
 use Prim.Native.Nat.{ℕ, zero, suc, _+_, _<_}
 use mathlib.Core.Path.{_≡_, refl, ap, sym, _∙_, subst⁻¹}
-use mathlib.Core.Bool.{true}
+use mathlib.Core.Bool.{true, false}
 use mathlib.Core.List.{List, [], _∷_}
 use native.Mathlib.Omega.{arith}
 use lib.ListN.{length, take, drop, replicate}
@@ -17,7 +17,7 @@ use Rattle.keys.specs.Entry.{entries}
 use Rattle.keys.specs.Places as Places
 use Rattle.keys.specs.Match.{holds, matches, share, clash}
 use Rattle.keys.specs.Mirror.{Mirror}
-use Rattle.keys.specs.Table.{ValidTable, numberOf, clashing, loadedFrom, loaded, found, answers}
+use Rattle.keys.specs.Table.{ValidTable, anyEntry, anyOf, numberOf, clashing, loadedFrom, loaded, nobody, found, answers}
 use Rattle.rules.specs.declared.Place.the-variants.{At}
 use Rattle.rules.specs.declared.Outcome.{Outcome}
 use Rattle.rules.specs.declared.Outcome.the-variants.{Good}
@@ -36,6 +36,9 @@ use Rattle.rules.specs.OrderLaws.{demand3}
 use Rattle.rules.specs.Demand2Laws.{bare-syn}
 use Rattle.rules.specs.Inhabited.{ourTable, theirTable, theirEntry, ourPair, theirPair, fromThem, ourState, theirState, segment}
 use Rattle.rules.specs.Inhabited.{signedBytes, Arrivals, both, Demand3NotEmpty, opener, synSegment, synBytes, BareSynNotEmpty}
+use Rattle.rules.specs.Inhabited.{unknownSyn, UnknownKeyNotEmpty}
+use Rattle.rules.specs.Passes.{UnknownKey}
+use Rattle.rules.specs.PassLaws.{matched-dropped, setting-decides}
 
 -- Of both tables.
 
@@ -221,4 +224,36 @@ bare-syn-not-empty =
       accepted =
           bare-syn opener theirEntry 4294967280 synBytes (fromThem synBytes) ourTable typed-opener refl
           (signing opener synSegment 4294967280 signs-syn) delivered held true;
+    }
+
+-- An unknown KeyID.
+
+with-entry : UnknownKey ourTable unknownSyn
+unfolding optionsOf readFrom agree clearTo macBytes knownKind body width sideOf selectorOf idsOf secretOf entryOf item items
+    entriesOf holds matches share clash numberOf clashing loadedFrom loaded found answers nobody
+with-entry =
+    record { addresses = refl; table = refl; size = refl; options = refl; one = refl; alone = refl; bare = refl; unknown = refl }
+
+matching : anyEntry ourTable (arrivalPair unknownSyn) ≡ true
+unfolding agree knownKind body width sideOf selectorOf idsOf secretOf entryOf item items entriesOf holds matches answers anyOf
+matching = refl
+
+without : UnknownKey [] unknownSyn
+unfolding optionsOf readFrom width items entriesOf loadedFrom loaded found nobody
+without =
+    record { addresses = refl; table = refl; size = refl; options = refl; one = refl; alone = refl; bare = refl; unknown = refl }
+
+unmatching : anyEntry [] (arrivalPair unknownSyn) ≡ false
+unfolding items entriesOf anyOf
+unmatching = refl
+
+pub unknown-key-not-empty : UnknownKeyNotEmpty
+unknown-key-not-empty =
+    record {
+      with-entry = with-entry;
+      matches = matching;
+      dropped = matched-dropped .judged ourTable unknownSyn false with-entry matching;
+      without = without;
+      none = unmatching;
+      passed = setting-decides .judged [] unknownSyn false without unmatching;
     }

@@ -13,6 +13,7 @@ pub mod Kept
 pub mod Refusals
 pub mod References
 pub mod GivenNumbers
+pub mod Passes
 pub mod Growth
 pub mod Sentences
 pub mod Examples
@@ -34,6 +35,7 @@ pub mod HistoryLaws
 pub mod KeptLaws
 pub mod RefusalLaws
 pub mod GivenNumberLaws
+pub mod PassLaws
 pub mod ReferenceLaws
 pub mod SentenceLaws
 pub mod ExampleLaws

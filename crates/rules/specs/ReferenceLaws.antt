@@ -31,7 +31,7 @@ use Rattle.rules.specs.Calls.{unrefused, openTests, openedActively, askT
 use Rattle.rules.specs.JudgeLaws.{none-of}
 use Rattle.rules.specs.SigningLaws.{signs-good, signed-good}
 use Rattle.rules.specs.CountLaws.{slot-is, slot-none}
-use Rattle.rules.specs.GroupLaws.{first-clear}
+use Rattle.rules.specs.GroupLaws.{first-clear, unknown-passes}
 use Rattle.rules.specs.GivenNumberLaws.{ask-not-passed, open-not-passed}
 use Rattle.rules.specs.References.{countUp, zeroCounts, passivelyOpened, SignedOpen, SignedOpening, OpensActively, OpensPassively}
 use Rattle.rules.specs.References.{SynAckOpens, AcceptedOpen, DropCounted, DropUncounted, DropOpening, SigningRefused, Asks}
@@ -119,9 +119,11 @@ syn-good : (t : Tables) (a : Arrival) (strict : Bool) (x r : ℕ) → checkSyn t
     → (sequence (a .segment) ≡ x) × (rnextKeyId (a .segment) ≡ r)
 unfolding checkSyn
 syn-good t a strict x r e =
+    let missing = missing-not-good (anyEntry t (arrivalPair a)) 25 in
+    let unknown = unknown-passes notGood t (arrivalPair a) strict refl refl in
     let n =
     none-applied notGood (judgeSynTests t a strict) _
-    (rw (table-not-good (checked t), missing-not-good (anyEntry t (arrivalPair a)) 25, missing-not-good strict 26)) (ap notGood e)
+    (rw (table-not-good (checked t), missing, unknown)) (ap notGood e)
     in
     let g = sym (first-none (judgeSynTests t a strict) (Good (sequence (a .segment)) (rnextKeyId (a .segment))) n) ∙ e in
     (cc, cc)

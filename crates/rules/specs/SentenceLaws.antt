@@ -12,11 +12,12 @@ use Rattle.octets.specs.Tests.{any}
 use Rattle.wire.specs.Header.{sourcePort, destinationPort, sequence, headerEnd, syn}
 use Rattle.mac.specs.Cmac.{cmac}
 use Rattle.keys.specs.Algorithm.{trafficKeyBytes, outputBits}
+use Rattle.keys.specs.declared.entry.Pair.{Pair}
 use Rattle.keys.specs.Entry.{isFamily, width, keyOf}
 use Rattle.keys.specs.Table as K
 use Rattle.rules.specs.declared.Place.{Place}
 use Rattle.rules.specs.declared.Outcome.{Outcome}
-use Rattle.rules.specs.declared.Outcome.the-variants.{Good}
+use Rattle.rules.specs.declared.Outcome.the-variants.{Good, Passed, Bad}
 use Rattle.rules.specs.declared.State.{State}
 use Rattle.octets.specs.Tests.{Test, tests, first}
 use Rattle.octets.specs.TestLaws.{first-append}
@@ -24,7 +25,7 @@ use Rattle.rules.specs.Mac.{context, derivationInput, aesKey, applied, t
 use Rattle.rules.specs.Mac.{segmentMac}
 use Rattle.rules.specs.Segment.{malformed, ao, md5, keyId, rnextKeyId, isBareSyn, inserted, withOption}
 use Rattle.rules.specs.Connection.{sized, arrivalPair, isOpen, placeOn, located, value}
-use Rattle.rules.specs.Calls.{isRefused, check, checkSyn, unrefused, checkSign, outgoing, addedBytes}
+use Rattle.rules.specs.Calls.{isRefused, check, synUnknown, checkSyn, unrefused, checkSign, outgoing, addedBytes}
 use Rattle.rules.specs.Answers.{verdictAnswer}
 use Rattle.rules.specs.MacLaws.{length-context, length-traffic-key}
 use Rattle.rules.specs.SigningLaws.{valid-of}
@@ -55,11 +56,20 @@ judge-table t l reference a =
     let x = placeOn l reference (sequence (a .segment)) in
     first-flat (judgeRows t l (K.recvEntry t (l .pair) (keyId (a .segment))) x a) (Good (value x) (rnextKeyId (a .segment)))
 
+unknown-row : (t : K.Tables) (p : Pair) (strict : Bool)
+    → synUnknown t p strict ≡ cond (K.anyEntry t p) (Bad 26 0) (cond strict (Bad 26 0) Passed)
+unknown-row t p strict = go (K.anyEntry t p) refl
+  where
+    go : (b : Bool) → K.anyEntry t p ≡ b → synUnknown t p strict ≡ cond (K.anyEntry t p) (Bad 26 0) (cond strict (Bad 26 0) Passed)
+    go true e = cc
+    go false e = cc
+
 pub syn-table : SynTable
 unfolding checkSyn
 syn-table t a strict =
-    first-flat (synRows t strict (K.recvEntry t (arrivalPair a) (keyId (a .segment))) a)
-    (Good (sequence (a .segment)) (rnextKeyId (a .segment)))
+    rw (unknown-row t (arrivalPair a) strict)
+    (first-flat (synRows t strict (K.recvEntry t (arrivalPair a) (keyId (a .segment))) a)
+    (Good (sequence (a .segment)) (rnextKeyId (a .segment))))
 
 -- the rows of signing by the tests of 32 and 37
 abbrev signRowsBy : K.Tables → List ℕ → State → Place → List Bool → Bool → List NumberRow

@@ -88,8 +88,8 @@ JudgeTable = (t : K.Tables) (l : Connection) (reference : ℕ) (a : Arrival)
     ≡ firstOf (judgeRows t l (K.recvEntry t (l .pair) (keyId (a .segment))) (placeOn l reference (sequence (a .segment))) a)
     (Good (value (placeOn l reference (sequence (a .segment)))) (rnextKeyId (a .segment)))
 
--- A bare SYN, without a state: "25 if any entry matches the pair, otherwise pass"; "If there is none, a setting decides: pass .. or drop
--- 26."
+-- A bare SYN, without a state: "25 if any entry matches the pair, otherwise pass"; document 02, Ticket 2: "drop 26 is given whenever any
+-- entry matches the pair and none has the KeyID; the setting decides only where no entry matches the pair"
 abbrev pub synRows : K.Tables → Bool → Found → Arrival → List NumberRow
 synRows t strict found a =
     row 19 (not (sized (a .source) (a .destination)) ∷ [])
@@ -99,7 +99,10 @@ synRows t strict found a =
     ∷ row 22 (ltb 1 (ao (a .segment) .count) ∷ (ltb 0 (ao (a .segment) .count) && ltb 0 (md5 (a .segment) .count)) ∷ [])
     ∷ row 24 (not (isBareSyn (a .segment)) ∷ [])
     ∷ record { gives = cond (K.anyEntry t (arrivalPair a)) (Bad 25 0) Passed; tests = eqb (ao (a .segment) .count) 0 ∷ [] }
-    ∷ record { gives = cond strict (Bad 26 0) Passed; tests = not (found .there) ∷ [] }
+    ∷ record {
+      gives = cond (K.anyEntry t (arrivalPair a)) (Bad 26 0) (cond strict (Bad 26 0) Passed);
+      tests = not (found .there) ∷ [];
+    }
     ∷ row 27 (not (eqb (ao (a .segment) .len) (4 + found .entry .secret .«mac_bytes»)) ∷ [])
     ∷ row 29 (wrongMac (found .entry) (arrivingSyn a) (At (sequence (a .segment))) (a .segment) ∷ [])
     ∷ []

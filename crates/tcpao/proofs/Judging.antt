@@ -22,9 +22,11 @@ use Rattle.rules.specs.GroupLaws.{first-clear, none-clear}
 use Rattle.rules.specs.JudgeLaws.{none-of}
 use Rattle.rules.specs.Segment.{keyId}
 use Rattle.rules.specs.Connection.{Arrival, sized, arrivalPair, available, nextKey, opened, empty}
-use Rattle.rules.specs.Calls.{refuse, synMissing, synUnknown, judgeGroups, check, synGroups, judgeSynTests, checkSyn, verdictOf, indexOf, afterJudging, judgedBy, judged, judgedSyn, openedBy, openedPassively}
+use Rattle.rules.specs.Calls.{judgeGroups, check, synGroups, judgeSynTests, checkSyn, verdictOf, indexOf, afterJudging, judgedBy}
+use Rattle.rules.specs.Calls.{judged, judgedSyn, openedBy, openedPassively}
 use Rattle.tcpao.specs.Arriving.{AtNumber, TakenBy}
 use Rattle.checks.specs.GroupLaws.{yes, no, isFinal, Else, refusal-final}
+use Rattle.checks.specs.BeginLaws.{missing-final, unknown-final}
 
 -- the key rule
 
@@ -51,19 +53,9 @@ at-number t l reference a e q x r g opening =
 
 -- a bare SYN
 module _ (t : Tables) (a : Arrival) (strict : Bool) where
-  missing-final : isFinal (synMissing t (arrivalPair a)) ≡ true
-  missing-final = go (anyEntry t (arrivalPair a))
-    where
-      go : (b : Bool) → isFinal (cond b (refuse 25) Passed) ≡ true
-      go true = refl
-      go false = refl
-
-  unknown-final : (b : Bool) → isFinal (synUnknown b) ≡ true
-  unknown-final true = refl
-  unknown-final false = refl
-
   syn-final : eachGives isFinal (judgeSynTests t a strict) ≡ true
-  syn-final = rw (refusal-final (checked t), missing-final, unknown-final strict)
+  syn-final =
+      rw (refusal-final (checked t), missing-final (anyEntry t (arrivalPair a)), unknown-final t (arrivalPair a) strict)
 
   pub taken-by : {o : Outcome} {ids : Ids} → o ≡ checkSyn t a strict → ((x r : ℕ) → o ≡ Good x r → ids ≡ recvEntry t (arrivalPair a) (keyId (a .segment)) .entry .ids) → TakenBy t a ids o
   unfolding checkSyn

@@ -57,6 +57,17 @@ fn matching<'k>(random: &mut Prng, keys: &'k [Entry], pair: &Pair) -> Option<&'k
     (!keys.is_empty()).then(|| &keys[random.below(keys.len())])
 }
 
+/// A KeyID for 26, most times: one off an entry's RecvID, its SendID, or any.
+fn wrong_id(random: &mut Prng, keys: &[Entry], key: Option<&Entry>) -> u8 {
+    match key {
+        Some(key) if random.one_in(2) => {
+            let (before, behind) = (key.recv_id.wrapping_sub(1), key.recv_id.wrapping_add(1));
+            random.pick(&[before, behind, key.send_id])
+        }
+        _ => some_id(random, keys),
+    }
+}
+
 /// An ID that some entry has, for this pair or another, or none.
 fn some_id(random: &mut Prng, keys: &[Entry]) -> u8 {
     if keys.is_empty() || random.one_in(4) {
@@ -108,16 +119,20 @@ struct Arrival {
 /// A bare SYN, made from nothing, for `judge_syn` or `open_passive` at this pair.
 pub fn syn(random: &mut Prng, function: Function, at: &At, pair: &Pair, aim: &Aim) -> Call {
     let sequence = number(random);
-    // Now and then a pair that no entry may match.
-    let elsewhere = tables::pair(random);
-    let pair = if random.one_in(12) { &elsewhere } else { pair };
+    // Now and then a pair that no entry may match: any, or one just beside this one.
+    let mut pair = pair.clone();
+    match random.below(12) {
+        0 => pair = tables::pair(random),
+        1 => other_pair(random, &mut pair),
+        _ => {}
+    }
     let flags = if aim.has(24) {
         random.pick(&[ACK, SYN | ACK, 0])
     } else {
         SYN
     };
     let arrival = Arrival {
-        pair: pair.clone(),
+        pair,
         sequence,
         extension: 0,
         source_isn: sequence,
@@ -131,7 +146,7 @@ pub fn syn(random: &mut Prng, function: Function, at: &At, pair: &Pair, aim: &Ai
 
 /// The setting and, for an opening, our ISN.
 pub fn set_listening(random: &mut Prng, call: &mut Call) {
-    call.byte = random.pick(&[0, 1, 1, 255]);
+    call.byte = random.pick(&[0, 0, 1, 255]);
     if call.function == Function::OpenPassive {
         call.isn = number(random);
     }
@@ -193,7 +208,7 @@ fn arriving(random: &mut Prng, function: Function, at: &At, arrival: Arrival, ai
     let key = matching(random, at.keys, &arrival.pair).cloned();
     let key_id = match &key {
         Some(key) if !aim.has(26) => key.recv_id,
-        _ => some_id(random, at.keys),
+        key => wrong_id(random, at.keys, key.as_ref()),
     };
     let length = if aim.has(27) {
         random.pick(&[4, 8, 15, 17, 18, 20])

@@ -1,6 +1,8 @@
 //! What a run has met: each number of each call, and situations that no number tells.
 
 use crate::numbers::{possible, ALL};
+use crate::unknown::{Matched, Unknown};
+use kit::Function::{JudgeSyn, OpenPassive};
 use kit::{Call, Function, Outcome};
 use reference::segment::{read_options, Header};
 use reference::table::{self, by_recv_id, Algorithm};
@@ -9,10 +11,18 @@ use reference::State;
 /// How often each number and each situation must be met.
 pub const LEAST: u64 = 100;
 
-#[derive(Default)]
 pub struct Counts {
     numbers: [[u64; ALL.len() + 1]; Function::ALL.len()],
     situations: [u64; SITUATIONS.len()],
+}
+
+impl Default for Counts {
+    fn default() -> Counts {
+        Counts {
+            numbers: [[0; ALL.len() + 1]; Function::ALL.len()],
+            situations: [0; SITUATIONS.len()],
+        }
+    }
 }
 
 /// A call and what came of it.
@@ -23,6 +33,8 @@ struct Seen<'a> {
     before: State,
     /// Of a segment that was accepted on a connection.
     accepted: Option<Accepted>,
+    /// Of a bare SYN with TCP-AO whose KeyID has no entry for its pair.
+    unknown: Option<Unknown>,
 }
 
 struct Accepted {
@@ -43,7 +55,7 @@ enum Asked {
 
 type Situation = (&'static str, fn(&Seen) -> bool);
 
-const SITUATIONS: [Situation; 25] = [
+const SITUATIONS: [Situation; 40] = [
     ("accepted at the reference: repeated", |seen| {
         seen.open(|a, reference| a.position == reference)
     }),
@@ -121,6 +133,67 @@ const SITUATIONS: [Situation; 25] = [
     ("a table of 64 entries, not refused", |seen| {
         !(10..=19).contains(&seen.outcome.number()) && entries(&seen.call.table) == 64
     }),
+    (
+        "judge_syn, unknown KeyID, setting pass, matched by exact ranges",
+        |seen| seen.unknown(JudgeSyn, true, Matched::Exactly),
+    ),
+    (
+        "judge_syn, unknown KeyID, setting pass, matched by wide ranges",
+        |seen| seen.unknown(JudgeSyn, true, Matched::Widely),
+    ),
+    (
+        "judge_syn, unknown KeyID, setting pass, no entry matches",
+        |seen| seen.unknown(JudgeSyn, true, Matched::None),
+    ),
+    (
+        "judge_syn, unknown KeyID, setting drop, matched by exact ranges",
+        |seen| seen.unknown(JudgeSyn, false, Matched::Exactly),
+    ),
+    (
+        "judge_syn, unknown KeyID, setting drop, matched by wide ranges",
+        |seen| seen.unknown(JudgeSyn, false, Matched::Widely),
+    ),
+    (
+        "judge_syn, unknown KeyID, setting drop, no entry matches",
+        |seen| seen.unknown(JudgeSyn, false, Matched::None),
+    ),
+    ("judge_syn, KeyID one off, setting pass", |seen| {
+        seen.one_off(JudgeSyn)
+    }),
+    (
+        "open_passive, unknown KeyID, setting pass, matched by exact ranges",
+        |seen| seen.unknown(OpenPassive, true, Matched::Exactly),
+    ),
+    (
+        "open_passive, unknown KeyID, setting pass, matched by wide ranges",
+        |seen| seen.unknown(OpenPassive, true, Matched::Widely),
+    ),
+    (
+        "open_passive, unknown KeyID, setting pass, no entry matches",
+        |seen| seen.unknown(OpenPassive, true, Matched::None),
+    ),
+    (
+        "open_passive, unknown KeyID, setting drop, matched by exact ranges",
+        |seen| seen.unknown(OpenPassive, false, Matched::Exactly),
+    ),
+    (
+        "open_passive, unknown KeyID, setting drop, matched by wide ranges",
+        |seen| seen.unknown(OpenPassive, false, Matched::Widely),
+    ),
+    (
+        "open_passive, unknown KeyID, setting drop, no entry matches",
+        |seen| seen.unknown(OpenPassive, false, Matched::None),
+    ),
+    ("open_passive, KeyID one off, setting pass", |seen| {
+        seen.one_off(OpenPassive)
+    }),
+    (
+        "open_passive, passed over a state that is not empty",
+        |seen| {
+            let passed = seen.call.function == OpenPassive && seen.outcome.number() == 1;
+            passed && seen.before != State::EMPTY
+        },
+    ),
 ];
 
 impl<'a> Seen<'a> {
@@ -132,7 +205,20 @@ impl<'a> Seen<'a> {
             outcome,
             before,
             accepted: accepts.then(|| accepted(call, outcome, &before)).flatten(),
+            unknown: Unknown::of(call, outcome),
         }
+    }
+
+    /// Whether this call met an unknown KeyID with this setting, the pair matched so.
+    fn unknown(&self, function: Function, pass: bool, matched: Matched) -> bool {
+        let so = |u: &Unknown| u.function == function && u.pass == pass && u.matched == matched;
+        self.unknown.as_ref().is_some_and(so)
+    }
+
+    /// Whether this call, with the setting pass, met a KeyID next to one that has an entry.
+    fn one_off(&self, function: Function) -> bool {
+        let so = |u: &Unknown| u.function == function && u.pass && u.one_off;
+        self.unknown.as_ref().is_some_and(so)
     }
 
     fn accepts(&self, which: impl Fn(&Accepted) -> bool) -> bool {

@@ -3,7 +3,7 @@
 //! A seed gives a list of calls ([`world`], with [`aim`], [`states`], [`tables`] and [`segments`]).
 //! Each is made on the archive ([`archive`]) and on the reference ([`against`]), and after each the
 //! answer, the state, the output and what stands around them are compared ([`compare`]). Which
-//! numbers were met is counted ([`counts`], [`numbers`]).
+//! numbers and which situations were met is counted ([`counts`], [`numbers`], [`unknown`]).
 
 pub mod against;
 pub mod aim;
@@ -16,4 +16,5 @@ pub mod report;
 pub mod segments;
 pub mod states;
 pub mod tables;
+pub mod unknown;
 pub mod world;

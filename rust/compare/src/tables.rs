@@ -121,6 +121,15 @@ fn for_pair(random: &mut Prng, pair: &Pair) -> Entry {
     }
 }
 
+/// An entry for this pair alone.
+fn only_pair(random: &mut Prng, pair: &Pair) -> Entry {
+    Entry {
+        local: Side::host(&pair.local).ports(pair.local_port, pair.local_port),
+        remote: Side::host(&pair.remote).ports(pair.remote_port, pair.remote_port),
+        ..for_pair(random, pair)
+    }
+}
+
 /// Any entry.
 fn any(random: &mut Prng) -> Entry {
     let pair = pair(random);
@@ -166,7 +175,8 @@ pub fn entry(bytes: &[u8]) -> Option<reference::table::Entry<'_>> {
 }
 
 /// A table around a pair that is (nearly always) valid: some entries match the pair, others reuse
-/// their IDs beside it, some are of another pair or family.
+/// their IDs beside it, some are of another pair or family. In one table of five those made for the
+/// pair are for it alone.
 pub fn around(random: &mut Prng, pair: &Pair) -> Vec<Entry> {
     let large = random.one_in(50);
     let count = match random.below(3) {
@@ -174,6 +184,7 @@ pub fn around(random: &mut Prng, pair: &Pair) -> Vec<Entry> {
         _ if large => 64,
         _ => random.below(8),
     };
+    let narrow = random.one_in(5);
     let mut keys: Vec<Entry> = vec![];
     for _ in 0..3 * count {
         if keys.len() == count {
@@ -185,6 +196,7 @@ pub fn around(random: &mut Prng, pair: &Pair) -> Vec<Entry> {
                 let which = random.below(keys.len());
                 relative(random, &keys[which])
             }
+            _ if narrow => only_pair(random, pair),
             _ => for_pair(random, pair),
         };
         if large {

@@ -18,9 +18,8 @@ pub enum Verdict {
         /// The upper half of the segment's 64-bit position.
         extension: u32,
     },
-    /// A bare SYN without TCP-AO whose pair no entry matches, or, with
-    /// [`UnknownKeyId::Pass`](crate::UnknownKeyId::Pass), one whose KeyID has no entry for the pair:
-    /// TCP may go on without TCP-AO.
+    /// A bare SYN whose pair no entry matches: without TCP-AO or, with
+    /// [`UnknownKeyId::Pass`](crate::UnknownKeyId::Pass), with it. TCP may go on without TCP-AO.
     Pass,
     /// The segment must not reach TCP.
     Drop(Refusal),

@@ -6,8 +6,11 @@ use crate::table::KeyTable;
 use std::fmt;
 use std::net::{IpAddr, SocketAddr};
 
-/// What a bare SYN gets that has TCP-AO with an unknown KeyID: no entry that matches the pair has it
-/// as RecvID.
+/// What a bare SYN with TCP-AO gets where no entry matches its pair.
+///
+/// This decides nothing where an entry matches the pair: if none that matches has the segment's
+/// KeyID as RecvID, the SYN is dropped with 26 whatever is chosen here. So a wrong KeyID is no way
+/// around the keys of a pair.
 #[derive(Clone, Copy, Debug, PartialEq, Eq, Hash)]
 pub enum UnknownKeyId {
     /// It passes: TCP may go on without TCP-AO.
@@ -17,6 +20,7 @@ pub enum UnknownKeyId {
 }
 
 impl UnknownKeyId {
+    /// The archive's setting: 0 pass, any other value drop 26.
     fn setting(self) -> u8 {
         match self {
             UnknownKeyId::Pass => 0,
@@ -67,6 +71,14 @@ impl Octets {
 ///
 /// // None matches other peers, so TCP may go on without TCP-AO.
 /// let verdict = judge_syn(&table, [192, 0, 2, 9], [192, 0, 2, 1], &syn, UnknownKeyId::Drop);
+/// assert_eq!(verdict, Verdict::Pass);
+///
+/// // With TCP-AO and a KeyID that no entry has: dropped where an entry matches, whatever is chosen.
+/// let mut syn = [syn.to_vec(), vec![29, 16, 7, 7], vec![0; 12]].concat();
+/// syn[12] = 0x90; // data offset: nine words
+/// let verdict = judge_syn(&table, [10, 0, 0, 1], [192, 0, 2, 1], &syn, UnknownKeyId::Pass);
+/// assert_eq!(verdict, Verdict::Drop(Refusal::UnknownKeyId));
+/// let verdict = judge_syn(&table, [192, 0, 2, 9], [192, 0, 2, 1], &syn, UnknownKeyId::Pass);
 /// assert_eq!(verdict, Verdict::Pass);
 /// # Ok::<(), embankery::Refusal>(())
 /// ```
@@ -195,8 +207,10 @@ impl Connection {
     }
 
     /// Opens passively with an arriving bare SYN, which is judged as by [`judge_syn`]; `isn` is our
-    /// own. The SYN+ACK may then be signed. `None` means that the SYN only passed: TCP may go on
-    /// without TCP-AO, and there is no connection here. A SYN that is dropped is an error.
+    /// own. The SYN+ACK may then be signed. `None` means that the SYN only passed: no entry matches
+    /// its pair, TCP may go on without TCP-AO, and there is no connection here. A SYN that is dropped
+    /// is an error, also with 26 where an entry matches the pair and none has the KeyID, whatever
+    /// `unknown` is.
     pub fn open_passive(
         table: &KeyTable,
         source: impl Into<IpAddr>,

@@ -217,7 +217,7 @@ fn each_empty(nulls: bool) {
     counted(&g, 26);
     let g = Given { setting: 0, ..g };
     assert_eq!(g.unchanged(JudgeSyn), word(1, 0));
-    assert_eq!(g.unchanged(OpenPassive), word(1, 0));
+    emptied(&g);
 
     let sources = [none(), good.source.clone(), none()];
     let destinations = [none(), none(), good.destination.clone()];
@@ -283,6 +283,15 @@ fn counted(g: &Given, number: u8) {
     let mut expected = State::read(&g.state).unwrap();
     expected.drops[usize::from(number - 20)] += 1;
     assert_eq!(state, expected.bytes());
+}
+
+/// A passive opening only passes the SYN, and leaves the empty state.
+fn emptied(g: &Given) {
+    assert_ne!(g.state, State::default().bytes());
+    let (answer, out, state) = g.call(OpenPassive);
+    assert_eq!(answer, word(1, 0));
+    assert_eq!(out, g.out);
+    assert_eq!(state, State::default().bytes());
 }
 
 /// The four calls on messages with empty buffers; `g` says how these are lent.
@@ -362,6 +371,43 @@ fn states_of_every_length() {
     }
     for (call, value) in CALLS {
         assert_eq!(good.call(call).0, word(0, value));
+    }
+}
+
+/// A KeyID next to the right one: where an entry matches the pair the SYN is dropped whatever the
+/// setting, and no buffer changes; where none does, the setting decides, and a pass empties the state.
+#[test]
+fn wrong_key_ids() {
+    let good = Given::good();
+    let any = kit::Entry::default().ids(IDS[1], IDS[0]);
+    let wide = any.bytes();
+    let mut beside = any;
+    beside.remote = beside.remote.ports(PORTS[0] + 1, 65_535);
+    let beside = beside.bytes();
+    for key_id in [IDS[0] - 1, IDS[0] + 1, 255] {
+        let mut syn = good.syn.clone();
+        syn[22] = key_id;
+        for setting in 0..=255 {
+            let with = |table: &[u8]| Given {
+                table: table.to_vec(),
+                syn: syn.clone(),
+                setting,
+                ..good.clone()
+            };
+            for g in [with(&good.table), with(&wide)] {
+                assert_eq!(g.unchanged(JudgeSyn), word(26, 0));
+                assert_eq!(g.unchanged(OpenPassive), word(26, 0));
+            }
+            for g in [with(&[]), with(&beside)] {
+                if setting == 0 {
+                    assert_eq!(g.unchanged(JudgeSyn), word(1, 0));
+                    emptied(&g);
+                } else {
+                    assert_eq!(g.unchanged(JudgeSyn), word(26, 0));
+                    assert_eq!(g.unchanged(OpenPassive), word(26, 0));
+                }
+            }
+        }
     }
 }
 

@@ -209,8 +209,13 @@ fn what_a_bare_syn_gets() {
     let none = KeyTable::new([]).unwrap();
     let mut damaged = ends.syn.clone();
     damaged[35] ^= 1;
+    let mut unknown = ends.syn.clone();
+    unknown[22] = IDS[0] + 1;
     let plain = segment(PORTS, ISNS[0], SYN, &[], &[]);
+    let wide = Entry::ipv4().send_id(IDS[1]).recv_id(IDS[0]).key(b"key");
+    let wide = KeyTable::new([&wide.build().unwrap()]).unwrap();
     let accepted = Verdict::Accept { extension: 0 };
+    let wrong_id = Verdict::Drop(Refusal::UnknownKeyId);
     let cases = [
         (&ends.tables[1], &ends.syn, UnknownKeyId::Pass, accepted),
         (
@@ -225,21 +230,17 @@ fn what_a_bare_syn_gets() {
             UnknownKeyId::Pass,
             Verdict::Drop(Refusal::OptionMissing),
         ),
+        (&ends.tables[1], &unknown, UnknownKeyId::Pass, wrong_id),
+        (&ends.tables[1], &unknown, UnknownKeyId::Drop, wrong_id),
+        (&wide, &unknown, UnknownKeyId::Pass, wrong_id),
+        (&wide, &unknown, UnknownKeyId::Drop, wrong_id),
         (&none, &plain, UnknownKeyId::Drop, Verdict::Pass),
         (&none, &ends.syn, UnknownKeyId::Pass, Verdict::Pass),
-        (
-            &none,
-            &ends.syn,
-            UnknownKeyId::Drop,
-            Verdict::Drop(Refusal::UnknownKeyId),
-        ),
+        (&none, &ends.syn, UnknownKeyId::Drop, wrong_id),
     ];
-    for (table, syn, unknown, expected) in cases {
-        assert_eq!(
-            judge_syn(table, source, destination, syn, unknown),
-            expected
-        );
-        let opened = Connection::open_passive(table, source, destination, syn, 1, unknown);
+    for (table, syn, choice, expected) in cases {
+        assert_eq!(judge_syn(table, source, destination, syn, choice), expected);
+        let opened = Connection::open_passive(table, source, destination, syn, 1, choice);
         match expected {
             Verdict::Accept { .. } => assert!(opened.unwrap().unwrap().is_open()),
             Verdict::Pass => assert_eq!(opened, Ok(None)),

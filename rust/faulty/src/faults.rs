@@ -458,8 +458,153 @@ pub const FAULTS: &[Planted] = &[
         does: "A bare SYN without TCP-AO is 25 even if no entry matches.",
         breaks: "\"Bare SYN without TCP-AO: 25 if any entry matches the pair, otherwise pass.\"",
         file: "calls.rs",
+        function: "fn without_ao(",
+        edits: &[Instead("any_matches(entries, pair)", "true")],
+    },
+    // A KeyID without an entry, in a bare SYN: Ticket 2.
+    Planted {
+        name: "SettingDecidesForMatchedPair",
+        does: "The setting decides although an entry matches the pair, as before Ticket 2.",
+        breaks: "\"drop 26 is given whenever any entry matches the pair and none has the KeyID\"",
+        file: "calls.rs",
+        function: "fn unknown_key_id(",
+        edits: &[Instead("any_matches(entries, pair)", "false")],
+    },
+    Planted {
+        name: "SettingDecidesWhenJudgedOnly",
+        does: "Judging without a state lets the setting decide although an entry matches the pair.",
+        breaks: "\"drop 26 is given whenever any entry matches the pair and none has the KeyID\"",
+        file: "calls.rs",
+        function: "fn judge_syn(",
+        edits: &[Instead(
+            "take_syn(table, source, destination, segment, setting)",
+            "match take_syn(table, source, destination, segment, setting) {
+                Err(refusal) if refusal.number == 26 && setting == Setting::Pass => Ok(None),
+                taken => taken,
+            }",
+        )],
+    },
+    Planted {
+        name: "SettingDecidesWhenOpeningOnly",
+        does: "The passive opening lets the setting decide although an entry matches the pair.",
+        breaks: "\"A second call takes the same SYN and our ISN, judges it again\"",
+        file: "calls.rs",
+        function: "fn open_passive(",
+        edits: &[Instead(
+            "take_syn(table, source, destination, segment, setting)",
+            "match take_syn(table, source, destination, segment, setting) {
+                Err(refusal) if refusal.number == 26 && setting == Setting::Pass => Ok(None),
+                taken => taken,
+            }",
+        )],
+    },
+    Planted {
+        name: "SettingNeverDecides",
+        does: "26 also where no entry matches the pair and the setting is pass.",
+        breaks: "\"the setting decides only where no entry matches the pair\"",
+        file: "calls.rs",
+        function: "fn unknown_key_id(",
+        edits: &[Instead("any_matches(entries, pair)", "true")],
+    },
+    Planted {
+        name: "UnmatchedPairPasses",
+        does: "A bare SYN with TCP-AO whose pair no entry matches passes whatever the setting.",
+        breaks: "\"the setting decides only where no entry matches the pair\"",
+        file: "calls.rs",
+        function: "fn unknown_key_id(",
+        edits: &[Before("match setting {", "return Ok(());")],
+    },
+    Planted {
+        name: "OnlySinglePortsDropped",
+        does: "For an unknown KeyID, an entry counts only if both its ranges are one port.",
+        breaks: "\"An entry matches a socket pair of its family when both ports lie in the ranges\"",
+        file: "calls.rs",
+        function: "fn unknown_key_id(",
+        edits: &[Instead(
+            "any_matches(entries, pair)",
+            "entries.iter().any(|entry| {
+                let single = entry.local.low == entry.local.high && entry.remote.low == entry.remote.high;
+                single && entry.matches(pair)
+            })",
+        )],
+    },
+    Planted {
+        name: "OnlyWholeAddressesDropped",
+        does: "For an unknown KeyID, an entry counts only if both its prefixes are whole addresses.",
+        breaks: "\"on each side, the first prefix-length bits agree\"",
+        file: "calls.rs",
+        function: "fn unknown_key_id(",
+        edits: &[Instead(
+            "any_matches(entries, pair)",
+            "entries.iter().any(|entry| {
+                let bits = 8 * pair.local.len();
+                entry.local.prefix == bits && entry.remote.prefix == bits && entry.matches(pair)
+            })",
+        )],
+    },
+    Planted {
+        name: "WholeAddressesNotDropped",
+        does: "For an unknown KeyID, an entry for two hosts and two ports alone does not count.",
+        breaks: "\"drop 26 is given whenever any entry matches the pair\"",
+        file: "calls.rs",
+        function: "fn unknown_key_id(",
+        edits: &[Instead(
+            "any_matches(entries, pair)",
+            "entries.iter().any(|entry| {
+                let bits = 8 * pair.local.len();
+                let one = entry.local.low == entry.local.high && entry.remote.low == entry.remote.high
+                    && entry.local.prefix == bits && entry.remote.prefix == bits;
+                !one && entry.matches(pair)
+            })",
+        )],
+    },
+    Planted {
+        name: "OnlyFirstEntryDrops",
+        does: "For an unknown KeyID, only the table's first entry is asked whether it matches the pair.",
+        breaks: "\"whenever any entry matches the pair\"",
+        file: "calls.rs",
+        function: "fn unknown_key_id(",
+        edits: &[Instead(
+            "any_matches(entries, pair)",
+            "entries.first().is_some_and(|entry| entry.matches(pair))",
+        )],
+    },
+    Planted {
+        name: "AnyEntryDrops",
+        does: "For an unknown KeyID, 26 whenever the table has an entry, whichever pairs it matches.",
+        breaks: "\"the setting decides only where no entry matches the pair\"",
+        file: "calls.rs",
+        function: "fn unknown_key_id(",
+        edits: &[Instead("any_matches(entries, pair)", "!entries.is_empty()")],
+    },
+    Planted {
+        name: "DroppedWhateverPorts",
+        does: "For an unknown KeyID, an entry counts whose addresses match, whatever its ports.",
+        breaks: "\"both ports lie in the ranges\"",
+        file: "calls.rs",
+        function: "fn unknown_key_id(",
+        edits: &[Instead(
+            "any_matches(entries, pair)",
+            "entries.iter().any(|entry| {
+                let mut entry = *entry;
+                (entry.local.low, entry.local.high) = (0, 65_535);
+                (entry.remote.low, entry.remote.high) = (0, 65_535);
+                entry.matches(pair)
+            })",
+        )],
+    },
+    Planted {
+        name: "NearKeyIdPasses",
+        does: "With the setting pass, a KeyID passes that is one off the RecvID of an entry.",
+        breaks: "\"drop 26 is given whenever any entry matches the pair and none has the KeyID\"",
+        file: "calls.rs",
         function: "fn take_syn<",
-        edits: &[Instead("entries.iter().any(|entry| entry.matches(&pair))", "true")],
+        edits: &[Before(
+            "// \"Bare SYN with TCP-AO:",
+            "let unknown = by_recv_id(&entries, &pair, ao.key_id).is_none();
+            let near = |step: u8| by_recv_id(&entries, &pair, ao.key_id.wrapping_add(step)).is_some();
+            if unknown && setting == Setting::Pass && (near(1) || near(255)) { return Ok(None); }",
+        )],
     },
     Planted {
         name: "LongerMacTaken",
@@ -715,14 +860,36 @@ pub const FAULTS: &[Planted] = &[
         edits: &[Instead("result.is_ok()", "true")],
     },
     Planted {
-        name: "PassedOpeningEmptiesBuffer",
-        does: "A passive opening that only passes writes the empty state.",
-        breaks: "\"before Ticket 2 the bytes stay\", where a SYN is only passed",
+        name: "DroppedSynEmptiesBuffer",
+        does: "A passive opening whose SYN is dropped writes the empty state.",
+        breaks: "\"A call that is refused leaves every buffer as it was\"",
+        file: "boundary.rs",
+        function: "fn tcpao_open_passive(",
+        edits: &[Instead("!matches!(verdict, Verdict::Drop(_))", "true")],
+    },
+    Planted {
+        name: "PassedOpeningLeavesBuffer",
+        does: "A passive opening that only passes leaves the bytes that were there.",
+        breaks: "\"A passive opening whose SYN is only passed is no refusal: it writes the empty state, all zero\"",
         file: "boundary.rs",
         function: "fn tcpao_open_passive(",
         edits: &[Instead(
+            "!matches!(verdict, Verdict::Drop(_))",
             "matches!(verdict, Verdict::Accept(_))",
-            "matches!(verdict, Verdict::Accept(_) | Verdict::Pass)",
+        )],
+    },
+    Planted {
+        name: "PassedOpeningClearsFamilyOnly",
+        does: "A passive opening that only passes sets the family to 0 and leaves the other bytes.",
+        breaks: "\"it writes the empty state, all zero\"",
+        file: "boundary.rs",
+        function: "fn tcpao_open_passive(",
+        edits: &[Before(
+            "if !matches!(verdict,",
+            "if verdict == Verdict::Pass {
+                state[0] = 0;
+                return verdict_word(verdict);
+            }",
         )],
     },
     Planted {

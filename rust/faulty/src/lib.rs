@@ -2,8 +2,8 @@
 //! comparison would notice.
 //!
 //! The text is the reference's own: build.rs copies it and turns each edit of the list in
-//! `faults.rs` into a switch. Each fault is document 01's rule, or a reading of it, turned round, or
-//! one of its "errors that look right". Without a fault the calls are the reference's.
+//! `faults.rs` into a switch. Each fault is a rule of document 01 or 02, or a reading of it, turned
+//! round, or one of document 01's "errors that look right". Without a fault the calls are the reference's.
 
 #![forbid(unsafe_code)]
 

@@ -5,7 +5,7 @@ pub struct Planted {
     pub name: &'static str,
     /// What is wrong under it.
     pub does: &'static str,
-    /// The sentence it breaks, of document 01 or the boundary page, or the agreed reading.
+    /// The sentence it breaks, of document 01 or 02 or the boundary page, or the agreed reading.
     pub breaks: &'static str,
     /// The file of the reference.
     pub file: &'static str,

@@ -75,7 +75,8 @@ pub struct Call {
     pub local_port: u16,
     pub remote_port: u16,
     pub isn: u32,
-    /// The SendID of an active opening, the RecvID to ask for, or the setting.
+    /// The SendID of an active opening, the RecvID to ask for, or the setting: what a bare SYN with
+    /// TCP-AO gets where no entry matches its pair, 0 pass, any other value drop 26.
     pub byte: u8,
 }
 

@@ -4,8 +4,9 @@
 //! "(boundary) A state buffer of another length gets 18 from every call that takes one, before any
 //! other number."
 //!
-//! "(boundary) A call that is refused, or only passes a SYN, leaves every buffer as it was, but for
-//! a drop's count on an open connection."
+//! "(boundary) A call that is refused leaves every buffer as it was, but for a drop's count on an
+//! open connection. ... A passive opening whose SYN is only passed is no refusal: it writes the empty
+//! state, all zero".
 
 use crate::answer::{Refusal, Verdict};
 use crate::calls::{self, Setting};
@@ -33,8 +34,8 @@ fn verdict_word(verdict: Verdict) -> u64 {
     }
 }
 
-/// "`setting` says what a bare SYN with TCP-AO gets where no entry has its KeyID: 0 pass, any other
-/// value drop 26."
+/// "`setting` says what a bare SYN with TCP-AO gets where no entry matches its pair: 0 pass, any
+/// other value drop 26."
 fn setting_of(byte: u8) -> Setting {
     if byte == 0 {
         Setting::Pass
@@ -95,7 +96,8 @@ pub fn tcpao_judge_syn(
     verdict_word(verdict)
 }
 
-/// `tcpao_open_passive`; the state is written only if the SYN is accepted.
+/// `tcpao_open_passive`; a SYN that is only passed leaves the empty state, a refused one the bytes
+/// that were there.
 #[allow(clippy::too_many_arguments)] // the boundary's own arguments
 pub fn tcpao_open_passive(
     table: &[u8],
@@ -111,7 +113,7 @@ pub fn tcpao_open_passive(
     }
     let setting = setting_of(setting);
     let (verdict, opened) = calls::open_passive(table, source, destination, segment, isn, setting);
-    if matches!(verdict, Verdict::Accept(_)) {
+    if !matches!(verdict, Verdict::Drop(_)) {
         state.copy_from_slice(&opened.to_bytes());
     }
     verdict_word(verdict)

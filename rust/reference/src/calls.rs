@@ -8,7 +8,7 @@ use crate::mac::{self, Ends};
 use crate::position::{extension, moved, position};
 use crate::segment::{read_options, AoOption, Header, Options, WithAo, KIND_TCP_AO};
 use crate::state::{State, STAGE_OPEN};
-use crate::table::{self, by_recv_id, by_send_id, Entry, Pair};
+use crate::table::{self, any_matches, by_recv_id, by_send_id, Entry, Pair};
 
 /// How many bytes signing adds: "With a 12-byte MAC the length is 16."
 const AO_BYTES: usize = 16;
@@ -52,8 +52,9 @@ fn opening_state(table: &[u8], pair: &Pair, isn: u32, send_id: u8) -> Result<Sta
     Ok(state)
 }
 
-/// A setting: what a bare SYN with TCP-AO gets where no entry is found. "a setting decides: pass
-/// (the RFC's first default) or drop 26."
+/// A setting: what a bare SYN with TCP-AO gets where no entry matches its pair. "a setting decides:
+/// pass (the RFC's first default) or drop 26"; Ticket 2: "the setting decides only where no entry
+/// matches the pair."
 #[derive(Clone, Copy, Debug, PartialEq, Eq)]
 pub enum Setting {
     /// Pass.
@@ -141,24 +142,16 @@ fn take_syn<'t>(
         return Err(Refusal::of(24));
     }
 
-    // "Bare SYN without TCP-AO: 25 if any entry matches the pair, otherwise pass."
+    // 25, or a pass.
     let pair = arriving_pair(source, destination, &header);
     let Some(ao) = options.ao else {
-        let any_matches = entries.iter().any(|entry| entry.matches(&pair));
-        return if any_matches {
-            Err(Refusal::of(25))
-        } else {
-            Ok(None)
-        };
+        return without_ao(&entries, &pair).map(|()| None);
     };
 
-    // "Bare SYN with TCP-AO: the entry is found by pair and KeyID = RecvID. If there is none, a
-    // setting decides: pass (the RFC's first default) or drop 26."
+    // "Bare SYN with TCP-AO: the entry is found by pair and KeyID = RecvID." If there is none, 26 or
+    // a pass.
     let Some(entry) = by_recv_id(&entries, &pair, ao.key_id) else {
-        return match setting {
-            Setting::Pass => Ok(None),
-            Setting::Drop => Err(Refusal::of(26)),
-        };
+        return unknown_key_id(&entries, &pair, setting).map(|()| None);
     };
 
     // 27: "MAC length wrong".
@@ -187,6 +180,27 @@ fn take_syn<'t>(
         header,
         rnext_key_id: ao.rnext_key_id,
     }))
+}
+
+/// "Bare SYN without TCP-AO: 25 if any entry matches the pair, otherwise pass."
+fn without_ao(entries: &[Entry], pair: &Pair) -> Result<(), Refusal> {
+    if any_matches(entries, pair) {
+        return Err(Refusal::of(25));
+    }
+    Ok(())
+}
+
+/// A bare SYN with TCP-AO for whose pair and KeyID there is no entry. Ticket 2: "drop 26 is given
+/// whenever any entry matches the pair and none has the KeyID; the setting decides only where no
+/// entry matches the pair."
+fn unknown_key_id(entries: &[Entry], pair: &Pair, setting: Setting) -> Result<(), Refusal> {
+    if any_matches(entries, pair) {
+        return Err(Refusal::of(26));
+    }
+    match setting {
+        Setting::Pass => Ok(()),
+        Setting::Drop => Err(Refusal::of(26)),
+    }
 }
 
 /// Judges a segment that arrives on a connection, opening or open (18, 19, 10 to 17, 20 to 29).

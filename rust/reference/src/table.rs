@@ -252,6 +252,11 @@ fn read_body(address_bytes: usize, body: &[u8]) -> Result<Entry<'_>, u8> {
     })
 }
 
+/// Whether any entry matches the pair, whatever its IDs.
+pub fn any_matches(entries: &[Entry], pair: &Pair) -> bool {
+    entries.iter().any(|entry| entry.matches(pair))
+}
+
 /// The entry matching the pair that has this SendID; by 17 there is at most one.
 pub fn by_send_id<'t>(entries: &[Entry<'t>], pair: &Pair, send_id: u8) -> Option<Entry<'t>> {
     entries

@@ -153,13 +153,38 @@ fn refused_openings_by_value() {
     assert_eq!(state, State::EMPTY);
 
     let unknown = a.segment(1, SYN, b"").ao(16, 99, 0).bytes();
-    for (setting, verdict) in [
-        (Setting::Pass, Verdict::Pass),
-        (Setting::Drop, Verdict::Drop(Refusal::of(26))),
+    let dropped = Verdict::Drop(Refusal::of(26));
+    for (table, setting, verdict) in [
+        (&b.table[..], Setting::Pass, dropped),
+        (&b.table, Setting::Drop, dropped),
+        (&[], Setting::Pass, Verdict::Pass),
+        (&[], Setting::Drop, dropped),
     ] {
-        let opened = calls::open_passive(&b.table, &A4, &B4, &unknown, 7, setting);
+        let judged = calls::judge_syn(table, &A4, &B4, &unknown, setting);
+        assert_eq!(judged, verdict);
+        let opened = calls::open_passive(table, &A4, &B4, &unknown, 7, setting);
         assert_eq!(opened, (verdict, State::EMPTY));
     }
+}
+
+/// A buffer with an old connection in it: a SYN that is only passed empties it, so that what comes
+/// next gets 18; a refused one does not.
+#[test]
+fn a_reused_buffer() {
+    let (a, mut b) = opened(&A4, &B4);
+    let old = b.state.clone();
+    let unknown = a.segment(A_ISN, SYN, b"").ao(16, 99, 0).bytes();
+    for setting in [0, 1] {
+        assert_eq!(b.open_passive(&unknown, B_ISN, setting), 26);
+        assert_eq!(b.state, old);
+    }
+    let keys = std::mem::take(&mut b.table);
+    assert_eq!(b.open_passive(&unknown, B_ISN, 1), 26);
+    assert_eq!(b.state, old);
+    assert_eq!(b.open_passive(&unknown, B_ISN, 0), 1);
+    assert_eq!(b.state, [0; STATE_BYTES]);
+    b.table = keys;
+    assert_eq!(b.ask(1), 18);
 }
 
 /// "Signing writes only the signed length's bytes of the output."

@@ -9,14 +9,14 @@ use Rattle.rules.specs.Connection.{arrivalOf}
 use Rattle.rules.specs.Calls.{openedPassively}
 use Rattle.states.specs.Layout.{encodeOf}
 use Rattle.boundary.specs.Word.{ofJudged}
-use Rattle.boundary.specs.Exports.{openPassiveExport, accepts, strictly}
+use Rattle.boundary.specs.Exports.{openPassiveExport, settles, strictly}
 use Rattle.boundary.specs.NumberLaws.{opened-fits}
 use Rattle.boundary.proofs.Exported.{left, other, whole, refused, done}
 use Rattle.boundary.proofs.calls.open_passive.Statement.{statement}
 use Rattle.boundary.proofs.calls.open_passive.Tie as tie
 
 abbrev bytes : List ℕ → Judged → List ℕ
-bytes b j = cond (accepts (j .verdict)) (encodeOf (j .state)) b
+bytes b j = cond (settles (j .verdict)) (encodeOf (j .state)) b
 
 returns : tie.Need-returns
 unfolding openPassiveExport
@@ -51,7 +51,7 @@ returns-2 c =
     (e .open-passive .result) _ _ (whole (a .state .now) _ (e .before .before .is-state .ensures) (e .before .if1 .left))
     (e .open-passive .ensures .0) (c .of-verdict .ensures)
     (p .put-where .ensures
-    ∙ ap (λ (o : Bool). cond o (encodeOf (e .open-passive .result .state)) (a .state .now)) (p .before .accepts .ensures)))
+    ∙ ap (λ (o : Bool). cond o (encodeOf (e .open-passive .result .state)) (a .state .now)) (p .before .settles .ensures)))
 
 pub open-passive-spec : {M : Type 1} → statement M
 open-passive-spec =

@@ -35,10 +35,16 @@ returns-4 c =
     nothing-begins (a .found .entry) (flowOf (a .flow)) (a .segment .now) (c .nothing4 .ensures) (given-28 (a .missing) (a .unknown) (a .found) (a .place) (a .segment .now) (p .0) (c .before .before .before .before .before .before .before .if1 .left) (c .before .before .before .before .before .if2 .left) (c .before .before .before .if3 .left) (c .before .enum-told .given .1)) refl
 
 add-byte-at : tie.Need-add-byte-at
-add-byte-at c = let l = lies (c .before .before .before .before .before .before .before .before .before .before .before .before .before .before .args .segment .now) (c .before .before .before .before .before .before .before .before .before .before .before .before .before .before .pre .1) (c .before .before .before .before .before .before .before .before .before .before .before .before .before .before .pre .0) in record { fits = omega (arith, l .header, l .segment, l .most) }
+add-byte-at c =
+    let b = c .before .before .before .before .before .before .before .before .before .before .before .before .before .before in
+    let l = lies (b .args .segment .now) (b .pre .1) (b .pre .0) in
+    record { fits = omega (arith, l .header, l .segment, l .most) }
 
 add-byte-at-2 : tie.Need-add-byte-at-2
-add-byte-at-2 c = let l = lies (c .before .before .before .before .before .before .before .before .before .before .before .before .before .before .args .segment .now) (c .before .before .before .before .before .before .before .before .before .before .before .before .before .before .pre .1) (c .before .before .before .before .before .before .before .before .before .before .before .before .before .before .pre .0) in record { fits = omega (arith, l .header, l .segment, l .most) }
+add-byte-at-2 c =
+    let b = c .before .before .before .before .before .before .before .before .before .before .before .before .before .before in
+    let l = lies (b .args .segment .now) (b .pre .1) (b .pre .0) in
+    record { fits = omega (arith, l .header, l .segment, l .most) }
 
 ready-requires : tie.Need-ready-requires
 ready-requires c κs =
@@ -47,10 +53,11 @@ ready-requires c κs =
 
 returns-5 : tie.Need-returns-5
 returns-5 c =
+    let i = c .before .before .before .before .before .before .before .before .before .before .if1 in
     let a = c .before .before .before .before .before .before .before .before .before .before .before .before .before .before .before .before .args in
     let p = c .before .before .before .before .before .before .before .before .before .before .before .before .before .before .before .before .pre in
     subst (λ (o : Outcome). Begins o (a .found .entry) (flowOf (a .flow)) (a .segment .now) (c .ready .result))
-    (given-good (a .missing) (a .unknown) (a .found) (a .place) (a .segment .now) (p .0) (c .before .before .before .before .before .before .before .before .before .before .if1 .left) (c .before .before .before .before .before .before .before .before .if2 .left) (c .before .before .before .before .before .before .if3 .left) (c .before .before .before .before .place .given .0 .0) (c .before .before .before .before .place .given .1) (c .before .byte-at .ensures)) (c .ready .ensures)
+    (given-good (a .missing) (a .unknown) (a .found) (a .place) (a .segment .now) (p .0) (i .left) (c .before .before .before .before .before .before .before .before .if2 .left) (c .before .before .before .before .before .before .if3 .left) (c .before .before .before .before .place .given .0 .0) (c .before .before .before .before .place .given .1) (c .before .byte-at .ensures)) (c .ready .ensures)
 
 pub by-key-spec : {M : Type 1} → statement M
 by-key-spec =

@@ -25,16 +25,19 @@ part-carried-mac-end c = let l = lies (c .before .before .before .before .before
 
 slice-aggregate-begin : tie.Need-slice-aggregate-begin
 slice-aggregate-begin c =
-    let l = lies (c .before .before .before .before .before .before .before .before .before .before .args .segment .now) (c .before .before .before .before .before .before .before .before .before .before .pre .1) (c .before .before .before .before .before .before .before .before .before .before .pre .0) in
+    let b = c .before .before .before .before .before .before .before .before .before .before in
+    let l = lies (b .args .segment .now) (b .pre .1) (b .pre .0) in
     let e = c .before .before .before .before .before .before .header-end in
-    sym (length-take-le (e .result) (c .before .before .before .before .before .before .before .before .before .before .args .segment .now) (omega (arith, e .ensures, l .segment)))
+    sym (length-take-le (e .result) (b .args .segment .now) (omega (arith, e .ensures, l .segment)))
 
 begin-requires : tie.Need-begin-requires
 begin-requires c κs =
-    let l = lies (c .before .before .before .before .before .before .before .before .before .before .args .segment .now) (c .before .before .before .before .before .before .before .before .before .before .pre .1) (c .before .before .before .before .before .before .before .before .before .before .pre .0) in
+    let k = c .before .before .before .before .before .before .before .before .before in
+    let b = k .before in
+    let l = lies (b .args .segment .now) (b .pre .1) (b .pre .0) in
     let e = c .before .before .before .before .before .before .header-end in
-    let z = length-take-le (e .result) (c .before .before .before .before .before .before .before .before .before .before .args .segment .now) (omega (arith, e .ensures, l .segment)) in
-    (omega arith, omega (arith, e .ensures, l .header, c .before .before .before .before .before .before .before .before .before .before .pre .2), omega (arith, e .ensures, c .before .before .before .before .before .before .before .before .before .shared-slice-known .given 12))
+    let z = length-take-le (e .result) (b .args .segment .now) (omega (arith, e .ensures, l .segment)) in
+    (omega arith, omega (arith, e .ensures, l .header, b .pre .2), omega (arith, e .ensures, k .shared-slice-known .given 12))
 
 returns : tie.Need-returns
 returns c =

@@ -28,8 +28,9 @@ by-key-requires c κs =
 
 returns : tie.Need-returns
 returns c =
+    let p = c .before .before .before .before .before .before .before .before .before .pre in
     let a = c .before .before .before .before .before .before .before .before .before .args in
-    let number = ap (λ (h : Header). h .sequence) (c .before .before .before .before .before .before .before .before .before .pre .2) in
+    let number = ap (λ (h : Header). h .sequence) (p .2) in
     let isn = c .before .before .before .peer-isn .ensures ∙ ap (λ (n : ℕ). cond (isOpen (a .conn)) (a .conn .«peer_isn») n) number in
     begins-is (a .segment .now) refl refl (c .before .before .before .before .entry-for .ensures) (c .before .before .arriving-flow .ensures ∙ ap (λ (n : ℕ). arrivingOn (a .conn .pair) n (a .conn .isn)) isn)
     (c .before .place-on .ensures ∙ ap (λ (n : ℕ). placeOn (a .conn) (a .reference) n) number) (c .by-key .ensures)

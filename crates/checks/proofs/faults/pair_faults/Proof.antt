@@ -21,13 +21,15 @@ returns-3 c =
 
 returns-4 : tie.Need-returns-4
 returns-4 c =
-    no _ _ (ap not (sym (c .before .before .before .before .before .before .before .before .before .is-address .ensures)) ∙ c .before .before .before .before .before .before .before .before .if1 .left)
+    let i = c .before .before .before .before .before .before .before .before in
+    no _ _ (ap not (sym (i .before .is-address .ensures)) ∙ i .if1 .left)
     (no _ _ (ap not (sym (c .before .before .before .before .before .before .before .is-address2 .ensures)) ∙ c .before .before .before .before .before .before .if2 .left)
     (no _ _ (ap not (eq-eqb _ _ (c .before .before .before .if3 .left))) (yes _ _ (ap not (ne-eqb _ _ (c .if4 .taken))) refl)))
 
 returns-5 : tie.Need-returns-5
 returns-5 c =
-    no _ _ (ap not (sym (c .before .before .before .before .before .before .before .before .before .is-address .ensures)) ∙ c .before .before .before .before .before .before .before .before .if1 .left)
+    let i = c .before .before .before .before .before .before .before .before in
+    no _ _ (ap not (sym (i .before .is-address .ensures)) ∙ i .if1 .left)
     (no _ _ (ap not (sym (c .before .before .before .before .before .before .before .is-address2 .ensures)) ∙ c .before .before .before .before .before .before .if2 .left)
     (no _ _ (ap not (eq-eqb _ _ (c .before .before .before .if3 .left))) (no _ _ (ap not (eq-eqb _ _ (c .if4 .left))) refl)))
 

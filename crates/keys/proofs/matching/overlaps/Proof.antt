@@ -34,10 +34,14 @@ returns-3 c =
     ∙ overlap-is (a .e .now) (a .b) _ refl (c .before .before .before .before .if1 .left)
 
 add-addresses-meet : tie.Need-add-addresses-meet
-add-addresses-meet c = omega (arith, room (getD (c .before .before .before .before .before .before .before .before .args .e .now) 0 0) _ _ refl (c .before .before .before .before .before .before .before .before .pre), c .width-of .ensures)
+add-addresses-meet c =
+    let b = c .before .before .before .before .before .before .before .before in
+    omega (arith, room (getD (b .args .e .now) 0 0) _ _ refl (b .pre), c .width-of .ensures)
 
 addresses-meet-requires : tie.Need-addresses-meet-requires
-addresses-meet-requires c κs = omega (arith, room (getD (c .before .before .before .before .before .before .before .before .args .e .now) 0 0) _ _ refl (c .before .before .before .before .before .before .before .before .pre), c .width-of .ensures)
+addresses-meet-requires c κs =
+    let b = c .before .before .before .before .before .before .before .before in
+    omega (arith, room (getD (b .args .e .now) 0 0) _ _ refl (b .pre), c .width-of .ensures)
 
 returns-4 : tie.Need-returns-4
 returns-4 c =
@@ -49,7 +53,9 @@ returns-4 c =
     ∙ overlap-is (a .e .now) (a .b) _ (c .before .before .width-of .ensures) (p .before .before .before .if1 .left)
 
 addresses-meet-requires-2 : tie.Need-addresses-meet-requires-2
-addresses-meet-requires-2 c κs = omega (arith, room (getD (c .before .before .before .before .before .before .before .before .before .before .args .e .now) 0 0) _ _ refl (c .before .before .before .before .before .before .before .before .before .before .pre))
+addresses-meet-requires-2 c κs =
+    let b = c .before .before .before .before .before .before .before .before .before .before in
+    omega (arith, room (getD (b .args .e .now) 0 0) _ _ refl (b .pre))
 
 returns-5 : tie.Need-returns-5
 returns-5 c =

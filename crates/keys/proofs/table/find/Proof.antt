@@ -22,7 +22,9 @@ answers-at-requires : tie.Need-answers-at-requires Inv-loop μ-loop
 answers-at-requires c κs = seek-inside (c .before .before .before .loop .inv) _ (c .before .sound-at .ensures) (not-false _ (c .if1 .left))
 
 entry-of-requires : tie.Need-entry-of-requires Inv-loop μ-loop
-entry-of-requires c κs = tail-whole (c .before .before .before .before .before .before .before .before .args .table .now) (c .before .before .before .before .before .before .loop .at) (seek-inside (c .before .before .before .before .before .before .loop .inv) _ (c .before .before .before .before .sound-at .ensures) (not-false _ (c .before .before .before .if1 .left)))
+entry-of-requires c κs =
+    let a = c .before .before .before .before .before .before .before .before .args in
+    tail-whole (a .table .now) (c .before .before .before .before .before .before .loop .at) (seek-inside (c .before .before .before .before .before .before .loop .inv) _ (c .before .before .before .before .sound-at .ensures) (not-false _ (c .before .before .before .if1 .left)))
 
 returns-2 : tie.Need-returns-2 Inv-loop μ-loop
 returns-2 c = seek-hit (c .before .before .before .before .before .before .before .loop .inv) _ (c .before .before .before .before .before .sound-at .ensures) (not-false _ (c .before .before .before .before .if1 .left)) _ (c .before .before .before .answers-at .ensures) (c .before .before .if2 .taken) _ (c .entry-of .ensures)

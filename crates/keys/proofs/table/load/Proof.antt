@@ -36,7 +36,9 @@ add-at c =
     omega (arith, load-sound (b .before .before .before .loop .inv) _ (b .ids-at .ensures) _ (d .before .before .to-compare .ensures) _ (d .before .number-at .ensures) (d .if2 .left), c .size-of .ensures)
 
 add-i : tie.Need-add-i Inv-loop μ-loop
-add-i c = omega (arith, c .before .before .before .before .before .before .before .before .before .before .before .before .loop .inv .walking .counted)
+add-i c =
+    let l = c .before .before .before .before .before .before .before .before .before .before .before .before .loop in
+    omega (arith, l .inv .walking .counted)
 
 loop-less : tie.Need-loop-less Inv-loop μ-loop
 loop-less c =

@@ -25,22 +25,27 @@ entry-of-requires c κs =
 
 returns-3 : tie.Need-returns-3
 returns-3 c =
+    let p = c .before .before .before .before .before .before .before .before .before .before .before .pre in
     let a = c .before .before .before .before .before .before .before .before .before .before .before .args in
     number-wrong (a .table .now) (a .at) _ _ _ _ (c .before .before .before .before .before .before .before .before .known-kind .ensures) (not-false _ (c .before .before .before .before .before .before .before .if1 .left)) (c .before .before .before .before .before .size-of .ensures)
-    (c .before .before .before .before .before .before .before .before .before .before .before .pre) (c .before .before .before .before .if2 .left) (c .before .before .entry-of .ensures) _ (c .before .entry-number .ensures) (c .if3 .taken)
+    p (c .before .before .before .before .if2 .left) (c .before .before .entry-of .ensures) _ (c .before .entry-number .ensures) (c .if3 .taken)
 
 returns-4 : tie.Need-returns-4
 returns-4 c =
+    let p = c .before .before .before .before .before .before .before .before .before .before .before .before .before .pre in
+    let i = c .before .before .before .before .before .before .before .before .before in
     let a = c .before .before .before .before .before .before .before .before .before .before .before .before .before .args in
-    number-last (a .table .now) (a .at) _ _ _ _ (c .before .before .before .before .before .before .before .before .before .before .known-kind .ensures) (not-false _ (c .before .before .before .before .before .before .before .before .before .if1 .left)) (c .before .before .before .before .before .before .before .size-of .ensures)
-    (c .before .before .before .before .before .before .before .before .before .before .before .before .before .pre) (c .before .before .before .before .before .before .if2 .left) (c .before .before .before .before .entry-of .ensures) _ (c .before .before .before .entry-number .ensures)
+    number-last (a .table .now) (a .at) _ _ _ _ (i .before .known-kind .ensures) (not-false _ (i .if1 .left)) (c .before .before .before .before .before .before .before .size-of .ensures)
+    p (c .before .before .before .before .before .before .if2 .left) (c .before .before .before .before .entry-of .ensures) _ (c .before .before .before .entry-number .ensures)
     _ true (c .before .before .if3 .left) (c .before .clashes-before .ensures) (c .if4 .taken)
 
 returns-5 : tie.Need-returns-5
 returns-5 c =
+    let p = c .before .before .before .before .before .before .before .before .before .before .before .before .before .pre in
+    let i = c .before .before .before .before .before .before .before .before .before in
     let a = c .before .before .before .before .before .before .before .before .before .before .before .before .before .args in
-    number-last (a .table .now) (a .at) _ _ _ _ (c .before .before .before .before .before .before .before .before .before .before .known-kind .ensures) (not-false _ (c .before .before .before .before .before .before .before .before .before .if1 .left)) (c .before .before .before .before .before .before .before .size-of .ensures)
-    (c .before .before .before .before .before .before .before .before .before .before .before .before .before .pre) (c .before .before .before .before .before .before .if2 .left) (c .before .before .before .before .entry-of .ensures) _ (c .before .before .before .entry-number .ensures)
+    number-last (a .table .now) (a .at) _ _ _ _ (i .before .known-kind .ensures) (not-false _ (i .if1 .left)) (c .before .before .before .before .before .before .before .size-of .ensures)
+    p (c .before .before .before .before .before .before .if2 .left) (c .before .before .before .before .entry-of .ensures) _ (c .before .before .before .entry-number .ensures)
     _ false (c .before .before .if3 .left) (c .before .clashes-before .ensures) (c .if4 .left)
 
 pub number-at-spec : {M : Type 1} → statement M

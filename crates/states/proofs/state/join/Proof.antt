@@ -7,10 +7,11 @@ use Rattle.states.proofs.state.join.Tie as tie
 returns : tie.Need-returns
 returns c =
     let a = c .before .before .before .before .before .before .before .before .before .before .before .before .before .before .before .before .before .before .before .before .args in
+    let put1 = c .before .before .before .before .before .before .before .before .before .before .before .before .before .before .before .before .before .copy-at .ensures in
+    let put2 = c .before .before .before .before .before .before .before .before .before .before .before .before .before .copy-at2 .ensures in
+    let put3 = c .before .before .before .before .before .before .before .before .before .copy-at3 .ensures in
     all-put (a .t1) (a .t2) (a .t3) (a .t4) (a .t5) _ _ _ _ _ (search needs) (search needs) (search needs) (search needs) (search needs)
-    (c .before .before .before .before .before .before .before .before .before .before .before .before .before .before .before .before .before .copy-at .ensures)
-    (c .before .before .before .before .before .before .before .before .before .before .before .before .before .copy-at2 .ensures)
-    (c .before .before .before .before .before .before .before .before .before .copy-at3 .ensures)
+    put1 put2 put3
     (c .before .before .before .before .before .words-at .ensures)
     (c .before .words-at2 .ensures)
 

@@ -31,11 +31,12 @@ copy-at-requires c κs =
 
 loop-again : tie.Need-loop-again Inv-loop μ-loop
 loop-again c =
+    let p = c .before .before .before .before .before .before .before .before .before .before .before .pre in
     let l = c .before .before .before .before .before .before .before .before .loop in
     let a = c .before .before .before .before .before .before .before .before .before .before .before .args in (
       omega arith,
       c .before .before .copy-at .kept .0 ∙ l .inv .1,
-      one-written (a .out .now) (a .words .now) (l .out) _ _ (a .at) (l .i) (c .before .before .before .before .before .before .before .before .before .before .before .pre) (c .before .before .before .before .before .before .before .loop-test .taken)
+      one-written (a .out .now) (a .words .now) (l .out) _ _ (a .at) (l .i) p (c .before .before .before .before .before .before .before .loop-test .taken)
           (l .inv .2) (c .before .before .before .before .before .bytes64 .ensures) (c .before .before .copy-at .ensures),
     )
 

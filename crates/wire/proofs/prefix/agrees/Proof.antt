@@ -26,8 +26,9 @@ loop-holds c = (omega (arith, c .before .before .smaller2 .ensures), sym (c .bef
 
 returns-2 : tie.Need-returns-2 Inv-loop μ-loop
 returns-2 c =
+    let a = c .before .before .before .before .before .before .before .before .before .before .before .args in
     let l = c .before .before .before .before .loop in
-    agree-not _ _ (l .i) (c .before .before .before .before .before .before .before .before .before .before .before .args .bits) _ _ (omega arith) (omega arith)
+    agree-not _ _ (l .i) (a .bits) _ _ (omega arith) (omega arith)
     (c .before .before .byte-at .ensures) (c .before .byte-at2 .ensures) (l .inv .1) (c .if2 .taken) (omega arith)
 
 loop-again : tie.Need-loop-again Inv-loop μ-loop
@@ -62,5 +63,5 @@ agrees-spec =
     loop-again
     (λ c κs. search needs)
     (λ c κs. search needs)
-    (λ c κs. omega (arith, and-mask (c .before .before .before .before .before .before .before .before .before .before .args .bits) 3))
+    (λ c κs. let a = c .before .before .before .before .before .before .before .before .before .before .args in omega (arith, and-mask (a .bits) 3))
     returns-3)

@@ -3,6 +3,7 @@
 pub mod ask;
 pub mod inputs;
 pub mod judge;
+pub mod key_ids;
 pub mod open;
 pub mod sign;
 pub mod table;
@@ -23,6 +24,8 @@ pub fn cases() -> Vec<Case> {
     open::active(&scene, &mut list);
     judge::unreadable(&scene, &mut list);
     open::bare_syn(&scene, &mut list);
+    key_ids::unknown(&scene, &mut list);
+    open::passed(&scene, &mut list);
     judge::opening(&scene, &mut list);
     judge::positions(&scene, &mut list);
     judge::open(&scene, &mut list);

@@ -5,7 +5,7 @@ use kit::entry::table;
 use kit::segment::{FIN, RST};
 
 /// A buffer that holds something else before the opening.
-const OLD: [u8; State::BYTES] = [0x5a; State::BYTES];
+pub const OLD: [u8; State::BYTES] = [0x5a; State::BYTES];
 
 pub fn active(scene: &Scene, list: &mut List) {
     let mut add = |name: &str, table: &[u8], state: &[u8], send_id: u8, number: u8| {
@@ -65,11 +65,18 @@ pub fn bare_syn(scene: &Scene, list: &mut List) {
     both("no entry matches", &only_c, &no_ao, 1, 1);
     both("no entry matches, MD5", &only_c, &syn_md5, 1, 1);
     both("no entry at all", &[], &no_ao, 1, 1);
-    both("unknown KeyID passes", &b.table, &unknown, 0, 1);
-    both("unknown KeyID drops", &b.table, &unknown, 1, 26);
-    both("any other setting", &b.table, &unknown, 255, 26);
-    both("unknown, short MAC", &b.table, &unknown_short, 0, 1);
+    both("unknown, short MAC", &b.table, &unknown_short, 0, 26);
     both("unknown, short MAC", &b.table, &unknown_short, 1, 26);
+    both("no entry matches, short MAC", &only_c, &unknown_short, 0, 1);
+    both(
+        "no entry matches, short MAC",
+        &only_c,
+        &unknown_short,
+        1,
+        26,
+    );
+    both("no entry at all, with TCP-AO", &[], &unknown, 0, 1);
+    both("no entry at all, with TCP-AO", &[], &unknown, 1, 26);
     both("entry of another pair", &only_c, &asking_6, 0, 1);
     both("short MAC", &b.table, &short, 0, 27);
     both("long MAC", &b.table, &long, 0, 27);
@@ -87,5 +94,22 @@ pub fn bare_syn(scene: &Scene, list: &mut List) {
     for (name, flags) in flags {
         let segment = new_a.segment(A_ISN, flags, b"").bytes();
         both(name, &b.table, &segment, 0, 24);
+    }
+}
+
+/// A SYN that is only passed, with or without TCP-AO, leaves the empty state, whatever the buffer
+/// held; a dropped one leaves what it held.
+pub fn passed(scene: &Scene, list: &mut List) {
+    let plain = scene.plain_syn.bytes();
+    let signed = &scene.syn;
+    let only_c = table(&[scene.keys[2].mirror()]);
+    let full = [0xff; State::BYTES];
+    let states = [&OLD[..], &full, &scene.b.state, &scene.opening.state];
+    for state in states {
+        for table in [&only_c[..], &[]] {
+            list.add("passed", table, state, passive(&plain, 1), (1, 0));
+            list.add("passed, signed", table, state, passive(signed, 0), (1, 0));
+            list.add("dropped", table, state, passive(signed, 1), (26, 0));
+        }
     }
 }

@@ -33,13 +33,15 @@ slice-aggregate-same-throughout-2 c =
 
 returns-2 : tie.Need-returns-2
 returns-2 c =
+    let t = c .before .before .before .before .before .before .before .before .enum-told in
     let a = c .before .before .before .before .before .before .before .before .before .before .args in
-    end-29 (a .self) (macView (a .self .mac)) (c .before .before .before .before .before .before .before .before .enum-told .given .1) (c .before .before .before .before .finish .ensures) (c .before .same-throughout .ensures) (c .if1 .taken)
+    end-29 (a .self) (macView (a .self .mac)) (t .given .1) (c .before .before .before .before .finish .ensures) (c .before .same-throughout .ensures) (c .if1 .taken)
 
 returns-3 : tie.Need-returns-3
 returns-3 c =
+    let t = c .before .before .before .before .before .before .before .before .enum-told in
     let a = c .before .before .before .before .before .before .before .before .before .before .args in
-    end-good (a .self) (macView (a .self .mac)) (c .before .before .before .before .before .before .before .before .enum-told .given .1) (c .before .before .before .before .finish .ensures) (c .before .same-throughout .ensures) (c .if1 .left)
+    end-good (a .self) (macView (a .self .mac)) (t .given .1) (c .before .before .before .before .finish .ensures) (c .before .same-throughout .ensures) (c .if1 .left)
 
 pub end-spec : {M : Type 1} → statement M
 end-spec =

@@ -1,0 +1,80 @@
+-- The statements of Passes.antt, proved.
+use Prim.Native.Nat.{ℕ}
+use mathlib.Core.Path.{_≡_, refl, ap, _∙_}
+use mathlib.Core.Bool.{Bool, true, false, cond}
+use native.Mathlib.Omega.{arith}
+use borrow.Author.Tests.{not-true}
+use Rattle.octets.specs.Tests.{any}
+use Rattle.octets.specs.TestLaws.{first-passes}
+use Rattle.wire.specs.Header.{sizeFaults}
+use Rattle.keys.specs.declared.table.Loaded.{Loaded}
+use Rattle.keys.specs.declared.table.Loaded.the-variants.{Valid, Refused}
+use Rattle.keys.specs.Table as K
+use Rattle.rules.specs.declared.Outcome.{Outcome}
+use Rattle.rules.specs.declared.Outcome.the-variants.{Good, Passed, Bad}
+use Rattle.rules.specs.declared.Verdict.the-variants.{Pass, Drop}
+use Rattle.rules.specs.Connection.{Arrival, arrivalPair}
+use Rattle.rules.specs.Calls.{refusal, verdictOf, judgeSynTests, checkSyn, judgedSyn, openedPassively}
+use Rattle.rules.specs.SentenceLaws.{syn-table}
+use Rattle.rules.specs.Passes.{JudgedUnmatched, OpenedUnmatched, UnknownKey, MatchedDropped, SettingDecides}
+
+abbrev notPassed : Outcome → Bool
+notPassed (Good x r) = true
+notPassed Passed = false
+notPassed (Bad n i) = true
+
+table-not-passed : (o : Loaded) → notPassed (refusal o) ≡ true
+table-not-passed (Valid n) = refl
+table-not-passed (Refused n i) = refl
+
+module _ (t : K.Tables) (a : Arrival) (strict : Bool) where
+  -- where an entry matches, no test comes to pass
+  matched : K.anyEntry t (arrivalPair a) ≡ true → notPassed (checkSyn t a strict) ≡ true
+  unfolding checkSyn
+  matched m = first-passes notPassed (judgeSynTests t a strict) _ (rw (m, table-not-passed (K.checked t))) refl
+
+  passed : (o : Outcome) → notPassed o ≡ true → verdictOf o ≡ Pass → ⊥
+  passed (Good x r) p e = let z : _≡_ {A = ℕ} 0 1 = cc in omega arith
+  passed Passed p e = let z : _≡_ {A = ℕ} 0 1 = cc in omega arith
+  passed (Bad n i) p e = let z : _≡_ {A = ℕ} 0 1 = cc in omega arith
+
+  unmatched : verdictOf (checkSyn t a strict) ≡ Pass → K.anyEntry t (arrivalPair a) ≡ false
+  unmatched e = go (K.anyEntry t (arrivalPair a)) refl
+    where
+      go : (b : Bool) → K.anyEntry t (arrivalPair a) ≡ b → b ≡ false
+      go true m = absurd (passed (checkSyn t a strict) (matched m) e)
+      go false m = refl
+
+  -- no test before 26 applies
+  module _ (u : UnknownKey t a) where
+    unknown-is : checkSyn t a strict ≡ cond (K.anyEntry t (arrivalPair a)) (Bad 26 0) (cond strict (Bad 26 0) Passed)
+    unknown-is =
+        let size : any (sizeFaults (a .segment)) ≡ false = not-true (any (sizeFaults (a .segment))) (u .size) in
+        syn-table t a strict
+        ∙ rw (u .addresses, u .table, size, u .options, u .one, u .alone, u .bare, u .unknown)
+
+    matched-26 : K.anyEntry t (arrivalPair a) ≡ true → verdictOf (checkSyn t a strict) ≡ Drop 26
+    matched-26 m = rw m at (ap verdictOf unknown-is)
+
+    set : (b : Bool) → verdictOf (cond b (Bad 26 0) Passed) ≡ cond b (Drop 26) Pass
+    set true = refl
+    set false = refl
+
+    setting : K.anyEntry t (arrivalPair a) ≡ false → verdictOf (checkSyn t a strict) ≡ cond strict (Drop 26) Pass
+    setting m = (rw m at (ap verdictOf unknown-is)) ∙ set strict
+
+pub judged-unmatched : JudgedUnmatched
+unfolding judgedSyn
+judged-unmatched t a strict e = unmatched t a strict e
+
+pub opened-unmatched : OpenedUnmatched
+unfolding openedPassively
+opened-unmatched t a isn strict e = unmatched t a strict e
+
+pub matched-dropped : MatchedDropped
+unfolding judgedSyn openedPassively
+matched-dropped = record { judged = λ t a strict u m. matched-26 t a strict u m; opened = λ t a isn strict u m. matched-26 t a strict u m }
+
+pub setting-decides : SettingDecides
+unfolding judgedSyn openedPassively
+setting-decides = record { judged = λ t a strict u m. setting t a strict u m; opened = λ t a isn strict u m. setting t a strict u m }
