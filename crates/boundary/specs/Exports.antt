@@ -1,6 +1,6 @@
--- What the calls on a key table and on a connection answer, and what they leave in the buffers lent to them: docs/BOUNDARY.md, "The calls"
--- and "The state". What the calls do is defined in Calls.antt of `rules`, and a state's bytes in Layout.antt of `states`; here are the
--- rules of the boundary alone, and then each export, one definition. Assumes nothing.
+-- What the calls on a key table and on a connection answer, and what they leave in the buffers lent to them: docs/BOUNDARY.md, "Tables",
+-- "The calls on one connection" and "The state". What the calls do is defined in Calls.antt of `rules`, and a state's bytes in
+-- Layout.antt of `states`; here are the rules of the boundary alone, and then each export, one definition. Assumes nothing.
 use Prim.Native.Nat.{ℕ}
 use mathlib.Core.Bool.{Bool, true, false, cond, not}
 use mathlib.Core.List.{List, []}

@@ -21,7 +21,7 @@ use Rattle.states.specs.Layout.{isState}
 use Rattle.boundary.specs.Word.{word, Reads, ofJudged, ofChecked, ofSigned, ofSettled}
 use Rattle.boundary.specs.Exports.{answered, accepts, opens}
 
--- "10 to 17: the table is refused"
+-- 10 to 17: "a table is refused"
 abbrev pub tableNumber : ℕ → Bool
 tableNumber n = leb 10 n && leb n 17
 
@@ -31,7 +31,7 @@ together n v = eqb n 0 || (eqb v 0 || tableNumber n)
 
 -- The numbers and values fit.
 
--- "of `check_table` how many entries", or "the entry's index"
+-- "of `check_table` how many key entries", or "the entry's index"
 pub record Fits (a : Answer) : Type 0 where
   pub number : a .number < 2 ^ 8
   pub value : a .value < 2 ^ 32

@@ -8,7 +8,7 @@ use Rattle.rules.specs.declared.Signed.{Signed}
 use Rattle.rules.specs.declared.Settled.{Settled}
 use Rattle.rules.specs.Answers.{Answer, verdictAnswer, signingAnswer, doneAnswer}
 
--- "the number in bits 0 to 7, a value in bits 32 to 63, zero in bits 8 to 31"
+-- "the number in bits 0 to 7; .. a value in bits 32 to 63"; the bits between are zero today
 unfoldable pub word : Answer → ℕ
 word a = a .number + a .value * 2 ^ 32
 
@@ -25,8 +25,8 @@ ofSigned s = signingAnswer (s .answer) (s .index)
 abbrev pub ofSettled : Settled → Answer
 ofSettled s = doneAnswer (s .answer) (s .index)
 
--- What C reads in the word w: it is there, and nothing else. The word is a u64, so it is below 2^64; NumberFits of Numbers.antt says that
--- every call's number is below 2^8.
+-- What C reads in the word w: it is there, and nothing else. The word is a u64, so it is below 2^64; NumberFits and TableFits of
+-- Numbers.antt say that every call's number is below 2^8.
 pub record Reads (w : ℕ) (a : Answer) : Type 0 where
   pub number : w % 2 ^ 8 ≡ a .number
   pub zero : w / 2 ^ 8 % 2 ^ 24 ≡ 0

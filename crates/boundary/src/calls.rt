@@ -1,5 +1,5 @@
-// The calls on a key table and on a connection: docs/BOUNDARY.md, "The calls" and "The state". Each turns the lent bytes into a state,
-// makes the call of the crate `tcpao`, and turns the state back. Assumes nothing.
+// The calls on a key table and on a connection: docs/BOUNDARY.md, "Tables", "The calls on one connection" and "The state". Each
+// turns the lent bytes into a state, makes the call of the crate `tcpao`, and turns the state back. Assumes nothing.
 ghost use mathlib.Core.Path.{_≡_};
 ghost use Rattle.boundary.specs.Exports.{settles as settlesOf, opens as opensOf, answers, leaves, writes};
 ghost use Rattle.boundary.specs.Exports.{checkTableExport, openActiveExport, judgeSynExport, openPassiveExport};

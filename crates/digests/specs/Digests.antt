@@ -1,4 +1,5 @@
--- What the calls on messages give and write: docs/BOUNDARY.md, "The calls", its last paragraph. Each is one definition. Assumes nothing.
+-- What the calls on messages give and write: docs/BOUNDARY.md, "The calls on one connection", its last paragraph. Each is one definition.
+-- Assumes nothing.
 use Prim.Native.Nat.{ℕ}
 use mathlib.Core.Bool.{Bool, cond, _&&_}
 use mathlib.Core.List.{List, _++_}

@@ -1,5 +1,6 @@
-// The MAC library on lent bytes: docs/BOUNDARY.md, "The calls". Each call gives how many bytes it wrote at the front of out: 20, 20, 16,
-// 16. Where out is shorter, or an AES key or block has not 16 bytes, it gives 0 and writes nothing. Assumes nothing.
+// The MAC library on lent bytes: docs/BOUNDARY.md, "The calls on one connection", its end. Each call gives how many bytes it wrote at the
+// front of out: 20, 20, 16, 16. Where out is shorter, or an AES key or block has not 16 bytes, it gives 0 and writes nothing. Assumes
+// nothing.
 ghost use mathlib.Core.Path.{_≡_};
 ghost use Prim.Native.Nat.{_≤_};
 ghost use mathlib.Core.List.{_++_};

@@ -1,5 +1,5 @@
-// The calls on a key table and on a connection for C: docs/BOUNDARY.md, "The calls" and "The state". They are those of the crate
-// `boundary`. Assumes nothing.
+// The calls on a key table and on a connection for C: docs/BOUNDARY.md, "Tables", "The calls on one connection" and "The
+// state". They are those of the crate `boundary`. Assumes nothing.
 ghost use mathlib.Core.Path.{_≡_};
 ghost use Rattle.boundary.specs.Exports.{answers, leaves, writes, checkTableExport, openActiveExport, judgeSynExport};
 ghost use Rattle.boundary.specs.Exports.{openPassiveExport, judgeExport, signExport, askExport};
@@ -55,7 +55,7 @@ pub extern "C" fn tcpao_judge_syn(
     boundary::calls::judge_syn(table, source, destination, segment, setting)
 }
 
-// Judges the bare SYN again and, only on accept, opens and writes the state.
+// Judges the bare SYN again and, only on accept, opens. Writes the state that it opened, or the empty one where the SYN is only passed.
 #[no_mangle]
 pub extern "C" fn tcpao_open_passive(
     table: &[u8],

@@ -1,4 +1,5 @@
-// The MAC library for C: docs/BOUNDARY.md, "The calls". The calls are those of the crate `digests`. Assumes nothing.
+// The MAC library for C: docs/BOUNDARY.md, "The calls on one connection", its end. The calls are those of the crate `digests`. Assumes
+// nothing.
 ghost use mathlib.Core.Path.{_≡_};
 ghost use Rattle.digests.specs.Digests.{gives, sha1Into, hmacSha1Into, aes128Into, cmacInto};
 

@@ -1,6 +1,6 @@
 -- "Where an answer is an enum, a definition sets out this paper's number and values for each of its cases." The number, and the value
 -- beside it, of every case of every answer: document 01, "Numbers given back"; 0 and 1 stand for what has no number there. Then the number
--- and value of each call, by its tests: the promises of the crate `tcpao` cite them.
+-- and value of each call, by its tests: the promises of the crate `tcpao`, and of `locate` of `states`, cite them.
 use Prim.Native.Nat.{ℕ, _+_}
 use mathlib.Core.Bool.{Bool, cond}
 use mathlib.Core.List.{List}

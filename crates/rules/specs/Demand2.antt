@@ -1,5 +1,5 @@
--- Demand 2, as statements: "What one end signs, the other end accepts intact if it holds the mirrored key in a valid table, stands at the
--- stage for such a segment and, once open, has a reference less than 2^31 from the true 64-bit position."
+-- Demand 2, as statements: "What one end signs, the other end of that connection accepts intact if it holds the mirrored key in a valid
+-- table, stands at the stage for such a segment and, once open, has a reference less than 2^31 from the true 64-bit position."
 -- One statement for each way that a segment can go, for the signed bytes with any checksum in them, about what the calls return; then the
 -- three steps of an opening. Demand2Laws proves them.
 use Prim.Native.Nat.{ℕ}

@@ -33,7 +33,7 @@ pub data Arriving (t : Tables) (l : Connection) : Type 0 where
   real : (a : Arrival) (x r : ℕ) → TrueSegment t l a x r → Arriving t l
   other : (a : Arrival) → (Verifies t l a → ⊥) → Arriving t l
 
-module _ {t : List ℕ} {l : Connection} where
+module _ {t : Tables} {l : Connection} where
   abbrev pub arrival : Arriving t l → Arrival
   arrival (real a x r p) = a
   arrival (other a o) = a

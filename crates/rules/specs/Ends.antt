@@ -69,7 +69,7 @@ pub record Delivered (source destination bytes : List ℕ) (a : Arrival) : Type 
 -- bytes that the signing call wrote, given the state q and some table, segment and output, under the entry e: "A signed segment's true
 -- position is the X it was signed by."
 pub record SignedAt (q : State) (e : Entry) (x : ℕ) (bytes : List ℕ) : Type 0 where
-  pub table : List ℕ
+  pub table : Tables
   pub unsigned : List ℕ
   pub out : List ℕ
   pub octets : Octets unsigned

@@ -1,4 +1,4 @@
--- 32 and 37 in document 01's words, as statements: what the bytes that TCP-AO adds come to. They assume a valid table, which the tests
+-- 32 in document 01's words, as statements: what the bytes that TCP-AO adds come to. The first two assume a valid table, which the tests
 -- before 32 ensure. GrowthLaws proves them.
 use Prim.Native.Nat.{ℕ, _+_}
 use mathlib.Core.Path.{_≡_}

@@ -1,4 +1,4 @@
--- The statement of Kept holds of every state: judging, signing and asking on an open connection leave what it is, and a state of its type.
+-- The statement of Kept holds of every state: judging, signing and asking on an open connection leave what it is, and what `Typed` says.
 -- Assumes nothing of tables, bytes or the calls' order.
 use Prim.Native.Nat.{ℕ, _+_, _-_, _^_, _<_}
 use mathlib.Core.Path.{_≡_, refl, ap, sym, _∙_, subst}

@@ -142,7 +142,8 @@ DropCounted = (t : Tables) (a : Arrival) (q : State) (i : ℕ) → isOpen (q .co
     → judged t a q .verdict ≡ Drop (20 + i)
     → judged t a q .state ≡ droppedTo (set (q .drops) i (countUp (getD (q .drops) i 0))) q
 
--- "A refusal leaves outputs and state alike": any other drop, and every drop while opening
+-- "A refusal leaves outputs and state alike": a drop below 20 (none above 29 is given: RefusedAmong of GivenNumbers.antt), and every
+-- drop while opening
 abbrev pub DropUncounted : Type 0
 DropUncounted = (t : Tables) (a : Arrival) (q : State) (n : ℕ) → n < 20 → judged t a q .verdict ≡ Drop n → judged t a q .state ≡ q
 

@@ -116,8 +116,8 @@ pub record Arrived (s b : List ℕ) (k r : ℕ) (m : List ℕ) : Type 0 where
   pub its-syn : syn b ≡ syn s
   pub its-ack : ack b ≡ ack s
 
--- How the option looks that is inserted: TCP-AO, then so many bytes of padding, today none; and its length. What follows uses nothing else of
--- `optionOf` and `optionBytes`.
+-- How the option looks that is inserted: TCP-AO, then so many bytes of padding, today none; and its length. What follows uses nothing
+-- else of `optionOf` and `optionBytes`.
 abbrev pads : ℕ → ℕ
 pads n = 0
 

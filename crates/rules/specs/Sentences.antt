@@ -1,6 +1,6 @@
 -- Document 01's sentences, said of the definitions once more and apart from them: the table of numbers row by row, and bytes as numerals.
 -- A definition and the code that is proved equal to it could be wrong alike; then they contradict a sentence here. SentenceLaws proves
--- each.
+-- each, PositionLaws `PlaceAnswers`.
 use Prim.Native.Nat.{ℕ, _+_, _/_, _%_, _<_}
 use mathlib.Core.Path.{_≡_}
 use mathlib.Core.Bool.{Bool, cond, not, _&&_}

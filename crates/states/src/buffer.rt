@@ -3,10 +3,9 @@ ghost use mathlib.Core.Path.{_≡_};
 ghost use mathlib.Core.Bool.{cond};
 ghost use lib.ListN.{length};
 ghost use Rattle.states.specs.Layout.{isState, stateBytes, encodeOf};
+use crate::state::STATE_BYTES;
 use crate::state::encode;
 use rules::State;
-
-const STATE_BYTES: usize = 152;
 
 // Whether a buffer has a state's length.
 pub fn is_state(bytes: &[u8]) -> bool
@@ -24,12 +23,12 @@ pub fn put(bytes: &mut [u8], q: State)
     octets::copy_at(bytes, 0, &encoded);
 }
 
-// The same where an opening opened; else the bytes stay.
-pub fn put_where(bytes: &mut [u8], opened: bool, q: State)
+// The same where an opening is not refused; else the bytes stay.
+pub fn put_where(bytes: &mut [u8], written: bool, q: State)
     requires { ⌜ length (now bytes) ≡ stateBytes ⌝ }
-    ensures { λ _. ⌜ now (bytes .exit) ≡ cond opened (encodeOf q) (now (bytes .entry)) ⌝ }
+    ensures { λ _. ⌜ now (bytes .exit) ≡ cond written (encodeOf q) (now (bytes .entry)) ⌝ }
 {
-    if !opened {
+    if !written {
         return;
     }
     put(bytes, q);

@@ -124,7 +124,8 @@ pub fn judge(
     }
 }
 
-// "a bare SYN is judged without a state". `strict` drops one whose KeyID has no entry with 26; else it passes.
+// "a bare SYN is judged without a state". Where an entry matches the pair an unknown KeyID gets 26; where none does, `strict` decides: 26
+// or pass.
 pub fn judge_syn(
     table: &[u8],
     source: &[u8],
