@@ -52,7 +52,7 @@ pub fn unsigned(state: State, no: u8) -> [u8; 44] {
     let number = std::num::wrapping_add_u32(conn.isn, offset as u32);
     let mut s = [0u8; 44];
     lay(&mut s, 0, &header(state, number, ACK));
-    lay(&mut s, 20, b"level 2.41 m at pond 4 \n");
+    lay(&mut s, 20, b"measured value: 2.41 m \n");
     s
 }
 

@@ -40,10 +40,10 @@ pub fn table(client: bool) -> [u8; 208] {
     let f = front(client);
     let mut t = [0u8; 208];
     lay(&mut t, 0, &f);
-    lay(&mut t, 24, b"pond 4, first season");
+    lay(&mut t, 24, b"the first master key");
     lay(&mut t, 104, &f);
     lay(&mut t, 106, &[2, second(f[3]), second(f[4])]);
-    lay(&mut t, 128, b"pond 4, other season");
+    lay(&mut t, 128, b"the other master key");
     t
 }
 
