@@ -5,4 +5,4 @@ pub mod check;
 pub mod faults;
 pub mod opening;
 pub mod signing;
-pub mod verify;
+mod verify;
