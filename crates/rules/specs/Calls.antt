@@ -24,7 +24,7 @@ use Rattle.rules.specs.declared.Verdict.the-variants.{Accept, Pass, Drop
 use Rattle.rules.specs.declared.Connection.{Connection}
 use Rattle.rules.specs.declared.State.{State}
 use Rattle.rules.specs.declared.Judged.{Judged}
-use Rattle.rules.specs.declared.Checked.{Checked}
+use Rattle.rules.specs.declared.SynJudged.{SynJudged}
 use Rattle.rules.specs.declared.Signing.the-variants as S
 use Rattle.rules.specs.declared.Signed.{Signed}
 use Rattle.rules.specs.declared.Done.{Done}
@@ -213,7 +213,7 @@ unfoldable pub judged : Tables → Arrival → State → Judged
 judged t a q = judgedBy t q (check t (q .conn) (q .seen) a)
 
 -- "a bare SYN is judged without a state"
-unfoldable pub judgedSyn : Tables → Arrival → Bool → Checked
+unfoldable pub judgedSyn : Tables → Arrival → Bool → SynJudged
 judgedSyn t a strict = record { verdict = verdictOf (checkSyn t a strict); index = indexOf (checkSyn t a strict) }
 
 -- "A second call takes the same SYN and our ISN, judges it again and, only on accept, opens with the entry found, then applies the key rule

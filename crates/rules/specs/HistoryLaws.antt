@@ -19,7 +19,7 @@ use Rattle.rules.specs.Connection.{pairOf, isOpen, extensionOf, value, s
 use Rattle.rules.specs.Calls.{check, checkSyn, checkSign, askTests, verdictOf, afterJudging, judged, openedBy, openedPassively}
 use Rattle.rules.specs.Calls.{settledBy, unrefused, openTests, openedWith, openedActively, asked, outgoing, signedBy, signed}
 use Rattle.rules.specs.Demand3.{sum}
-use Rattle.rules.specs.History.{Call, judge, sign, ask, next, ended, verdictOn, given, accepts, drops, countedDrops, dropCount}
+use Rattle.rules.specs.History.{Call, judge, sign, ask, next, ended, verdictOn, verdictsOn, accepts, drops, countedDrops, dropCount}
 use Rattle.rules.specs.History.{CountsZero, FromZero, FromPassive, FromActive}
 use Rattle.rules.specs.CountLaws.{raised, each-below, slot-below, length-count, Counts, count-none, count-accept, count-drop}
 
@@ -95,21 +95,21 @@ call-counts (sign t s out) q vs end h n = let k = sign-keeps q s (outgoing t q) 
 call-counts (ask t id) q vs end h n = let k = ask-keeps q id (first (askTests t id (q .conn)) unrefused) in count-same q _ vs end (k .accepted) (k .drops) n
 
 -- any list of calls, from any state that is open, or whose counts are 0
-pub history : (l : List Call) (q : State) → Ready q → Counts q (given q l) (ended q l)
+pub history : (l : List Call) (q : State) → Ready q → Counts q (verdictsOn q l) (ended q l)
 history [] q h = count-none q
-history (c ∷ l) q h = call-counts c q (given (next c q) l) (ended (next c q) l) h (history l (next c q) (call-ready c q h))
+history (c ∷ l) q h = call-counts c q (verdictsOn (next c q) l) (ended (next c q) l) h (history l (next c q) (call-ready c q h))
 
 pub one-count : FromZero
 one-count q f l =
     record {
-      accepted = c .accepted ∙ from-0 (accepts (given q l)) (q .accepted) (f .accepted);
-      dropped = λ n k. c .dropped n k ∙ from-0 (drops n (given q l)) (dropCount n q) (zero-at n k);
+      accepted = c .accepted ∙ from-0 (accepts (verdictsOn q l)) (q .accepted) (f .accepted);
+      dropped = λ n k. c .dropped n k ∙ from-0 (drops n (verdictsOn q l)) (dropCount n q) (zero-at n k);
       accepted-exactly = λ s. omega (arith, c .accepted, f .accepted, s .accepts);
       dropped-exactly = λ s n k. omega (arith, c .dropped n k, zero-at n k, each-below stop (ended q l .drops) (s .drops) (omega arith) (value (slot n)));
       total = λ s. omega (arith, c .accepted, f .accepted, s .accepts, c .total (s .drops), ap sum (f .drops));
     }
   where
-    c : Counts q (given q l) (ended q l)
+    c : Counts q (verdictsOn q l) (ended q l)
     c = history l q (record { counts = ap length (f .drops); fresh = λ z. f })
 
     from-0 : (k n : ℕ) → n ≡ 0 → raised k n ≡ min stop k
