@@ -94,12 +94,12 @@ passed-empty t a isn strict e = go (checkSyn t a strict) refl
 
 -- the output, where signing answers with a length
 module _ (t : Tables) (s out : List ℕ) (q : State) where
-  fits : (x r : ℕ) → checkSign t s (length out) q ≡ Good x r → length s + addedBytes (outgoing t q) ≤ length out
+  fits : (x r : ℕ) → checkSign t s (length out) q ≡ Good x r → length s + addedBytes (outgoing t q .entry) ≤ length out
   unfolding checkSign
   fits x r e = go (none-applied isBad (signTests t s (length out) q (outgoing t q)) _ (rw (refusal-bad (checked t))) (ap isBad e))
     where
-      go : NoneApplies (signTests t s (length out) q (outgoing t q)) → length s + addedBytes (outgoing t q) ≤ length out
-      go p = ltb-false (length out) (length s + addedBytes (outgoing t q)) (search)
+      go : NoneApplies (signTests t s (length out) q (outgoing t q)) → length s + addedBytes (outgoing t q .entry) ≤ length out
+      go p = ltb-false (length out) (length s + addedBytes (outgoing t q .entry)) (search)
 
   writes : (n : ℕ) → signed t s out q .answer ≡ S.Signed n → (drop n (output t s out q) ≡ drop n out) × (length (output t s out q) ≡ length out)
   unfolding signed output
@@ -107,7 +107,7 @@ module _ (t : Tables) (s out : List ℕ) (q : State) where
     where
       go : (o : Outcome) → checkSign t s (length out) q ≡ o → (drop n (output t s out q) ≡ drop n out) × (length (output t s out q) ≡ length out)
       go (Good x r) f =
-          let k : length s + addedBytes (outgoing t q) ≡ n = cc (rw f at e) in
+          let k : length s + addedBytes (outgoing t q .entry) ≡ n = cc (rw f at e) in
           let l = signed-long t s out q (signs-good t s out q x r f .0) x ∙ k in
           let w = fits x r f in
           rw f (

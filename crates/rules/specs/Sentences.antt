@@ -113,25 +113,31 @@ SynTable = (t : K.Tables) (a : Arrival) (strict : Bool)
     ≡ firstOf (synRows t strict (K.recvEntry t (arrivalPair a) (keyId (a .segment))) a)
     (Good (sequence (a .segment)) (rnextKeyId (a .segment)))
 
--- Signing the segment s into an output of `room` bytes: TCP-AO takes 16.
-abbrev pub signRows : K.Tables → List ℕ → ℕ → State → Place → List NumberRow
-signRows t s room q x =
+-- Ticket 4: the words of an option that has n bytes of MAC, padded "to the next multiple of four"
+abbrev pub optionWords : ℕ → ℕ
+optionWords n = (4 + n + 3) / 4
+
+-- Signing the segment s into an output of `room` bytes, under the entry that is found for the outgoing SendID: its option adds w words.
+abbrev pub signRows : K.Tables → List ℕ → ℕ → State → Place → ℕ → List NumberRow
+signRows t s room q x w =
     row 18 (not (isFamily (q .conn .pair .family)) ∷ [])
     ∷ entriesRow t
     ∷ row 30 (badSize s)
     ∷ row 31 (malformed s ∷ ltb 0 (ao s .count) ∷ ltb 0 (md5 s .count) ∷ [])
-    ∷ row 32 (ltb 11 (dataOffset s) ∷ ltb 65535 (length s + 16) ∷ [])
     ∷ row 33 (not (eqb (sourcePort s) (q .conn .pair .«local_port»)) ∷ not (eqb (destinationPort s) (q .conn .pair .«remote_port»)) ∷ [])
     ∷ row 34 (cond (isOpen (q .conn)) (isBareSyn s) (not (isBareSyn s)) ∷ [])
     ∷ row 35 (not (K.sendEntry t (q .conn .pair) (q .«send_id») .there) ∷ [])
+    ∷ row 32 (ltb 15 (dataOffset s + w) ∷ ltb 65535 (length s + 4 * w) ∷ [])
     ∷ row 36 (not (located x) ∷ (syn s && not (eqb (value x) (q .conn .isn))) ∷ [])
-    ∷ row 37 (ltb room (length s + 16) ∷ [])
+    ∷ row 37 (ltb room (length s + 4 * w) ∷ [])
     ∷ []
 
 abbrev pub SignTable : Type 0
 SignTable = (t : K.Tables) (s : List ℕ) (room : ℕ) (q : State)
     → checkSign t s room q
-    ≡ firstOf (signRows t s room q (placeOn (q .conn) (q .sent) (sequence s)))
+    ≡ firstOf
+    (signRows t s room q (placeOn (q .conn) (q .sent) (sequence s))
+    (optionWords (K.sendEntry t (q .conn .pair) (q .«send_id») .entry .secret .«mac_bytes»)))
     (Good (value (placeOn (q .conn) (q .sent) (sequence s))) (q .«ask_id»))
 
 -- 35: "no entry matching the pair has the outgoing SendID (opening ..) or the RecvID to ask (operator call)"
