@@ -23,7 +23,7 @@ use Rattle.rules.specs.Growth.{GrowthIs, Growth12, Growth16, SignedLengt
 -- what the entry that a valid table has for a pair and a SendID promises of its MAC
 pub short-found : (t : Tables) (p : Pair) (id : ℕ) → ValidTable t → sendEntry t p id .there ≡ true
     → sendEntry t p id .entry .secret .«mac_bytes» ≤ 16
-short-found t p id v e = omega (arith, valid-proper t v (send-holder t p id e .0 .place) .mac)
+short-found t p id v e = valid-proper t v (send-holder t p id e .0 .place) .mac-high
 
 -- a header of 60 bytes is passed, by words
 pub above-15 : (s : List ℕ) (added : ℕ) → Whole added → ltb 60 (headerEnd s + added) ≡ ltb 15 (dataOffset s + added / 4)

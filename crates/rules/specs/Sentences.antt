@@ -156,7 +156,7 @@ AskTable = (t : K.Tables) (id : ℕ) (l : Connection)
 abbrev pub EntryOrder : Type 0
 EntryOrder = (limit i : ℕ) (before : List Entry) (x : Item)
     → map (λ (r : Test ℕ). r .gives) (K.loadTests limit i before x)
-    ≡ 12 ∷ 11 ∷ 10 ∷ 13 ∷ 13 ∷ 13 ∷ 14 ∷ 14 ∷ 15 ∷ 15 ∷ 15 ∷ 15 ∷ 16 ∷ 16 ∷ 16 ∷ 17 ∷ []
+    ≡ 12 ∷ 11 ∷ 10 ∷ 13 ∷ 13 ∷ 13 ∷ 13 ∷ 13 ∷ 14 ∷ 14 ∷ 15 ∷ 15 ∷ 15 ∷ 15 ∷ 16 ∷ 16 ∷ 16 ∷ 17 ∷ []
 
 -- Answers. "A verdict is accept with its extension, pass, or drop with a number": accept has the number 0, pass 1.
 pub record AnswerNumbers : Type 0 where
@@ -254,12 +254,12 @@ MessageOrder = (s : Secret) (f : Flow) (e at : ℕ) (segment : List ℕ)
     ++ coveredHeader (allOptions s) at (s .«mac_bytes») (take (headerEnd segment) segment)
     ++ drop (headerEnd segment) segment
 
--- "The leftmost 12 bytes are the MAC."
+-- "The leftmost 12 bytes are the MAC."; Ticket 4: "no longer .. twelve bytes but the leftmost n"
 pub record SegmentMacs : Type 0 where
-  pub hmac : (s : Secret) (f : Flow) (e at : ℕ) (segment : List ℕ) → s .algorithm ≡ 1 → s .«mac_bytes» ≡ 12
-      → segmentMac s f e at segment ≡ take 12 (hmacSha1 (trafficKey s f) (message s f e at segment))
-  pub cmac : (s : Secret) (f : Flow) (e at : ℕ) (segment : List ℕ) → s .algorithm ≡ 2 → s .«mac_bytes» ≡ 12
-      → segmentMac s f e at segment ≡ take 12 (cmac (trafficKey s f) (message s f e at segment))
+  pub hmac : (s : Secret) (f : Flow) (e at n : ℕ) (segment : List ℕ) → s .algorithm ≡ 1 → s .«mac_bytes» ≡ n
+      → segmentMac s f e at segment ≡ take n (hmacSha1 (trafficKey s f) (message s f e at segment))
+  pub cmac : (s : Secret) (f : Flow) (e at n : ℕ) (segment : List ℕ) → s .algorithm ≡ 2 → s .«mac_bytes» ≡ n
+      → segmentMac s f e at segment ≡ take n (cmac (trafficKey s f) (message s f e at segment))
 
 -- A segment that arrives on the open connection, 27 bytes: four options of kind 1, three bytes of data.
 abbrev pub unsigned : List ℕ
@@ -280,8 +280,22 @@ signedBytes =
 abbrev pub SignedExample : Type 0
 SignedExample = signedWith 84 61 mac unsigned ≡ signedBytes
 
+-- Ticket 4: "The signer pads the option, directly behind it, with kind 1 bytes to the next multiple of four", here of a MAC of five bytes;
+-- "the data offset rises by the words of the padded option"
+abbrev pub paddedBytes : List ℕ
+paddedBytes =
+    0 ∷ 179 ∷ 233 ∷ 215 ∷ 0 ∷ 0 ∷ 0 ∷ 16 ∷ 1 ∷ 2 ∷ 3 ∷ 4 ∷ 144 ∷ 16 ∷ 128 ∷ 0 ∷ 0 ∷ 0 ∷ 7 ∷ 8
+    ∷ 29 ∷ 9 ∷ 84 ∷ 61 ∷ 201 ∷ 202 ∷ 203 ∷ 204 ∷ 205 ∷ 1 ∷ 1 ∷ 1
+    ∷ 1 ∷ 1 ∷ 1 ∷ 1 ∷ 97 ∷ 98 ∷ 99 ∷ []
+
+abbrev pub PaddedExample : Type 0
+PaddedExample = signedWith 84 61 (201 ∷ 202 ∷ 203 ∷ 204 ∷ 205 ∷ []) unsigned ≡ paddedBytes
+
+abbrev pub secretFor : ℕ → ℕ → Secret
+secretFor n flags = record { flags = flags; algorithm = 1; «mac_bytes» = n; «key_len» = 1; key = replicate 80 0 }
+
 abbrev pub secret : ℕ → Secret
-secret flags = record { flags = flags; algorithm = 1; «mac_bytes» = 12; «key_len» = 1; key = replicate 80 0 }
+secret flags = secretFor 12 flags
 
 -- "the TCP header with checksum and MAC bytes zero"; "With flag 0 only the header's first 20 bytes, data offset as sent, and TCP-AO
 -- remain."
