@@ -154,7 +154,7 @@ verdict-among pass l (Good x r) n p e = let z : _≡_ {A = ℕ} 0 1 = cc in absu
 verdict-among pass l Passed n p e = let z : _≡_ {A = ℕ} 0 1 = cc in absurd (omega arith)
 verdict-among pass l (Bad m i) n p e = let z : m ≡ n = cc in sym (ap (λ (k : ℕ). among k l) z) ∙ p
 
-signing-among : (q : State) (s : List ℕ) (f : Found) (l : List ℕ) (o : Outcome) (n : ℕ) → only false l o ≡ true → bySigning (signedBy q s f o .answer) ≡ D.Refused n → among n l ≡ true
+signing-among : (q : State) (s : List ℕ) (f : Entry) (l : List ℕ) (o : Outcome) (n : ℕ) → only false l o ≡ true → bySigning (signedBy q s f o .answer) ≡ D.Refused n → among n l ≡ true
 signing-among q s f l (Good x r) n p e = let z : _≡_ {A = ℕ} 0 1 = cc in absurd (omega arith)
 signing-among q s f l Passed n p e = let z : _≡_ {A = ℕ} 0 1 = cc (p) in absurd (omega arith)
 signing-among q s f l (Bad m i) n p e = let z : m ≡ n = cc in sym (ap (λ (k : ℕ). among k l) z) ∙ p
@@ -172,7 +172,7 @@ active-among t local remote p isn sendId n e =
 pub refused-among : RefusedAmong
 unfolding judged signed asked judgedSyn openedPassively openedActively
 refused-among (on (judge t a) q) n e = verdict-among false judgeNumbers (check t (q .conn) (q .seen) a) n (check-only t (q .conn) (q .seen) a) e
-refused-among (on (sign t s out) q) n e = signing-among q s (outgoing t q) signNumbers (checkSign t s (length out) q) n (checkSign-only t s (length out) q) e
+refused-among (on (sign t s out) q) n e = signing-among q s (outgoing t q .entry) signNumbers (checkSign t s (length out) q) n (checkSign-only t s (length out) q) e
 refused-among (on (ask t id) q) n e = settled-among q _ askNumbers (first (askTests t id (q .conn)) unrefused) n (ask-only t id (q .conn)) e
 refused-among (judgeSyn t a strict) n e = verdict-among true synNumbers (checkSyn t a strict) n (checkSyn-only t a strict) e
 refused-among (openPassively t a isn strict) n e = verdict-among true synNumbers (checkSyn t a strict) n (checkSyn-only t a strict) e

@@ -8,7 +8,6 @@ use native.Mathlib.Omega.{arith}
 use lib.ListN.{length, getD, getD-replicate}
 use Rattle.keys.specs.declared.entry.Pair.{Pair}
 use Rattle.keys.specs.declared.entry.Entry.{Entry}
-use Rattle.keys.specs.declared.table.Found.{Found}
 use Rattle.keys.specs.Table.{Tables, sendEntry}
 use Rattle.rules.specs.declared.Outcome.{Outcome}
 use Rattle.rules.specs.declared.Outcome.the-variants.{Good, Passed, Bad}
@@ -34,7 +33,7 @@ record Keeps (q r : State) : Type 0 where
   accepted : r .accepted ≡ q .accepted
   drops : r .drops ≡ q .drops
 
-sign-keeps : (q : State) (s : List ℕ) (f : Found) (o : Outcome) → Keeps q (signedBy q s f o .state)
+sign-keeps : (q : State) (s : List ℕ) (f : Entry) (o : Outcome) → Keeps q (signedBy q s f o .state)
 sign-keeps q s f (Good x r) = record { conn = refl; accepted = refl; drops = refl }
 sign-keeps q s f Passed = record { conn = refl; accepted = refl; drops = refl }
 sign-keeps q s f (Bad n i) = record { conn = refl; accepted = refl; drops = refl }
@@ -85,13 +84,13 @@ judge-counts t q (Bad n i) vs end false e h c = rw e (rw e at c)
 call-ready : (c : Call) (q : State) → Ready q → Ready (next c q)
 unfolding judged signed asked
 call-ready (judge t a) q h = judge-ready t q (check t (q .conn) (q .seen) a) (isOpen (q .conn)) refl h
-call-ready (sign t s out) q h = keeps-ready q _ (sign-keeps q s (outgoing t q) (checkSign t s (length out) q)) h
+call-ready (sign t s out) q h = keeps-ready q _ (sign-keeps q s (outgoing t q .entry) (checkSign t s (length out) q)) h
 call-ready (ask t id) q h = keeps-ready q _ (ask-keeps q id (first (askTests t id (q .conn)) unrefused)) h
 
 call-counts : (c : Call) (q : State) (vs : List Verdict) (end : State) → Ready q → Counts (next c q) vs end → Counts q (verdictOn c q ++ vs) end
 unfolding judged signed asked
 call-counts (judge t a) q vs end h n = judge-counts t q (check t (q .conn) (q .seen) a) vs end (isOpen (q .conn)) refl h n
-call-counts (sign t s out) q vs end h n = let k = sign-keeps q s (outgoing t q) (checkSign t s (length out) q) in count-same q _ vs end (k .accepted) (k .drops) n
+call-counts (sign t s out) q vs end h n = let k = sign-keeps q s (outgoing t q .entry) (checkSign t s (length out) q) in count-same q _ vs end (k .accepted) (k .drops) n
 call-counts (ask t id) q vs end h n = let k = ask-keeps q id (first (askTests t id (q .conn)) unrefused) in count-same q _ vs end (k .accepted) (k .drops) n
 
 -- any list of calls, from any state that is open, or whose counts are 0

@@ -26,7 +26,7 @@ use Rattle.rules.specs.declared.State.{State}
 use Rattle.rules.specs.Position.{position}
 use Rattle.rules.specs.Mac.{segmentMac}
 use Rattle.rules.specs.MacLaws.{length-mac}
-use Rattle.rules.specs.Segment.{inserted, withOption, signedWith}
+use Rattle.rules.specs.Segment.{inserted, withOption, optionBytes, signedWith}
 use Rattle.rules.specs.Connection.{arrivalPair, leaving, extensionOf, placeOn}
 use Rattle.rules.specs.Calls.{outgoing, addedBytes, checkSign, signedSegment, written, signedBy, outputBy, signed, output}
 use Rattle.rules.specs.Ends.{Typed, Delivered, Holds, SignedAt}
@@ -77,7 +77,7 @@ out = replicate 60 0
 record Signs (q : State) (s : List ℕ) (x : ℕ) : Type 0 where
   good : checkSign theirTable s 60 q ≡ Good x 61
   under : outgoing theirTable q .entry ≡ theirEntry
-  added : addedBytes (outgoing theirTable q) ≡ 16
+  added : addedBytes (outgoing theirTable q .entry) ≡ 16
   fresh : Fresh s
   octets : Octets s
   place : placeOn (q .conn) (q .sent) (sequence s) ≡ At x
@@ -93,7 +93,7 @@ module _ (q : State) (s : List ℕ) (x : ℕ) (g : Signs q s x) where
       let m = segmentMac (theirEntry .secret) (leaving (q .conn)) (extensionOf x) 20 zeros in
       let n = length-mac (theirEntry .secret) (leaving (q .conn)) (extensionOf x) 20 zeros (omega (arith, twelve)) in
       let l : length m ≡ 12 = n ∙ twelve in
-      length-signed s (g .fresh) 0 0 (q .«send_id») (q .«ask_id») m (omega arith) ∙ ap (λ (n : ℕ). length s + (4 + n)) l
+      length-signed s (g .fresh) 0 0 (q .«send_id») (q .«ask_id») m ∙ ap (λ (n : ℕ). length s + optionBytes n) l
 
   wrote : bytes ≡ take (length bytes) (output theirTable s out q)
   unfolding output
@@ -111,7 +111,7 @@ module _ (q : State) (s : List ℕ) (x : ℕ) (g : Signs q s x) where
         out = out;
         octets = g .octets;
         answer =
-            ap (λ (o : Outcome). signedBy q s (outgoing theirTable q) o .answer) (g .good)
+            ap (λ (o : Outcome). signedBy q s (outgoing theirTable q .entry) o .answer) (g .good)
             ∙ ap (λ (n : ℕ). S.Signed (length s + n)) (g .added)
             ∙ ap S.Signed (sym long);
         wrote = wrote;

@@ -118,7 +118,7 @@ pub record Arrived (s b : List ℕ) (k r : ℕ) (m : List ℕ) : Type 0 where
 
 -- the padded option: its length, which fills whole words
 pub length-option : (k r : ℕ) (m : List ℕ) → length (optionOf k r m) ≡ optionBytes (length m)
-length-option k r m = omega (arith, length-append m (replicate (padding (length m)) 1), length-replicate (padding (length m)) 1)
+length-option k r m = omega (arith, length-append m (replicate (padding (length m)) 1), length-replicate {A = ℕ} (padding (length m)) 1)
 
 pub whole-words : (n : ℕ) → Whole (optionBytes n)
 whole-words n = omega arith

@@ -1,7 +1,7 @@
 -- Document 01's sentences, said of the definitions once more and apart from them: the table of numbers row by row, and bytes as numerals.
 -- A definition and the code that is proved equal to it could be wrong alike; then they contradict a sentence here. SentenceLaws proves
 -- each, PositionLaws `PlaceAnswers`.
-use Prim.Native.Nat.{ℕ, _+_, _/_, _%_, _<_}
+use Prim.Native.Nat.{ℕ, _+_, _*_, _/_, _%_, _<_}
 use mathlib.Core.Path.{_≡_}
 use mathlib.Core.Bool.{Bool, cond, not, _&&_}
 use mathlib.Core.List.{List, [], _∷_, _++_, map}
@@ -310,3 +310,12 @@ pub record Covered : Type 0 where
       ∷ 0 ∷ 179 ∷ 233 ∷ 215 ∷ 0 ∷ 0 ∷ 0 ∷ 16 ∷ 1 ∷ 2 ∷ 3 ∷ 4 ∷ 160 ∷ 16 ∷ 128 ∷ 0 ∷ 0 ∷ 0 ∷ 7 ∷ 8
       ∷ 29 ∷ 16 ∷ 84 ∷ 61 ∷ 0 ∷ 0 ∷ 0 ∷ 0 ∷ 0 ∷ 0 ∷ 0 ∷ 0 ∷ 0 ∷ 0 ∷ 0 ∷ 0
       ∷ 97 ∷ 98 ∷ 99 ∷ []
+  -- the padding is no part of TCP-AO
+  pub all-padded : message (secretFor 5 1) (arriving openEnd []) 1 20 paddedBytes
+      ≡ 0 ∷ 0 ∷ 0 ∷ 1 ∷ 172 ∷ 27 ∷ 28 ∷ 29 ∷ 10 ∷ 11 ∷ 12 ∷ 13 ∷ 0 ∷ 6 ∷ 0 ∷ 39
+      ∷ 0 ∷ 179 ∷ 233 ∷ 215 ∷ 0 ∷ 0 ∷ 0 ∷ 16 ∷ 1 ∷ 2 ∷ 3 ∷ 4 ∷ 144 ∷ 16 ∷ 128 ∷ 0 ∷ 0 ∷ 0 ∷ 7 ∷ 8
+      ∷ 29 ∷ 9 ∷ 84 ∷ 61 ∷ 0 ∷ 0 ∷ 0 ∷ 0 ∷ 0 ∷ 1 ∷ 1 ∷ 1 ∷ 1 ∷ 1 ∷ 1 ∷ 1 ∷ 97 ∷ 98 ∷ 99 ∷ []
+  pub only-padded : message (secretFor 5 0) (arriving openEnd []) 1 20 paddedBytes
+      ≡ 0 ∷ 0 ∷ 0 ∷ 1 ∷ 172 ∷ 27 ∷ 28 ∷ 29 ∷ 10 ∷ 11 ∷ 12 ∷ 13 ∷ 0 ∷ 6 ∷ 0 ∷ 39
+      ∷ 0 ∷ 179 ∷ 233 ∷ 215 ∷ 0 ∷ 0 ∷ 0 ∷ 16 ∷ 1 ∷ 2 ∷ 3 ∷ 4 ∷ 144 ∷ 16 ∷ 128 ∷ 0 ∷ 0 ∷ 0 ∷ 7 ∷ 8
+      ∷ 29 ∷ 9 ∷ 84 ∷ 61 ∷ 0 ∷ 0 ∷ 0 ∷ 0 ∷ 0 ∷ 97 ∷ 98 ∷ 99 ∷ []
