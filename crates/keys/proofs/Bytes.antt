@@ -6,14 +6,36 @@ use native.Mathlib.Omega.{arith}
 use native.Mathlib.Nat.{sub-zero, zero-add, add-sub-cancel-left}
 use lib.ListN.{length, getD, take, drop, replicate, length-take, length-drop}
 use lib.Seq.{paste, take-length, take-all}
+use borrow.Author.Tests.{eq-eqb, ne-eqb}
 use Rattle.wire.specs.Prefix.{agree}
 use Rattle.wire.specs.PrefixLaws.{agree-take, agree-by}
-use Rattle.keys.specs.Entry.{size, width, padded}
+use Rattle.keys.specs.Algorithm.{macBytes}
+use Rattle.keys.specs.Entry.{familyOf, extra, size, width, padded, sidesEnd, macLength}
 use Rattle.keys.specs.EntryLaws.{width-le, body-is}
 
--- an entry that is there whole, whose addresses have w bytes
-pub room : (k w n : ℕ) → w ≡ width k → size k ≤ n → (w ≤ 16) × (96 + 2 * w ≤ n)
-room k w n e h = let a = width-le k in let b = body-is k in (omega arith, omega arith)
+-- an address of the family has w bytes
+pub width-by : (f w : ℕ) → w ≡ width f → w ≤ 16
+width-by f w e = let a = width-le f in omega arith
+
+-- an entry of kind k that is there whole, of n bytes or more: where its sides end, `at` more bytes and the key
+pub room : (k n : ℕ) → size k ≤ n → sidesEnd k + extra k + 81 ≤ n
+room k n h = let b = body-is k in omega arith
+
+-- and its addresses have w bytes
+pub sides-room : (k f w n : ℕ) → f ≡ familyOf k → w ≡ width f → size k ≤ n → (w ≤ 16) × (96 + 2 * w ≤ n)
+sides-room k f w n fe we h =
+    let e : w ≡ width (familyOf k) = we ∙ ap width fe in
+    let a = room k n h in
+    (width-by f w we, omega arith)
+
+-- the byte of the MAC's length, and where there is none
+pub mac-named : (k : ℕ) (e : List ℕ) (x at : ℕ) → x ≡ extra k → x ≡ 1 → at ≡ sidesEnd k → getD e at 0 ≡ macLength k e
+unfolding macLength
+mac-named k e x at xe h q = rw (eq-eqb (extra k) 1 (sym xe ∙ h)) (ap (λ (i : ℕ). getD e i 0) q)
+
+pub mac-unnamed : (k : ℕ) (e : List ℕ) (x m : ℕ) → x ≡ extra k → (x ≡ 1 → ⊥) → m ≡ macBytes (getD e 2 0) → m ≡ macLength k e
+unfolding macLength
+mac-unnamed k e x m xe h q = rw (ne-eqb (extra k) 1 (λ z. h (xe ∙ z))) q
 
 abbrev blank : ℕ → List ℕ
 blank n = replicate n 0

@@ -11,7 +11,7 @@ use lib.Seq.{take-all, take-nil, take-append-add, append-snoc}
 use lib.Dec.{leb}
 use borrow.Author.Tests.{eq-eqb, ne-eqb, le-leb, lt-leb}
 use Rattle.octets.specs.Tests.{Test, test}
-use Rattle.keys.specs.Entry.{knownKind, size, width, idsOf, selectorOf, entryOf, Item, item, itemAt, sound, items, entries}
+use Rattle.keys.specs.Entry.{knownKind, size, idsOf, selectorOf, entryOf, Item, item, itemAt, sound, items, entries}
 use Rattle.keys.specs.EntryLaws.{kind-is, items-at, items-end, sound-inside, entries-next, entries-stop}
 use Rattle.keys.specs.Match.{overlap, share, clash}
 use Rattle.keys.specs.Table.{numberOf, entryTests, clashing, itemTests, loadTests, refusing, loadedFrom, loaded, nobody, found}
@@ -57,9 +57,9 @@ module _ (t : List ℕ) (at : ℕ) where
   unfolding item entryOf
   ids-at i e = e ∙ ap idsOf (tail-is t at)
 
-  pub selector-at : (s : Selector) → s ≡ selectorOf (width (getD (tail t at) 0 0)) (tail t at) → s ≡ itemAt t at .entry .selector
+  pub selector-at : (s : Selector) → s ≡ selectorOf (getD (tail t at) 0 0) (tail t at) → s ≡ itemAt t at .entry .selector
   unfolding item entryOf
-  selector-at s e = e ∙ ap (λ (x : List ℕ). selectorOf (width (getD x 0 0)) x) (tail-is t at)
+  selector-at s e = e ∙ ap (λ (x : List ℕ). selectorOf (getD x 0 0) x) (tail-is t at)
 
   pub entry-at : (e : Entry) → e ≡ entryOf (tail t at) → e ≡ itemAt t at .entry
   unfolding item
