@@ -266,7 +266,7 @@ fn fields_of_a_state() {
         assert_eq!(state.local(), local.parse::<SocketAddr>().unwrap());
         assert_eq!(state.remote(), remote.parse::<SocketAddr>().unwrap());
         assert!(state.is_open());
-        assert_eq!((state.send_id(), state.asked_id()), (2, 3));
+        assert_eq!((state.send_id(), state.ask_id()), (2, 3));
         assert_eq!((state.isn(), state.peer_isn()), (0x08090A0B, 0x0C0D0E0F));
         assert_eq!(state.sent_reference(), 0x3031323334353637);
         assert_eq!(state.seen_reference(), 0x38393A3B3C3D3E3F);
@@ -304,7 +304,7 @@ fn key_change() {
             ends.tables[end] = KeyTable::from_bytes(both).unwrap();
         }
         ends.ends[0].ask(&ends.tables[0], 51).unwrap();
-        assert_eq!(ends.ends[0].asked_id(), 51);
+        assert_eq!(ends.ends[0].ask_id(), 51);
         let signed = segment(PORTS, ISNS[0] + 1, ACK, &[], b"");
         let signed = ends.sign(&signed).unwrap();
         assert_eq!(ends.ends[1].send_id(), IDS[1]);
