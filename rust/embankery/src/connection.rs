@@ -260,8 +260,9 @@ impl Connection {
         .verdict()
     }
 
-    /// Signs a segment that has neither TCP-AO nor TCP MD5. The result's checksum is zero: the sum
-    /// is the caller's to fill in.
+    /// Signs a segment that has neither TCP-AO nor TCP MD5. It gets longer by TCP-AO: 4 bytes and the MAC
+    /// of the outgoing key's entry, filled up to whole words. The result's checksum is zero: the sum is
+    /// the caller's to fill in.
     pub fn sign(&mut self, table: &KeyTable, segment: &[u8]) -> Result<Vec<u8>, Refusal> {
         // Longer segments are refused before the output's length matters.
         let longest = segment.len().min(usize::from(u16::MAX));
