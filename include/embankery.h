@@ -38,9 +38,9 @@ extern "C" {
  *
  *   The table of keys is refused:
  *   10   the entry is cut off before its end
- *   11   the entry's kind is neither 4 (IPv4) nor 6 (IPv6)
+ *   11   the entry's kind is none of 4, 5 (IPv4), 6 and 7 (IPv6)
  *   12   a 65th entry begins
- *   13   the entry's flags or its algorithm are not listed
+ *   13   the entry's flags or its algorithm are not listed, or its MAC's length is not 4 to 16
  *   14   a low port is above its high port
  *   15   a prefix length is above 32 (IPv4) or 128 (IPv6), or address bits are set past it
  *   16   the key's length is 0 or above 80, or its padding is not zero
@@ -59,14 +59,14 @@ extern "C" {
  *   24   the segment is the wrong one for the connection's stage
  *   25   the segment has no TCP-AO
  *   26   no entry that matches the pair has the segment's KeyID as its RecvID
- *   27   the MAC has the wrong length
+ *   27   the MAC's length is not the entry's
  *   28   the sequence number has no position
  *   29   the MAC differs
  *
  *   A segment is not signed, or a call not done:
  *   30   signing: the segment's length or data offset is bad
  *   31   signing: the options are malformed, or TCP-AO or TCP MD5 is there already
- *   32   signing: the data offset is above 11, or the result would be longer than 65,535 bytes
+ *   32   signing: the data offset would be above 15, or the result longer than 65,535 bytes
  *   33   signing: the segment's ports are not the connection's
  *   34   signing: the segment is the wrong one for the connection's stage
  *   35   no entry that matches the pair has the outgoing SendID (opening, signing) or the RecvID
