@@ -99,15 +99,16 @@ extern "C" {
  * address of w bytes:
  *
  *   bytes  field
- *   1      kind: 4 (IPv4, w = 4) or 6 (IPv6, w = 16)
+ *   1      kind: 4 or 5 (IPv4, w = 4), 6 or 7 (IPv6, w = 16)
  *   1      flags: 1, the MAC covers all options; 0, only TCP-AO
- *   1      algorithm: 1, HMAC-SHA-1-96; 2, AES-128-CMAC-96
+ *   1      algorithm: 1, HMAC-SHA-1; 2, AES-128-CMAC
  *   1      SendID: the KeyID of segments that we sign
  *   1      RecvID: the KeyID of segments that we receive
  *   2, 2   local port, low and high, both included
  *   2, 2   remote port, low and high
  *   w, 1   local address, and its prefix length in bits
  *   w, 1   remote address, and its prefix length
+ *   1      only in kinds 5 and 7: the MAC's length, 4 to 16 bytes; in kinds 4 and 6 it is 12
  *   1      key length, 1 to 80
  *   80     the key, and zeros behind it
  *
@@ -118,8 +119,8 @@ extern "C" {
  * Every call that takes a table checks it anew, as tcpao_check_table does.
  */
 #define EMBANKERY_ENTRIES 64
-#define EMBANKERY_IPV4_ENTRY_BYTES 104
-#define EMBANKERY_IPV6_ENTRY_BYTES 128
+#define EMBANKERY_IPV4_ENTRY_BYTES 104 /* of kind 4; one more of kind 5 */
+#define EMBANKERY_IPV6_ENTRY_BYTES 128 /* of kind 6; one more of kind 7 */
 
 /* A connection's state.
  *
