@@ -163,7 +163,7 @@ extern "C" {
 #define EMBANKERY_STATE_BYTES 152
 
 /* What signing adds to a segment, and the most that a segment may have. */
-#define EMBANKERY_ADDED_BYTES 16
+#define EMBANKERY_ADDED_BYTES 20 /* the most that signing adds: a MAC of 16 bytes; 16 with one of 12 */
 #define EMBANKERY_SEGMENT_BYTES 65535
 
 /* Checks a key table. Gives 0 with the number of entries, or 10 to 17 with an entry's index. Writes
@@ -236,15 +236,15 @@ uint64_t tcpao_judge(const uint8_t *table, size_t table_len, const uint8_t *sour
                      const uint8_t *destination, size_t destination_len, const uint8_t *segment,
                      size_t segment_len, uint8_t *state, size_t state_len);
 
-/* Signs a segment: writes to out the segment with TCP-AO directly behind byte 20, the data offset raised
- * by 4 and the checksum zero. The checksum is the caller's to compute, over what stands in out. While
- * opening only the bare SYN whose number is our ISN may be signed; once open a SYN+ACK or a segment
- * without SYN.
+/* Signs a segment: writes to out the segment with TCP-AO directly behind byte 20, padded with kind 1
+ * bytes to a multiple of four, the data offset raised by these words and the checksum zero. The checksum
+ * is the caller's to compute, over what stands in out. While opening only the bare SYN whose number is
+ * our ISN may be signed; once open a SYN+ACK or a segment without SYN.
  *
- * out must have at least EMBANKERY_ADDED_BYTES more than the segment, else 37. Gives 0 with the signed
- * length n, or 18, 10 to 17, 30 to 37. Where it gives 0 it writes the first n bytes of out, and what
- * stands behind them stays; in state it changes only the reference of the direction that we sign, to the
- * larger of the old one and the segment's position. Else both stay.
+ * out must have room for what is signed, EMBANKERY_ADDED_BYTES more than the segment being always enough,
+ * else 37. Gives 0 with the signed length n, or 18, 10 to 17, 30 to 37. Where it gives 0 it writes the
+ * first n bytes of out, and what stands behind them stays; in state it changes only the reference of the
+ * direction that we sign, to the larger of the old one and the segment's position. Else both stay.
  *
  * C needs: pointers good for their lengths; out overlaps neither table, segment nor state, and state
  * neither table nor segment.

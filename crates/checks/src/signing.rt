@@ -79,8 +79,8 @@ fn fresh_faults(options: Options) -> Outcome
     }
 }
 
-// 32, given when the data offset "would pass 15 or the result 65,535 bytes". A header has at most 60 bytes. No sum is made of what was read,
-// so none wraps.
+// 32, given when the data offset "would pass 15 or the result 65,535 bytes". A header has at most 60 bytes. No sum is made of what was
+// read, so none wraps.
 fn growth_faults(added: u16, end: usize, len: usize) -> Outcome
     ensures { λ r. ⌜ r ≡ first (growthLines added end len) unrefused ⌝ }
 {
