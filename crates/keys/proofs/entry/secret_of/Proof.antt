@@ -29,6 +29,7 @@ secret-of-spec =
     (λ c. search needs)
     (λ c κs. search needs)
     (λ c κs. search needs)
+    (λ c. search needs)
     add-at
     add-key-at
     key-at-requires

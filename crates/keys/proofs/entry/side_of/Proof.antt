@@ -1,5 +1,6 @@
 -- Field by field.
 use borrow.Author.Needs.{needs}
+use mathlib.Core.Path.{ap}
 use Rattle.keys.specs.Entry.{sideOf}
 use Rattle.keys.proofs.entry.side_of.Statement.{statement}
 use Rattle.keys.proofs.entry.side_of.Tie as tie
@@ -12,6 +13,7 @@ side-of-spec =
     (λ c κs. search needs)
     (λ c κs. search needs)
     (λ c. search needs)
+    (λ c κs. search needs)
     (λ c κs. search needs)
     (λ c. search needs)
     (λ c. search needs)
