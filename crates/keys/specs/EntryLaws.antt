@@ -1,6 +1,6 @@
 -- Laws of what the table's bytes mean: where the next entry begins, and what every entry's fields are.
 -- Assumes nothing but, where it says `Octets`, that the bytes are below 256.
-use Prim.Native.Nat.{ℕ, zero, suc, _+_, _*_, _-_, _%_, _≤_, _<_}
+use Prim.Native.Nat.{ℕ, zero, suc, _+_, _*_, _-_, _≤_, _<_}
 use mathlib.Core.Bool.{Bool, true, false, cond}
 use mathlib.Core.Path.{_≡_, refl, sym, ap, _∙_}
 use mathlib.Core.List.{List, [], _∷_, _++_}
@@ -27,10 +27,6 @@ width-le f = go (eqb f 4) refl
     go true e = rw e (omega arith)
     go false e = rw e (omega arith)
 
-pub extra-le : (k : ℕ) → extra k ≤ 1
-unfolding extra
-extra-le k = omega arith
-
 -- "the body is: .." so many bytes beside the two addresses
 pub body-is : (k : ℕ) → body k ≡ 95 + 2 * width (familyOf k) + extra k
 unfolding width body
@@ -50,18 +46,18 @@ pub known-family : (k : ℕ) → knownKind k ≡ true → Family (familyOf k)
 unfolding familyOf extra
 known-family k h = go (leb k 5) refl (known-range k h)
   where
-    go : (b : Bool) → leb k 5 ≡ b → (4 ≤ k) × (k ≤ 7) → Family (k - k % 2)
+    go : (b : Bool) → leb k 5 ≡ b → (4 ≤ k) × (k ≤ 7) → Family (familyOf k)
     go true e r = let l = leb-true k 5 e in inl (omega arith)
     go false e r = let l = leb-false k 5 e in inr (omega arith)
 
 -- and an entry of the higher kind is longer by one
 pub known-size : (k : ℕ) → knownKind k ≡ true → size k ≡ cond (eqb (familyOf k) 4) 100 122 + k
 unfolding body familyOf extra
-known-size k h = go (eqb (k - k % 2) 4) refl (known-range k h)
+known-size k h = go (eqb (familyOf k) 4) refl (known-range k h)
   where
-    go : (b : Bool) → eqb (k - k % 2) 4 ≡ b → (4 ≤ k) × (k ≤ 7) → 1 + (cond (eqb (k - k % 2) 4) 103 127 + k % 2) ≡ cond (eqb (k - k % 2) 4) 100 122 + k
-    go true e r = let z = eqb-true (k - k % 2) 4 e in rw e (omega arith)
-    go false e r = let z = eqb-false (k - k % 2) 4 e in rw e (omega arith)
+    go : (b : Bool) → eqb (familyOf k) 4 ≡ b → (4 ≤ k) × (k ≤ 7) → size k ≡ cond (eqb (familyOf k) 4) 100 122 + k
+    go true e r = let z = eqb-true (familyOf k) 4 e in rw e (omega arith)
+    go false e r = let z = eqb-false (familyOf k) 4 e in rw e (omega arith)
 
 -- where the next entry begins
 

@@ -1,6 +1,5 @@
 -- Field by field.
 use borrow.Author.Needs.{needs}
-use mathlib.Core.Path.{ap}
 use Rattle.keys.specs.Entry.{sideOf}
 use Rattle.keys.proofs.entry.side_of.Statement.{statement}
 use Rattle.keys.proofs.entry.side_of.Tie as tie
