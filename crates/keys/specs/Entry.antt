@@ -17,13 +17,13 @@ use Rattle.keys.specs.declared.entry.Entry.{Entry}
 unfoldable pub knownKind : ℕ → Bool
 knownKind k = leb 4 k && leb k 7
 
--- the family of an entry by its kind: "kinds 5 and 7, like 4 and 6"
-unfoldable pub familyOf : ℕ → ℕ
-familyOf k = cond (leb k 5) 4 6
-
--- "with one more byte": one for kinds 5 and 7, none for 4 and 6
+-- "like 4 and 6 with one more byte": one for kinds 5 and 7, none for 4 and 6
 unfoldable pub extra : ℕ → ℕ
 extra k = k % 2
+
+-- the family of an entry of the kind: IPv4 for 4 and 5, IPv6 for 6 and 7
+unfoldable pub familyOf : ℕ → ℕ
+familyOf k = k - extra k
 
 -- the families: IPv4 and IPv6
 unfoldable pub isFamily : ℕ → Bool

@@ -9,7 +9,7 @@ use native.Mathlib.Omega.{arith}
 use lib.ListN.{length, getD, take, drop, replicate, length-append, length-take, length-drop, length-replicate, drop-of-length-le}
 use lib.Seq.{drop-nil, drop-drop, getD-drop}
 use lib.Dec.{leb, eqb}
-use borrow.Author.Tests.{leb-true, leb-false}
+use borrow.Author.Tests.{eqb-true, eqb-false, leb-true, leb-false}
 use Rattle.octets.specs.Each.{Each, Octets}
 use Rattle.keys.specs.Entry.{knownKind, familyOf, extra, body, size, width, sideOf, selectorOf, sidesEnd, secretOf, entryOf}
 use Rattle.keys.specs.Entry.{Item, item, itemAt, sound, items, entriesOf, entries}
@@ -27,10 +27,6 @@ width-le f = go (eqb f 4) refl
     go true e = rw e (omega arith)
     go false e = rw e (omega arith)
 
-pub extra-le : (k : ℕ) → extra k ≤ 1
-unfolding extra
-extra-le k = omega arith
-
 -- "the body is: .." so many bytes beside the two addresses
 pub body-is : (k : ℕ) → body k ≡ 95 + 2 * width (familyOf k) + extra k
 unfolding width body
@@ -40,14 +36,28 @@ body-is k = go (eqb (familyOf k) 4) refl
     go true e = rw e
     go false e = rw e
 
--- every kind is of one of the two families
-pub kind-family : (k : ℕ) → Family (familyOf k)
-unfolding familyOf
-kind-family k = go (leb k 5) refl
+-- the kinds are those of the two families
+
+known-range : (k : ℕ) → knownKind k ≡ true → (4 ≤ k) × (k ≤ 7)
+unfolding knownKind
+known-range k h = let a = and-true (leb 4 k) (leb k 7) h in (leb-true 4 k (a .0), leb-true k 7 (a .1))
+
+pub known-family : (k : ℕ) → knownKind k ≡ true → Family (familyOf k)
+unfolding familyOf extra
+known-family k h = go (leb k 5) refl (known-range k h)
   where
-    go : (b : Bool) → leb k 5 ≡ b → Family (cond (leb k 5) 4 6)
-    go true e = rw e (inl refl)
-    go false e = rw e (inr refl)
+    go : (b : Bool) → leb k 5 ≡ b → (4 ≤ k) × (k ≤ 7) → Family (familyOf k)
+    go true e r = let l = leb-true k 5 e in inl (omega arith)
+    go false e r = let l = leb-false k 5 e in inr (omega arith)
+
+-- and an entry of the higher kind is longer by one
+pub known-size : (k : ℕ) → knownKind k ≡ true → size k ≡ cond (eqb (familyOf k) 4) 100 122 + k
+unfolding body familyOf extra
+known-size k h = go (eqb (familyOf k) 4) refl (known-range k h)
+  where
+    go : (b : Bool) → eqb (familyOf k) 4 ≡ b → (4 ≤ k) × (k ≤ 7) → size k ≡ cond (eqb (familyOf k) 4) 100 122 + k
+    go true e r = let z = eqb-true (familyOf k) 4 e in rw e (omega arith)
+    go false e r = let z = eqb-false (familyOf k) 4 e in rw e (omega arith)
 
 -- where the next entry begins
 
@@ -146,17 +156,18 @@ entry-shape : (s : List ℕ) → sound (item s) ≡ true → Shape (entryOf s)
 unfolding item entryOf selectorOf secretOf
 entry-shape s h =
     let k = getD s 0 0 in
-    let l = leb-true (size k) (length s) (and-true (knownKind k) _ h .1) in
+    let a = and-true (knownKind k) _ h in
+    let l = leb-true (size k) (length s) (a .1) in
     let b = body-is k in
     let d = length-drop (sidesEnd k + extra k + 1) s in
-    record { family = kind-family k; key = length-take 80 (drop (sidesEnd k + extra k + 1) s) ∙ omega arith }
+    record { family = known-family k (a .0); key = length-take 80 (drop (sidesEnd k + extra k + 1) s) ∙ omega arith }
 
 entry-fields : (s : List ℕ) → Octets s → sound (item s) ≡ true → Fields (entryOf s .selector)
 unfolding item entryOf selectorOf
 entry-fields s o h =
     let f = familyOf (getD s 0 0) in
     record {
-      family = kind-family (getD s 0 0);
+      family = known-family (getD s 0 0) (and-true (knownKind (getD s 0 0)) _ h .0);
       local = side-fields (width f) 5 13 s (width-le f) o;
       remote = side-fields (width f) 9 (14 + width f) s (width-le f) o;
     }

@@ -1,6 +1,7 @@
 // One entry of the key table (an MKT of RFC 5925, section 3.1), by value and read from its bytes: document 01, "Key table (house bytes)",
 // and document 02, Ticket 4.
 // The functions here ask that the entry is there whole; the walks of table.rt see to it.
+ghost use mathlib.Core.Bool.{true};
 ghost use mathlib.Core.Path.{_≡_};
 ghost use Prim.Native.Nat.{_+_, _*_, _≤_};
 ghost use lib.ListN.{length, take, drop, getD};
@@ -62,18 +63,18 @@ pub(crate) fn known_kind(kind: u8) -> bool
     kind <= 7
 }
 
+// One for the kinds that have a byte for the MAC's length.
+fn extra_of(kind: u8) -> u8
+    ensures { λ r. ⌜ r ≡ extra kind ⌝ }
+{
+    kind % 2
+}
+
 // Kinds 4 and 5 are IPv4's, 6 and 7 IPv6's.
 pub(crate) fn family_of(kind: u8) -> u8
     ensures { λ r. ⌜ r ≡ familyOf kind ⌝ }
 {
-    if kind <= 5 { 4 } else { 6 }
-}
-
-// One for the kinds that have a byte for the MAC's length.
-fn extra_of(kind: u8) -> usize
-    ensures { λ r. ⌜ r ≡ extra kind ⌝ }
-{
-    (kind % 2) as usize
+    kind - extra_of(kind)
 }
 
 // How many bytes an address has.
@@ -83,6 +84,18 @@ pub fn width_of(family: u8) -> usize
     if family == 4 { 4 } else { 16 }
 }
 
+// How many bytes an entry has, its kind among them. Written so that the compiler needs few steps: the walks wait for it.
+pub(crate) fn size_of(kind: u8) -> usize
+    requires { ⌜ knownKind kind ≡ true ⌝ }
+    ensures { λ r. ⌜ r ≡ size kind ⌝ }
+{
+    if family_of(kind) == 4 {
+        100 + kind as usize
+    } else {
+        122 + kind as usize
+    }
+}
+
 // Where the two sides end, in an entry of the kind.
 fn sides_end(kind: u8) -> usize
     ensures { λ r. ⌜ r ≡ sidesEnd kind ⌝ }
@@ -90,19 +103,17 @@ fn sides_end(kind: u8) -> usize
     15 + 2 * width_of(family_of(kind))
 }
 
-// How many bytes an entry has, its kind among them.
-pub(crate) fn size_of(kind: u8) -> usize
-    ensures { λ r. ⌜ r ≡ size kind ⌝ }
-{
-    sides_end(kind) + extra_of(kind) + 81
-}
-
-fn address_at(e: &[u8], at: usize, w: usize) -> [u8; 16]
-    requires { ⌜ (w ≤ 16) × (at + w ≤ length (now e)) ⌝ }
-    ensures { λ r. ⌜ r ≡ padded (take w (drop at (now (e .entry)))) ⌝ }
+// By the family, so that the compiler knows how many bytes are copied.
+fn address_at(e: &[u8], at: usize, family: u8) -> [u8; 16]
+    requires { ⌜ at + width family ≤ length (now e) ⌝ }
+    ensures { λ r. ⌜ r ≡ padded (take (width family) (drop at (now (e .entry)))) ⌝ }
 {
     let mut a = [0u8; 16];
-    octets::copy_at(&mut a, 0, &e[at..at + w]);
+    if family == 4 {
+        octets::copy_at(&mut a, 0, &e[at..at + 4]);
+        return a;
+    }
+    octets::copy_at(&mut a, 0, &e[at..at + 16]);
     a
 }
 
@@ -115,16 +126,16 @@ fn key_at(e: &[u8], at: usize) -> [u8; 80]
     k
 }
 
-// The side whose ports stand at `ports` and whose address of w bytes stands at `at`.
-fn side_of(e: &[u8], w: usize, ports: usize, at: usize) -> Side
-    requires { ⌜ (w ≤ 16) × (ports + 4 ≤ length (now e)) × (at + w + 1 ≤ length (now e)) ⌝ }
-    ensures { λ r. ⌜ r ≡ sideOf w ports at (now (e .entry)) ⌝ }
+// The side whose ports stand at `ports` and whose address of the family stands at `at`.
+fn side_of(e: &[u8], family: u8, ports: usize, at: usize) -> Side
+    requires { ⌜ (ports + 4 ≤ length (now e)) × (at + width family + 1 ≤ length (now e)) ⌝ }
+    ensures { λ r. ⌜ r ≡ sideOf (width family) ports at (now (e .entry)) ⌝ }
 {
-    let a = address_at(e, at, w);
+    let a = address_at(e, at, family);
     Side {
         low: octets::load16(e, ports),
         high: octets::load16(e, ports + 2),
-        bits: e[at + w],
+        bits: e[at + width_of(family)],
         address: a,
     }
 }
@@ -137,8 +148,8 @@ pub(crate) fn selector_of(e: &[u8]) -> Selector
     let w = width_of(family);
     Selector {
         family: family,
-        local: side_of(e, w, 5, 13),
-        remote: side_of(e, w, 9, 14 + w),
+        local: side_of(e, family, 5, 13),
+        remote: side_of(e, family, 9, 14 + w),
     }
 }
 
@@ -169,7 +180,7 @@ fn secret_of(e: &[u8]) -> Secret
     ensures { λ r. ⌜ r ≡ secretOf (getD (now (e .entry)) 0 0) (now (e .entry)) ⌝ }
 {
     let kind = e[0];
-    let at = sides_end(kind) + extra_of(kind);
+    let at = sides_end(kind) + extra_of(kind) as usize;
     let k = key_at(e, at + 1);
     Secret {
         flags: e[1],

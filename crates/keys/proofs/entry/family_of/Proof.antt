@@ -1,9 +1,19 @@
--- By the test of the kind.
-use borrow.Author.Tests.{le-leb, lt-leb}
-use Rattle.keys.specs.Entry.{familyOf}
+-- The kind without its one more byte.
+use borrow.Author.Needs.{needs}
+use Prim.Native.Nat.{ℕ, _-_}
+use mathlib.Core.Path.{ap}
+use native.Mathlib.Omega.{arith}
+use Rattle.keys.specs.Entry.{extra, familyOf}
 use Rattle.keys.proofs.entry.family_of.Statement.{statement}
 use Rattle.keys.proofs.entry.family_of.Tie as tie
 
-pub family-of-spec : {M : Type 1} → statement M
+sub-result : tie.Need-sub-result
+unfolding extra
+sub-result c = omega (arith, c .extra-of .ensures)
+
+returns : tie.Need-returns
 unfolding familyOf
-family-of-spec = tie.close (tie.spec (λ c. rw (le-leb _ _ (c .if1 .taken))) (λ c. rw (lt-leb _ _ (c .if1 .left))))
+returns c = ap (λ (x : ℕ). c .before .args .kind - x) (c .extra-of .ensures)
+
+pub family-of-spec : {M : Type 1} → statement M
+family-of-spec = tie.close (tie.spec (λ c κs. search needs) sub-result returns)

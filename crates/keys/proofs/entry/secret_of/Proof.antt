@@ -1,6 +1,5 @@
 -- Field by field; the entry is whole, so that its key lies in it.
 use borrow.Author.Needs.{needs}
-use mathlib.Core.Path.{_∙_}
 use native.Mathlib.Omega.{arith}
 use Rattle.keys.proofs.Bytes.{room}
 use Rattle.keys.specs.Entry.{secretOf}
@@ -29,6 +28,7 @@ secret-of-spec =
     (λ c. search needs)
     (λ c κs. search needs)
     (λ c κs. search needs)
+    (λ c. search needs)
     add-at
     add-key-at
     key-at-requires

@@ -1,27 +1,17 @@
--- What stands before the key length, that byte and the key.
+-- By the family of a kind that is known.
 use borrow.Author.Needs.{needs}
-use native.Mathlib.Omega.{arith}
-use Rattle.keys.specs.Entry.{familyOf}
-use Rattle.keys.specs.EntryLaws.{width-le, extra-le, body-is}
+use mathlib.Core.Bool.{true, false}
+use borrow.Author.Tests.{eq-eqb, ne-eqb}
+use Rattle.keys.proofs.Bytes.{size-by}
 use Rattle.keys.proofs.entry.size_of.Statement.{statement}
 use Rattle.keys.proofs.entry.size_of.Tie as tie
-
-add-result : tie.Need-add-result
-add-result c =
-    let k = c .before .before .args .kind in
-    omega (arith, c .before .sides-end .ensures, c .extra-of .ensures, width-le (familyOf k), extra-le k)
-
-add-result-2 : tie.Need-add-result-2
-add-result-2 c =
-    let k = c .before .before .args .kind in
-    omega (arith, c .before .sides-end .ensures, c .extra-of .ensures, width-le (familyOf k), extra-le k)
 
 pub size-of-spec : {M : Type 1} → statement M
 size-of-spec =
     tie.close
     (tie.spec
     (λ c κs. search needs)
-    (λ c κs. search needs)
-    add-result
-    add-result-2
-    (λ c. omega (arith, c .before .sides-end .ensures, c .extra-of .ensures, body-is (c .before .before .args .kind))))
+    (λ c. search needs)
+    (λ c. search needs)
+    (λ c. size-by _ _ true (c .before .family-of .ensures) (c .before .before .pre) (eq-eqb _ _ (c .if1 .taken)))
+    (λ c. size-by _ _ false (c .before .family-of .ensures) (c .before .before .pre) (ne-eqb _ _ (c .if1 .left))))

@@ -1,7 +1,7 @@
 -- The family first, then the ports of both sides, then the addresses.
 use borrow.Author.Needs.{needs}
-use mathlib.Core.Path.{refl, sym, _∙_}
-use borrow.Author.Tests.{ne-eqb, not-true, not-false}
+use mathlib.Core.Path.{refl, _∙_}
+use borrow.Author.Tests.{not-true, not-false}
 use Rattle.keys.proofs.Bytes.{room, sides-room}
 use Rattle.keys.proofs.Tests.{overlap-other, overlap-is, and-no, and-yes}
 use native.Mathlib.Omega.{arith}
