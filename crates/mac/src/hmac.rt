@@ -106,7 +106,7 @@ impl HmacContext {
 }
 
 // HMAC of a whole message.
-fn hmac(hash: HashAlgorithm, key: &[u8], data: &[u8]) -> [u8; DIGEST_ROOM]
+pub fn hmac(hash: HashAlgorithm, key: &[u8], data: &[u8]) -> [u8; DIGEST_ROOM]
     ensures { λ r. ⌜ r ≡ filledOf digestRoom (hmacOf (hashOf (partsOf hash)) 64 (now (key .entry)) (now («data» .entry))) ⌝ }
 {
     HmacContext::new(hash, key).update(hash, data).finish(hash)
