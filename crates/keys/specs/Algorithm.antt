@@ -12,7 +12,7 @@ byAlgorithm x y a = cond (eqb a 1) x (cond (eqb a 2) y 0)
 unfoldable pub trafficKeyBytes : ℕ → ℕ
 trafficKeyBytes a = byAlgorithm 20 16 a
 
--- "MAC bytes (12 and 12)"
+-- "MAC bytes (12 and 12)": the MAC's length where the entry's kind has no byte for it
 unfoldable pub macBytes : ℕ → ℕ
 macBytes a = byAlgorithm 12 12 a
 

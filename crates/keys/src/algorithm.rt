@@ -37,6 +37,7 @@ pub fn traffic_key_bytes(algorithm: u8) -> usize
     }
 }
 
+// The MAC's length where the entry's kind has no byte for it.
 pub fn mac_bytes(algorithm: u8) -> u8
     ensures number { λ r. ⌜ r ≡ macBytes algorithm ⌝ }
     ensures first { λ _. do ⌜ (← ⟦HmacSha1_96::MAC_BYTES⟧ .entry) ≡ macBytes 1 ⌝ }
