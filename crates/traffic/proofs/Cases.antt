@@ -23,18 +23,18 @@ use Rattle.traffic.specs.MacContext.{MacView, Hmac, Cmac, hashFor, byAlg
 
 -- An algorithm that applies an HMAC, by the hash h that the code names.
 module _ (algorithm : ℕ) (is : isHmac algorithm ≡ true) (h : HashAlgorithm) (eh : h ≡ hashFor algorithm) (c : View) where
-  pub hmac-start : (key : List ℕ) {n : ℕ} {r : HmacContext} → n ≡ digestBytes h → hmacView h r ≡ hmacStart (partsOf h) (take n key)
+  pub hmac-start : (key : List ℕ) (r : HmacContext) {n : ℕ} → n ≡ digestBytes h → hmacView h r ≡ hmacStart (partsOf h) (take n key)
       → byAlgorithm algorithm (hmacView (hashFor algorithm) r) c ≡ macStart algorithm key
   unfolding macStart
-  hmac-start key {r = r} en e =
+  hmac-start key r en e =
       let k : hmacView (hashFor algorithm) r ≡ hmacStart (partsOf (hashFor algorithm)) (take (digestBytes (hashFor algorithm)) key) =
       sym (λ i. hmacView (eh i) r) ∙ e ∙ (λ i. hmacStart (partsOf (eh i)) (take ((en ∙ ap digestBytes eh) i) key)) in
       rw is (ap (Hmac (hashFor algorithm)) k)
 
-  pub hmac-more : (s : HmacContext) (m : List ℕ) {r : HmacContext} → hmacView h r ≡ hmacAbsorb (partsOf h) (hmacView h s) m
+  pub hmac-more : (s r : HmacContext) (m : List ℕ) → hmacView h r ≡ hmacAbsorb (partsOf h) (hmacView h s) m
       → byAlgorithm algorithm (hmacView (hashFor algorithm) r) c ≡ macAbsorb (byAlgorithm algorithm (hmacView (hashFor algorithm) s) c) m
   unfolding macAbsorb
-  hmac-more s m {r = r} e =
+  hmac-more s r m e =
       rw is (ap (Hmac (hashFor algorithm)) (sym (λ i. hmacView (eh i) r) ∙ e ∙ (λ i. hmacAbsorb (partsOf (eh i)) (hmacView (eh i) s) m)))
 
   pub hmac-end : (s : HmacContext) {r : List ℕ} → r ≡ filled digestRoom (hmacFinished (partsOf h) (hmacView h s))
