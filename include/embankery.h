@@ -282,6 +282,19 @@ uint64_t mac_sha1(const uint8_t *message, size_t message_len, uint8_t *out, size
 uint64_t mac_hmac_sha1(const uint8_t *key, size_t key_len, const uint8_t *message, size_t message_len,
                        uint8_t *out, size_t out_len);
 
+/* SHA-256 (FIPS 180-4) of the message: writes 32 bytes.
+ *
+ * C needs: pointers good for their lengths; out does not overlap message.
+ */
+uint64_t mac_sha256(const uint8_t *message, size_t message_len, uint8_t *out, size_t out_len);
+
+/* HMAC-SHA-256 (RFC 2104) of the message under a key of any length, also none: writes 32 bytes.
+ *
+ * C needs: pointers good for their lengths; out overlaps neither key nor message.
+ */
+uint64_t mac_hmac_sha256(const uint8_t *key, size_t key_len, const uint8_t *message, size_t message_len,
+                         uint8_t *out, size_t out_len);
+
 /* One block encrypted by AES-128 (FIPS 197). key_len and block_len must be 16: writes 16 bytes.
  *
  * C needs: pointers good for their lengths; out overlaps neither key nor block.

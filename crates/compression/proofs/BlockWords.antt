@@ -1,5 +1,5 @@
--- The words of a block: one more, and all sixteen. Assumes nothing.
-use mathlib.Core.Path.{_≡_, refl}
+-- The words of a block: one more. Assumes nothing.
+use mathlib.Core.Path.{_≡_}
 use mathlib.Core.List.{List}
 use Prim.Native.Nat.{ℕ, _+_, _*_, _<_}
 use native.Mathlib.Numerals.{add-one}
@@ -12,7 +12,3 @@ pub words-more : (t v : ℕ) (m w : List ℕ) → t < length w → take t w ≡ 
     → take (t + 1) (set w t v) ≡ words (t + 1) m
 unfolding words
 words-more t v m w h e ev = rw (add-one, take-suc-set) (cc)
-
-pub length-words : (m : List ℕ) → length (words 16 m) ≡ 16
-unfolding words
-length-words m = refl

@@ -1,7 +1,7 @@
 -- Rounds over sixteen words of a schedule at a time, as the code comes to them, over any hash's round. Assumes nothing.
 use mathlib.Core.Path.{_≡_, refl, sym, _∙_, ap}
 use mathlib.Core.List.{List, _++_}
-use Prim.Native.Nat.{ℕ, zero, suc, _+_, _-_, _<_, _≤_}
+use Prim.Native.Nat.{ℕ, zero, suc, _+_, _-_, _*_, _<_, _≤_}
 use native.Mathlib.Nat.{add-zero, zero-add, add-suc}
 use native.Mathlib.Omega.{arith}
 use lib.ListN.{getD, replicate, length-replicate}
@@ -46,6 +46,16 @@ module _ (R : ℕ → ℕ → List ℕ → List ℕ) where
       let e : t + m + n ≡ t + (m + n) = omega arith in
       rw (add-suc, e, ← rounds-on t m n W s) refl
 
+  -- four more
+  pub four-more : (at i : ℕ) (W s x y : List ℕ) → x ≡ rounds R at (4 * i) W s → y ≡ rounds R (at + 4 * i) 4 W x
+      → y ≡ rounds R at (4 * (i + 1)) W s
+  four-more at i W s x y ex ey =
+      let e : 4 * i + 4 ≡ 4 * (i + 1) = omega arith in
+      ey ∙ ap (rounds R (at + 4 * i) 4 W) ex ∙ rounds-on at (4 * i) 4 W s ∙ ap (λ (n : ℕ). rounds R at n W s) e
+
+  pub four-all : (at i : ℕ) (W s x : List ℕ) → i ≡ 4 → x ≡ rounds R at (4 * i) W s → x ≡ rounds R at 16 W s
+  four-all at i W s x e ex = ex ∙ ap (λ (n : ℕ). rounds R at (4 * n) W s) e
+
   -- four times four
   pub sixteen : (at : ℕ) (W s a b c d : List ℕ) → a ≡ rounds R (at + 0) 4 W s → b ≡ rounds R (at + 4) 4 W a
       → c ≡ rounds R (at + 8) 4 W b → d ≡ rounds R (at + 12) 4 W c → d ≡ rounds R at 16 W s
@@ -63,9 +73,9 @@ module _ (R : ℕ → ℕ → List ℕ → List ℕ) where
   rounds-same t (suc n) U W s e = rw (e n (omega arith), rounds-same t n U W s (λ i h. e i (omega arith))) refl
 
   -- None yet, and sixteen more, with the words of the schedule W from place `at` on.
-  pub rounds-none : (W s : List ℕ) → s ≡ rounds R 0 0 W s
+  pub rounds-none : (t : ℕ) (W s : List ℕ) → s ≡ rounds R t 0 W s
   unfolding rounds
-  rounds-none W s = refl
+  rounds-none t W s = refl
 
   pub sixteen-more : (S : Mix) (at n : ℕ) (w W s x y : List ℕ) → From S at n w W → x ≡ rounds R 0 at W s
       → y ≡ rounds R at 16 (placed at w) x → y ≡ rounds R 0 (at + 16) W s

@@ -5,10 +5,9 @@ use Prim.Native.Nat.{ℕ, _+_, _/_}
 use native.Mathlib.Omega.{arith}
 use lib.Bits.{bitXor}
 use lib.ListN.{length, getD}
-use Rattle.compression.specs.Words.{ROTL, words}
+use Rattle.compression.specs.Words.{ROTL}
 use Rattle.compression.specs.Schedule.{extended, following, rounds}
-use Rattle.compression.specs.Sha1Block.{quarterF, quarterK, f, K, next, schedule, variables, round, step, sum5, compress}
-use Rattle.compression.proofs.BlockWords.{length-words}
+use Rattle.compression.specs.Sha1Block.{quarterF, quarterK, f, K, next, schedule, variables, round, step, sum5, compressWords}
 use Rattle.compression.proofs.Ring.{Mix, From, from-first, from-next}
 use Rattle.compression.proofs.Rounds.{placed, rounds-none, sixteen-more}
 
@@ -38,23 +37,23 @@ S = record {
 }
 
 -- The whole block.
-pub compressed : (h m w0 w1 w2 w3 w4 s0 s1 s2 s3 s4 r : List ℕ) → w0 ≡ words 16 m
+pub compressed : (h w0 w1 w2 w3 w4 s0 s1 s2 s3 s4 r : List ℕ) → length w0 ≡ 16
     → w1 ≡ following next w0 → w2 ≡ following next w1 → w3 ≡ following next w2 → w4 ≡ following next w3
     → s0 ≡ rounds step 0 16 (placed 0 w0) (variables h) → s1 ≡ rounds step 16 16 (placed 16 w1) s0
     → s2 ≡ rounds step 32 16 (placed 32 w2) s1 → s3 ≡ rounds step 48 16 (placed 48 w3) s2
-    → s4 ≡ rounds step 64 16 (placed 64 w4) s3 → r ≡ sum5 h s4 → r ≡ compress h m
-unfolding compress schedule
-compressed h m w0 w1 w2 w3 w4 s0 s1 s2 s3 s4 r ew e1 e2 e3 e4 f0 f1 f2 f3 f4 er =
+    → s4 ≡ rounds step 64 16 (placed 64 w4) s3 → r ≡ sum5 h s4 → r ≡ compressWords h w0
+unfolding compressWords schedule
+compressed h w0 w1 w2 w3 w4 s0 s1 s2 s3 s4 r l e1 e2 e3 e4 f0 f1 f2 f3 f4 er =
     let W : List ℕ = extended next 64 w0 in
     let v : List ℕ = variables h in
-    let p0 : From S 0 64 w0 W = from-first S 64 w0 (ap length ew ∙ length-words m) in
+    let p0 : From S 0 64 w0 W = from-first S 64 w0 l in
     let p1 : From S 16 48 w1 W = from-next S 0 48 w0 w1 W p0 e1 in
     let p2 : From S 32 32 w2 W = from-next S 16 32 w1 w2 W p1 e2 in
     let p3 : From S 48 16 w3 W = from-next S 32 16 w2 w3 W p2 e3 in
     let p4 : From S 64 0 w4 W = from-next S 48 0 w3 w4 W p3 e4 in
-    let g0 : s0 ≡ rounds step 0 16 W v = sixteen-more step S 0 64 w0 W v v s0 p0 (rounds-none step W v) f0 in
+    let g0 : s0 ≡ rounds step 0 16 W v = sixteen-more step S 0 64 w0 W v v s0 p0 (rounds-none step 0 W v) f0 in
     let g1 : s1 ≡ rounds step 0 32 W v = sixteen-more step S 16 48 w1 W v s0 s1 p1 g0 f1 in
     let g2 : s2 ≡ rounds step 0 48 W v = sixteen-more step S 32 32 w2 W v s1 s2 p2 g1 f2 in
     let g3 : s3 ≡ rounds step 0 64 W v = sixteen-more step S 48 16 w3 W v s2 s3 p3 g2 f3 in
     let g4 : s4 ≡ rounds step 0 80 W v = sixteen-more step S 64 0 w4 W v s3 s4 p4 g3 f4 in
-    er ∙ ap (sum5 h) (g4 ∙ ap (λ (x : List ℕ). rounds step 0 80 (extended next 64 x) v) ew)
+    er ∙ ap (sum5 h) g4

@@ -28,12 +28,12 @@ K t = quarterK (t / 20)
 unfoldable pub initial : List ℕ
 initial = 0x6745_2301 ∷ 0xefcd_ab89 ∷ 0x98ba_dcfe ∷ 0x1032_5476 ∷ 0xc3d2_e1f0 ∷ []
 
--- §6.1.2, step 1: W_t of the words before it, from t = 16 on; and the message schedule W_0 .. W_79 of the block m
+-- §6.1.2, step 1: W_t of the words before it, from t = 16 on; and the message schedule W_0 .. W_79 of the first sixteen, w
 abbrev pub next : List ℕ → ℕ → ℕ
 next W t = ROTL 1 (bitXor (bitXor (bitXor (getD W (t - 3) 0) (getD W (t - 8) 0)) (getD W (t - 14) 0)) (getD W (t - 16) 0))
 
 unfoldable pub schedule : List ℕ → List ℕ
-schedule m = extended next 64 (words 16 m)
+schedule w = extended next 64 w
 
 -- Step 2: the working variables a, b, c, d, e
 abbrev pub variables : List ℕ → List ℕ
@@ -52,7 +52,7 @@ round F k w s =
 abbrev pub step : ℕ → ℕ → List ℕ → List ℕ
 step t w s = round (f t (getD s 1 0) (getD s 2 0) (getD s 3 0)) (K t) w s
 
--- Step 4: the sums, and so H^(i) of H^(i-1) and the block m
+-- Step 4: the sums, and so H^(i) of H^(i-1) and a block's words w, and of the block m
 unfoldable pub sum5 : List ℕ → List ℕ → List ℕ
 sum5 h s =
     add32 (getD h 0 0) (getD s 0 0)
@@ -62,8 +62,11 @@ sum5 h s =
     ∷ add32 (getD h 4 0) (getD s 4 0)
     ∷ []
 
-unfoldable pub compress : List ℕ → List ℕ → List ℕ
-compress h m = sum5 h (rounds step 0 80 (schedule m) (variables h))
+unfoldable pub compressWords : List ℕ → List ℕ → List ℕ
+compressWords h w = sum5 h (rounds step 0 80 (schedule w) (variables h))
+
+abbrev pub compress : List ℕ → List ℕ → List ℕ
+compress h m = compressWords h (words 16 m)
 
 -- the message digest: H_0 to H_4, the highest byte of each first
 unfoldable pub digest : List ℕ → List ℕ

@@ -39,12 +39,12 @@ K t = getD constants t 0
 unfoldable pub initial : List ℕ
 initial = 0x6a09_e667 ∷ 0xbb67_ae85 ∷ 0x3c6e_f372 ∷ 0xa54f_f53a ∷ 0x510e_527f ∷ 0x9b05_688c ∷ 0x1f83_d9ab ∷ 0x5be0_cd19 ∷ []
 
--- §6.2.2, step 1: W_t of the words 2, 7, 15 and 16 places before it, from t = 16 on; and the message schedule W_0 .. W_63 of the block m
+-- §6.2.2, step 1: W_t of the words 2, 7, 15 and 16 places before it, from t = 16 on; and the message schedule W_0 .. W_63 of the first sixteen, w
 abbrev pub next : List ℕ → ℕ → ℕ
 next W t = add32 (add32 (add32 (sigma1 (getD W (t - 2) 0)) (getD W (t - 7) 0)) (sigma0 (getD W (t - 15) 0))) (getD W (t - 16) 0)
 
 unfoldable pub schedule : List ℕ → List ℕ
-schedule m = extended next 48 (words 16 m)
+schedule w = extended next 48 w
 
 -- Step 2: the working variables a to h
 abbrev pub variables : List ℕ → List ℕ
@@ -73,7 +73,7 @@ round k w s =
 abbrev pub step : ℕ → ℕ → List ℕ → List ℕ
 step t w s = round (K t) w s
 
--- Step 4: the sums, and so H^(i) of H^(i-1) and the block m
+-- Step 4: the sums, and so H^(i) of H^(i-1) and a block's words w, and of the block m
 unfoldable pub sum8 : List ℕ → List ℕ → List ℕ
 sum8 h s =
     add32 (getD h 0 0) (getD s 0 0)
@@ -86,8 +86,11 @@ sum8 h s =
     ∷ add32 (getD h 7 0) (getD s 7 0)
     ∷ []
 
-unfoldable pub compress : List ℕ → List ℕ → List ℕ
-compress h m = sum8 h (rounds step 0 64 (schedule m) (variables h))
+unfoldable pub compressWords : List ℕ → List ℕ → List ℕ
+compressWords h w = sum8 h (rounds step 0 64 (schedule w) (variables h))
+
+abbrev pub compress : List ℕ → List ℕ → List ℕ
+compress h m = compressWords h (words 16 m)
 
 -- the message digest: H_0 to H_7, the highest byte of each first
 unfoldable pub digest : List ℕ → List ℕ

@@ -7,11 +7,10 @@ ghost use lib.ListN.{length, replicate};
 ghost use Rattle.compression.specs.Words.{ROTL, Parity};
 ghost use Rattle.compression.specs.Schedule.{following, rounds};
 ghost use Rattle.compression.specs.Sha1Block.{f as fOf, K, initial as initialOf, next, round as roundOf, step};
-ghost use Rattle.compression.specs.Sha1Block.{compress as compressOf, digest as digestOf};
+ghost use Rattle.compression.specs.Sha1Block.{compressWords, digest as digestOf};
 ghost use Rattle.compression.specs.Variables.{five};
 use crate::words::add;
 use crate::words::ch;
-use crate::words::load;
 use crate::words::maj;
 
 // The five working variables.
@@ -141,12 +140,11 @@ pub fn initial() -> [u32; 5]
     ]
 }
 
-// The chaining value after the block m.
-pub fn compress(h: [u32; 5], m: &[u8]) -> [u32; 5]
-    requires { ⌜ length (now m) ≡ 64 ⌝ }
-    ensures { λ r. ⌜ r ≡ compressOf h (now (m .entry)) ⌝ }
+// The chaining value after the block of the words w.
+pub fn compress(h: [u32; 5], words: [u32; 16]) -> [u32; 5]
+    ensures { λ r. ⌜ r ≡ compressWords h words ⌝ }
 {
-    let mut w = load(m);
+    let mut w = words;
     let s = Five {
         a: h[0],
         b: h[1],

@@ -1,18 +1,17 @@
 // SHA-256's compression of one block: FIPS 180-4 §6.2.2, with sixteen words of the schedule in place of sixty-four, as in §6.1.3; and the
 // digest that the last chaining value is.
 ghost use mathlib.Core.Path.{_≡_};
-ghost use mathlib.Core.List.{List, _++_};
-ghost use Prim.Native.Nat.{ℕ, _+_, _≤_};
+ghost use mathlib.Core.List.{_++_};
+ghost use Prim.Native.Nat.{_+_, _≤_};
 ghost use lib.ListN.{length, replicate};
 ghost use Rattle.compression.specs.Words.{add32};
-ghost use Rattle.compression.specs.Schedule.{following, ring, rounds};
+ghost use Rattle.compression.specs.Schedule.{following, rounds};
 ghost use Rattle.compression.specs.Sha256Block.{Sigma0, Sigma1, sigma0 as sigma0Of, sigma1 as sigma1Of, constants};
 ghost use Rattle.compression.specs.Sha256Block.{initial as initialOf, next as nextOf, T1, T2, round as roundOf, step};
-ghost use Rattle.compression.specs.Sha256Block.{compress as compressOf, digest as digestOf};
+ghost use Rattle.compression.specs.Sha256Block.{compressWords, digest as digestOf};
 ghost use Rattle.compression.specs.Variables.{eight};
 use crate::words::add;
 use crate::words::ch;
-use crate::words::load;
 use crate::words::maj;
 
 // The eight working variables.
@@ -58,25 +57,18 @@ fn next(x: u32, y: u32, z: u32, u: u32) -> u32
     add(add(add(sigma1(x), y), sigma0(z)), u)
 }
 
-// Eight words of the schedule, from place `from` on, become those sixteen places on: eight at a time, so that the compiler unrolls the loop
-// and every place is a constant. The type of a lent array tells a contract no length, so it is asked for and given back.
-fn next_eight(w: &mut [u32; 16], from: usize)
-    requires { ⌜ (length (now w) ≡ 16) × (from + 8 ≤ 16) ⌝ }
-    ensures { λ _. ⌜ (length (now (w .exit)) ≡ 16)
-        × ((W : List ℕ) → length W ≡ 16 → now (w .entry) ≡ ring nextOf from W → now (w .exit) ≡ ring nextOf (from + 8) W) ⌝ }
-{
-    for i in from..from + 8 {
-        w[i] = next(w[(i + 14) % 16], w[(i + 9) % 16], w[(i + 1) % 16], w[i]);
-    }
-}
-
-// Sixteen words of the schedule become the sixteen that follow them.
+// Sixteen words of the schedule become the sixteen that follow them, each in the place of the one sixteen before it, as in sha1.rt. Eight to
+// a loop: sixteen the compiler does not unroll.
 fn next_words(w: &mut [u32; 16])
     requires { ⌜ length (now w) ≡ 16 ⌝ }
     ensures { λ _. ⌜ (now (w .exit) ≡ following nextOf (now (w .entry))) × (length (now (w .exit)) ≡ 16) ⌝ }
 {
-    next_eight(w, 0);
-    next_eight(w, 8);
+    for i in 0..8 {
+        w[i] = next(w[(i + 14) % 16], w[(i + 9) % 16], w[(i + 1) % 16], w[i]);
+    }
+    for i in 8..16 {
+        w[i] = next(w[(i + 14) % 16], w[(i + 9) % 16], w[(i + 1) % 16], w[i]);
+    }
 }
 
 // The two sums of a round.
@@ -195,14 +187,15 @@ fn four_rounds(from: Eight, k: &[u32; 64], w: &[u32; 16], at: usize, i: usize) -
     s
 }
 
-fn sixteen_rounds(s: Eight, k: &[u32; 64], w: &[u32; 16], at: usize) -> Eight
+fn sixteen_rounds(from: Eight, k: &[u32; 64], w: &[u32; 16], at: usize) -> Eight
     requires { ⌜ (now k ≡ constants) × (at + 16 ≤ 64) ⌝ }
-    ensures { λ r. ⌜ eight r ≡ rounds step at 16 (replicate at 0 ++ now (w .entry)) (eight s) ⌝ }
+    ensures { λ r. ⌜ eight r ≡ rounds step at 16 (replicate at 0 ++ now (w .entry)) (eight from) ⌝ }
 {
-    let s = four_rounds(s, k, w, at, 0);
-    let s = four_rounds(s, k, w, at, 4);
-    let s = four_rounds(s, k, w, at, 8);
-    four_rounds(s, k, w, at, 12)
+    let mut s = from;
+    for i in 0..4usize {
+        s = four_rounds(s, k, w, at, 4 * i);
+    }
+    s
 }
 
 // The chaining value before the first block.
@@ -221,13 +214,12 @@ pub fn initial() -> [u32; 8]
     ]
 }
 
-// The chaining value after the block m.
-pub fn compress(h: [u32; 8], m: &[u8]) -> [u32; 8]
-    requires { ⌜ length (now m) ≡ 64 ⌝ }
-    ensures { λ r. ⌜ r ≡ compressOf h (now (m .entry)) ⌝ }
+// The chaining value after the block of the words w.
+pub fn compress(h: [u32; 8], words: [u32; 16]) -> [u32; 8]
+    ensures { λ r. ⌜ r ≡ compressWords h words ⌝ }
 {
     let k = table();
-    let mut w = load(m);
+    let mut w = words;
     let s = Eight {
         a: h[0],
         b: h[1],

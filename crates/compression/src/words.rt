@@ -1,4 +1,4 @@
-// Words of 32 bits: FIPS 180-4 §3.2, the functions of §4.1 that both hashes have, and a block's words. Private to the crate.
+// Words of 32 bits: FIPS 180-4 §3.2, the functions of §4.1 that both hashes have, and a block's words.
 ghost use mathlib.Core.Path.{_≡_};
 ghost use lib.ListN.{length};
 ghost use Rattle.compression.specs.Words.{add32, Ch, Maj, words};
@@ -21,8 +21,8 @@ pub(crate) fn maj(x: u32, y: u32, z: u32) -> u32
     (x & y) ^ (x & z) ^ (y & z)
 }
 
-// The words of the block.
-pub(crate) fn load(m: &[u8]) -> [u32; 16]
+// The sixteen words of a block, each with its highest byte first.
+pub fn load(m: &[u8]) -> [u32; 16]
     requires { ⌜ length (now m) ≡ 64 ⌝ }
     ensures { λ r. ⌜ r ≡ words 16 (now (m .entry)) ⌝ }
 {

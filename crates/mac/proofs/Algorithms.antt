@@ -1,12 +1,13 @@
 -- The hashes by their algorithm, as the code of src/hash_algorithm.rt comes to them: what it does of SHA-1, and of SHA-256, in the room of the
 -- longest is what the algorithm's parts say. Assumes nothing.
-use mathlib.Core.Path.{_≡_, sym, _∙_, ap, subst}
+use mathlib.Core.Path.{_≡_, sym, _∙_, ap, ap₂, subst}
 use mathlib.Core.List.{List, [], _∷_}
 use Prim.Native.Nat.{ℕ}
 use native.Mathlib.Omega.{arith}
 use lib.ListN.{length, take, getD}
 use lib.Seq.{take-all}
 use Rattle.octets.specs.Octets.{bytes64}
+use Rattle.compression.specs.Words.{words}
 use Rattle.compression.specs.Sha1Block as sha1
 use Rattle.compression.specs.Sha256Block as sha256
 use Rattle.mac.specs.Hmac.{filled}
@@ -48,9 +49,9 @@ module _ (a : HashAlgorithm) (is : a ≡ Sha1) where
   pub initial-1 : (i r : List ℕ) → i ≡ sha1.initial → take 5 r ≡ i → Initial a r
   initial-1 i r ei er = subst (λ (b : HashAlgorithm). Initial b r) (sym is) (er ∙ ei)
 
-  pub compressed-1 : (h m x y r : List ℕ) → x ≡ take 5 h → y ≡ sha1.compress x m → take 5 r ≡ y → Compressed a h m r
-  compressed-1 h m x y r ex ey er =
-      subst (λ (b : HashAlgorithm). Compressed b h m r) (sym is) (er ∙ ey ∙ ap (λ (l : List ℕ). sha1.compress l m) ex)
+  pub compressed-1 : (h m w x y r : List ℕ) → w ≡ words 16 m → x ≡ take 5 h → y ≡ sha1.compressWords x w → take 5 r ≡ y → Compressed a h m r
+  compressed-1 h m w x y r ew ex ey er =
+      subst (λ (b : HashAlgorithm). Compressed b h m r) (sym is) (er ∙ ey ∙ ap₂ sha1.compressWords ex ew)
 
   pub suffix-1 : (n : ℕ) (r : List ℕ) → r ≡ bytes64 n → Suffix a n r
   suffix-1 n r e = subst (λ (b : HashAlgorithm). Suffix b n r) (sym is) e
@@ -67,10 +68,10 @@ module _ (a : HashAlgorithm) (is : a ≡ Sha256) where
   pub initial-256 : (r : List ℕ) → length r ≡ 8 → r ≡ sha256.initial → Initial a r
   initial-256 r l e = subst (λ (b : HashAlgorithm). Initial b r) (sym is) (take-all 8 r (omega arith) ∙ e)
 
-  pub compressed-256 : (h m r : List ℕ) → length h ≡ 8 → length r ≡ 8 → r ≡ sha256.compress h m → Compressed a h m r
-  compressed-256 h m r lh lr e =
+  pub compressed-256 : (h m w r : List ℕ) → length h ≡ 8 → length r ≡ 8 → w ≡ words 16 m → r ≡ sha256.compressWords h w → Compressed a h m r
+  compressed-256 h m w r lh lr ew e =
       subst (λ (b : HashAlgorithm). Compressed b h m r) (sym is)
-      (take-all 8 r (omega arith) ∙ e ∙ ap (λ (l : List ℕ). sha256.compress l m) (sym (take-all 8 h (omega arith))))
+      (take-all 8 r (omega arith) ∙ e ∙ ap₂ sha256.compressWords (sym (take-all 8 h (omega arith))) ew)
 
   pub suffix-256 : (n : ℕ) (r : List ℕ) → r ≡ bytes64 n → Suffix a n r
   suffix-256 n r e = subst (λ (b : HashAlgorithm). Suffix b n r) (sym is) e

@@ -75,9 +75,10 @@ impl HashAlgorithm {
         requires { ⌜ length (now m) ≡ 64 ⌝ }
         ensures { λ r. ⌜ take (wordsOf self) r ≡ partsOf self .compress (take (wordsOf self) h) (now (m .entry)) ⌝ }
     {
+        let w = compression::words::load(m);
         match self {
-            HashAlgorithm::Sha1 => in_eight(compression::sha1::compress(first_five(h), m)),
-            HashAlgorithm::Sha256 => compression::sha256::compress(h, m),
+            HashAlgorithm::Sha1 => in_eight(compression::sha1::compress(first_five(h), w)),
+            HashAlgorithm::Sha256 => compression::sha256::compress(h, w),
         }
     }
 

@@ -9,21 +9,26 @@ returns : tie.Need-returns
 returns c =
     let co = c .before in
     let f = co .before in
-    let s = f .before .before .before .before in
-    compressed-1 (s .args .self) (f .before .enum-told .given .1) _ _ _ _ _ (f .first-five .ensures) (co .compress .ensures) (c .in-eight .ensures)
+    let t = f .before in
+    let ld = t .before .before in
+    let s = ld .before .before in
+    compressed-1 (s .args .self) (t .enum-told .given .1) _ _ _ _ _ _ (ld .load .ensures)
+    (f .first-five .ensures) (co .compress .ensures) (c .in-eight .ensures)
 
 returns-2 : tie.Need-returns-2
 returns-2 c =
     let t = c .before in
-    let s = t .before .before .before in
+    let ld = t .before .before in
+    let s = ld .before .before in
     let lh : length (s .args .h) ≡ 8 = search needs in
     let lr : length (c .compress2 .result) ≡ 8 = search needs in
-    compressed-256 (s .args .self) (t .enum-told2 .given .1) _ _ _ lh lr (c .compress2 .ensures)
+    compressed-256 (s .args .self) (t .enum-told2 .given .1) _ _ _ _ lh lr (ld .load .ensures) (c .compress2 .ensures)
 
 pub compress-spec : {M : Type 1} → statement M
 compress-spec =
     tie.close
     (tie.spec
+    (λ c κs. search needs)
     (λ c. search needs)
     (λ c κs. search needs)
     (λ c κs. search needs)
