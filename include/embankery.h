@@ -101,7 +101,7 @@ extern "C" {
  *   bytes  field
  *   1      kind: 4 or 5 (IPv4, w = 4), 6 or 7 (IPv6, w = 16)
  *   1      flags: 1, the MAC covers all options; 0, only TCP-AO
- *   1      algorithm: 1, HMAC-SHA-1; 2, AES-128-CMAC
+ *   1      algorithm: 1, HMAC-SHA-1; 2, AES-128-CMAC; 3, HMAC-SHA-256
  *   1      SendID: the KeyID of segments that we sign
  *   1      RecvID: the KeyID of segments that we receive
  *   2, 2   local port, low and high, both included
