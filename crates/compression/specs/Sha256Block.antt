@@ -39,7 +39,8 @@ K t = getD constants t 0
 unfoldable pub initial : List ℕ
 initial = 0x6a09_e667 ∷ 0xbb67_ae85 ∷ 0x3c6e_f372 ∷ 0xa54f_f53a ∷ 0x510e_527f ∷ 0x9b05_688c ∷ 0x1f83_d9ab ∷ 0x5be0_cd19 ∷ []
 
--- §6.2.2, step 1: W_t of the words 2, 7, 15 and 16 places before it, from t = 16 on; and the message schedule W_0 .. W_63 of the first sixteen, w
+-- §6.2.2, step 1: W_t of the words 2, 7, 15 and 16 places before it, from t = 16 on; and the message schedule W_0 .. W_63 of the first
+-- sixteen, w
 abbrev pub next : List ℕ → ℕ → ℕ
 next W t = add32 (add32 (add32 (sigma1 (getD W (t - 2) 0)) (getD W (t - 7) 0)) (sigma0 (getD W (t - 15) 0))) (getD W (t - 16) 0)
 

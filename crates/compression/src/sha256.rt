@@ -57,8 +57,8 @@ fn next(x: u32, y: u32, z: u32, u: u32) -> u32
     add(add(add(sigma1(x), y), sigma0(z)), u)
 }
 
-// Sixteen words of the schedule become the sixteen that follow them, each in the place of the one sixteen before it, as in sha1.rt. Eight to
-// a loop: sixteen the compiler does not unroll.
+// Sixteen words of the schedule become the sixteen that follow them, each in the place of the one sixteen before it, as in sha1.rt. Eight
+// to a loop: sixteen the compiler does not unroll.
 fn next_words(w: &mut [u32; 16])
     requires { ⌜ length (now w) ≡ 16 ⌝ }
     ensures { λ _. ⌜ (now (w .exit) ≡ following nextOf (now (w .entry))) × (length (now (w .exit)) ≡ 16) ⌝ }

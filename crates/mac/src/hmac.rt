@@ -12,8 +12,8 @@ use crate::hash_algorithm::DIGEST_ROOM;
 use crate::hash_algorithm::HashAlgorithm;
 use crate::hash_algorithm::first_twenty;
 
-// The outer hash's chaining value after the block of its pad, and the inner hash. What HashContext leaves free is left free here too, and so
-// are the words of `outer` behind those that the hash uses.
+// The outer hash's chaining value after the block of its pad, and the inner hash. What HashContext leaves free is left free here too, and
+// so are the words of `outer` behind those that the hash uses.
 pub struct HmacContext {
     pub outer: [u32; 8],
     pub inner: HashContext,
