@@ -38,9 +38,9 @@ extern "C" {
  *
  *   The table of keys is refused:
  *   10   the entry is cut off before its end
- *   11   the entry's kind is neither 4 (IPv4) nor 6 (IPv6)
+ *   11   the entry's kind is none of 4, 5 (IPv4), 6 and 7 (IPv6)
  *   12   a 65th entry begins
- *   13   the entry's flags or its algorithm are not listed
+ *   13   the entry's flags or its algorithm are not listed, or its MAC's length is not 4 to 16
  *   14   a low port is above its high port
  *   15   a prefix length is above 32 (IPv4) or 128 (IPv6), or address bits are set past it
  *   16   the key's length is 0 or above 80, or its padding is not zero
@@ -59,14 +59,14 @@ extern "C" {
  *   24   the segment is the wrong one for the connection's stage
  *   25   the segment has no TCP-AO
  *   26   no entry that matches the pair has the segment's KeyID as its RecvID
- *   27   the MAC has the wrong length
+ *   27   the MAC's length is not the entry's
  *   28   the sequence number has no position
  *   29   the MAC differs
  *
  *   A segment is not signed, or a call not done:
  *   30   signing: the segment's length or data offset is bad
  *   31   signing: the options are malformed, or TCP-AO or TCP MD5 is there already
- *   32   signing: the data offset is above 11, or the result would be longer than 65,535 bytes
+ *   32   signing: the data offset would be above 15, or the result longer than 65,535 bytes
  *   33   signing: the segment's ports are not the connection's
  *   34   signing: the segment is the wrong one for the connection's stage
  *   35   no entry that matches the pair has the outgoing SendID (opening, signing) or the RecvID
@@ -99,15 +99,16 @@ extern "C" {
  * address of w bytes:
  *
  *   bytes  field
- *   1      kind: 4 (IPv4, w = 4) or 6 (IPv6, w = 16)
+ *   1      kind: 4 or 5 (IPv4, w = 4), 6 or 7 (IPv6, w = 16)
  *   1      flags: 1, the MAC covers all options; 0, only TCP-AO
- *   1      algorithm: 1, HMAC-SHA-1-96; 2, AES-128-CMAC-96
+ *   1      algorithm: 1, HMAC-SHA-1; 2, AES-128-CMAC
  *   1      SendID: the KeyID of segments that we sign
  *   1      RecvID: the KeyID of segments that we receive
  *   2, 2   local port, low and high, both included
  *   2, 2   remote port, low and high
  *   w, 1   local address, and its prefix length in bits
  *   w, 1   remote address, and its prefix length
+ *   1      only in kinds 5 and 7: the MAC's length, 4 to 16 bytes; in kinds 4 and 6 it is 12
  *   1      key length, 1 to 80
  *   80     the key, and zeros behind it
  *
@@ -118,8 +119,8 @@ extern "C" {
  * Every call that takes a table checks it anew, as tcpao_check_table does.
  */
 #define EMBANKERY_ENTRIES 64
-#define EMBANKERY_IPV4_ENTRY_BYTES 104
-#define EMBANKERY_IPV6_ENTRY_BYTES 128
+#define EMBANKERY_IPV4_ENTRY_BYTES 104 /* of kind 4; one more of kind 5 */
+#define EMBANKERY_IPV6_ENTRY_BYTES 128 /* of kind 6; one more of kind 7 */
 
 /* A connection's state.
  *
@@ -162,7 +163,7 @@ extern "C" {
 #define EMBANKERY_STATE_BYTES 152
 
 /* What signing adds to a segment, and the most that a segment may have. */
-#define EMBANKERY_ADDED_BYTES 16
+#define EMBANKERY_ADDED_BYTES 20 /* the most that signing adds: a MAC of 16 bytes; 16 with one of 12 */
 #define EMBANKERY_SEGMENT_BYTES 65535
 
 /* Checks a key table. Gives 0 with the number of entries, or 10 to 17 with an entry's index. Writes
@@ -235,15 +236,15 @@ uint64_t tcpao_judge(const uint8_t *table, size_t table_len, const uint8_t *sour
                      const uint8_t *destination, size_t destination_len, const uint8_t *segment,
                      size_t segment_len, uint8_t *state, size_t state_len);
 
-/* Signs a segment: writes to out the segment with TCP-AO directly behind byte 20, the data offset raised
- * by 4 and the checksum zero. The checksum is the caller's to compute, over what stands in out. While
- * opening only the bare SYN whose number is our ISN may be signed; once open a SYN+ACK or a segment
- * without SYN.
+/* Signs a segment: writes to out the segment with TCP-AO directly behind byte 20, padded with kind 1
+ * bytes to a multiple of four, the data offset raised by these words and the checksum zero. The checksum
+ * is the caller's to compute, over what stands in out. While opening only the bare SYN whose number is
+ * our ISN may be signed; once open a SYN+ACK or a segment without SYN.
  *
- * out must have at least EMBANKERY_ADDED_BYTES more than the segment, else 37. Gives 0 with the signed
- * length n, or 18, 10 to 17, 30 to 37. Where it gives 0 it writes the first n bytes of out, and what
- * stands behind them stays; in state it changes only the reference of the direction that we sign, to the
- * larger of the old one and the segment's position. Else both stay.
+ * out must have room for what is signed, EMBANKERY_ADDED_BYTES more than the segment being always enough,
+ * else 37. Gives 0 with the signed length n, or 18, 10 to 17, 30 to 37. Where it gives 0 it writes the
+ * first n bytes of out, and what stands behind them stays; in state it changes only the reference of the
+ * direction that we sign, to the larger of the old one and the segment's position. Else both stay.
  *
  * C needs: pointers good for their lengths; out overlaps neither table, segment nor state, and state
  * neither table nor segment.

@@ -18,7 +18,7 @@ use Rattle.rules.specs.declared.Judged.{Judged}
 use Rattle.rules.specs.declared.Settled.{Settled}
 use Rattle.rules.specs.declared.Signed.{Signed}
 use Rattle.states.specs.Layout.{isState, decodeOf, encodeOf}
-use Rattle.boundary.specs.Word.{word, ofJudged, ofChecked, ofSigned, ofSettled}
+use Rattle.boundary.specs.Word.{word, ofJudged, ofSynJudged, ofSigned, ofSettled}
 
 -- (boundary) "A state buffer of another length gets 18 from every call that takes one, before any other number."
 unfoldable pub answered : List ℕ → Answer → ℕ
@@ -103,7 +103,7 @@ openActiveExport t local remote localPort remotePort isn sendId b =
 
 unfoldable pub judgeSynExport : Tables → (source destination segment : List ℕ) (setting : ℕ) → Export
 judgeSynExport t source destination segment setting =
-    answers (word (ofChecked (judgedSyn t (arrivalOf source destination segment) (strictly setting))))
+    answers (word (ofSynJudged (judgedSyn t (arrivalOf source destination segment) (strictly setting))))
 
 unfoldable pub openPassiveExport : Tables → (source destination segment : List ℕ) (isn setting : ℕ) (state : List ℕ) → Export
 openPassiveExport t source destination segment isn setting b =

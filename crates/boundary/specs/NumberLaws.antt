@@ -34,7 +34,7 @@ use Rattle.rules.specs.GroupLaws.{unknown-passes}
 use Rattle.rules.specs.SigningLaws.{signs-good}
 use Rattle.rules.specs.History.{judge, sign, ask}
 use Rattle.rules.specs.Refusals.{on, judgeSyn, openPassively, openActively, byVerdict, bySigning}
-use Rattle.rules.specs.GivenNumbers.{among, tableNumbers, Within, isPass}
+use Rattle.rules.specs.GivenNumbers.{among, tableNumbers, Bounded, isPass}
 use Rattle.rules.specs.GivenNumberLaws.{among-every, checked-within, refused-bounds, table-bounds, judge-never-passes}
 use Rattle.states.specs.Layout.{isState}
 use Rattle.boundary.specs.Word.{word, ofJudged, ofSigned, ofSettled}
@@ -57,7 +57,7 @@ either true b c e = refl
 either false true c e = refl
 either false false c e = e
 
-loaded-fits : (o : Loaded) → Within K.maxEntries o → Fits (tableAnswer o)
+loaded-fits : (o : Loaded) → Bounded K.maxEntries o → Fits (tableAnswer o)
 unfolding tableAnswer
 loaded-fits (Valid n) w = record { number = omega arith; value = omega arith; together = refl }
 loaded-fits (Refused n i) w =
@@ -77,7 +77,7 @@ fits (Bad n i) = ltb n (2 ^ 8) && (ltb i (2 ^ 32) && together n i)
 refusal-fits : (t : K.Tables) → fits (refusal (K.checked t)) ≡ true
 refusal-fits t = go (K.checked t) (checked-within t)
   where
-    go : (o : Loaded) → Within K.maxEntries o → fits (refusal o) ≡ true
+    go : (o : Loaded) → Bounded K.maxEntries o → fits (refusal o) ≡ true
     go (Valid n) w = refl
     go (Refused n i) w =
         let k = table-number n (w .0) in

@@ -18,7 +18,7 @@ use Rattle.rules.specs.History.{judge, sign, ask}
 use Rattle.rules.specs.Refusals.{Request, on, judgeSyn, openPassively, openActively}
 use Rattle.rules.specs.GivenNumbers.{isPass}
 use Rattle.states.specs.Layout.{isState}
-use Rattle.boundary.specs.Word.{word, Reads, ofJudged, ofChecked, ofSigned, ofSettled}
+use Rattle.boundary.specs.Word.{word, Reads, ofJudged, ofSynJudged, ofSigned, ofSettled}
 use Rattle.boundary.specs.Exports.{answered, accepts, opens}
 
 -- 10 to 17: "a table is refused"
@@ -80,7 +80,7 @@ abbrev pub answerOf : Request → Answer
 answerOf (on (judge t a) q) = ofJudged (judged t a q)
 answerOf (on (sign t s out) q) = ofSigned (signed t s out q)
 answerOf (on (ask t id) q) = ofSettled (asked t id q)
-answerOf (judgeSyn t a strict) = ofChecked (judgedSyn t a strict)
+answerOf (judgeSyn t a strict) = ofSynJudged (judgedSyn t a strict)
 answerOf (openPassively t a isn strict) = ofJudged (openedPassively t a isn strict)
 answerOf (openActively t local remote localPort remotePort isn sendId) =
     ofSettled (openedActively t local remote localPort remotePort isn sendId)

@@ -3,7 +3,7 @@
 use Prim.Native.Nat.{ℕ, _+_, _*_, _^_, _/_, _%_, _<_}
 use mathlib.Core.Path.{_≡_}
 use Rattle.rules.specs.declared.Judged.{Judged}
-use Rattle.rules.specs.declared.Checked.{Checked}
+use Rattle.rules.specs.declared.SynJudged.{SynJudged}
 use Rattle.rules.specs.declared.Signed.{Signed}
 use Rattle.rules.specs.declared.Settled.{Settled}
 use Rattle.rules.specs.Answers.{Answer, verdictAnswer, signingAnswer, doneAnswer}
@@ -16,8 +16,8 @@ word a = a .number + a .value * 2 ^ 32
 abbrev pub ofJudged : Judged → Answer
 ofJudged j = verdictAnswer (j .verdict) (j .index)
 
-abbrev pub ofChecked : Checked → Answer
-ofChecked c = verdictAnswer (c .verdict) (c .index)
+abbrev pub ofSynJudged : SynJudged → Answer
+ofSynJudged c = verdictAnswer (c .verdict) (c .index)
 
 abbrev pub ofSigned : Signed → Answer
 ofSigned s = signingAnswer (s .answer) (s .index)

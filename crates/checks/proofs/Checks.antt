@@ -68,7 +68,7 @@ module _ (t : Tables) (p : Pair) (id : ℕ) where
     where
       go : (c : Loaded) (b : Bool) → checked t ≡ c → recvEntry t p id .there ≡ b → isRefused c ≡ false → recvEntry t p id .entry .secret .«mac_bytes» ≤ 16
       go (Refused n i) b q h z = let y : _≡_ {A = ℕ} 0 1 = cc in absurd (omega arith)
-      go (Valid n) true q h z = omega (arith, valid-proper t (n, q) (recv-holder t p id h .0 .place) .mac)
+      go (Valid n) true q h z = valid-proper t (n, q) (recv-holder t p id h .0 .place) .mac-high
       go (Valid n) false q h z = rw (recv-nobody t p id h) (omega arith)
 
 -- 25 to 28 by values that are equal to the definitions'

@@ -55,7 +55,7 @@ module _ (room added len : ℕ) where
   pub room-enough : added ≤ room → len ≤ room - added → unrefused ≡ first (tests (refuse 37) (ltb room (len + added) ∷ [])) unrefused
   room-enough h k = no _ _ (le-ltb room (len + added) (omega arith)) refl
 
--- 31 to 37 in their order
+-- 31, 33 to 35, 32, 36 and 37 in their order
 module _ (room added : ℕ) (there : Bool) (q : State) (h : Header) where
   abbrev place : Place
   place = placeOn (q .conn) (q .sent) (h .sequence)
@@ -67,12 +67,12 @@ module _ (room added : ℕ) (there : Bool) (q : State) (h : Header) where
     pub at-fresh : Else a → a ≡ given
     at-fresh = stop (freshLines (h .options)) _ ea
 
-    module _ {b : Outcome} {x r : ℕ} (ga : a ≡ Good x r) (eb : b ≡ first (segmentLines added (q .conn) h) unrefused) where
+    module _ {b : Outcome} {x r : ℕ} (ga : a ≡ Good x r) (eb : b ≡ first (segmentLines (q .conn) h) unrefused) where
       behind : {w y : Outcome} → w ≡ y → w ≡ first (freshLines (h .options)) y
       behind = pass (freshLines (h .options)) refl ea ga
 
       pub at-segment : Else b → b ≡ given
-      at-segment e = behind (stop (segmentLines added (q .conn) h) _ eb e)
+      at-segment e = behind (stop (segmentLines (q .conn) h) _ eb e)
 
       module _ {o : Outcome} {p : Place} {y u : ℕ} (gb : b ≡ Good y u) (ep : p ≡ place)
           (eo : o ≡ first (outputLines room added there (q .conn) p h) unrefused) where
@@ -81,10 +81,10 @@ module _ (room added : ℕ) (there : Bool) (q : State) (h : Header) where
 
         pub at-output : Else o → o ≡ given
         at-output e =
-            behind (pass (segmentLines added (q .conn) h) refl eb gb (stop (outputLines room added there (q .conn) place h) _ located e))
+            behind (pass (segmentLines (q .conn) h) refl eb gb (stop (outputLines room added there (q .conn) place h) _ located e))
 
         pub may-sign : {k j v : ℕ} → o ≡ Good k j → v ≡ value p → Good v (q .«ask_id») ≡ given
         may-sign go ev =
-            behind (pass (segmentLines added (q .conn) h) refl eb gb
+            behind (pass (segmentLines (q .conn) h) refl eb gb
             (pass (outputLines room added there (q .conn) place h) refl located go
             (ap (λ (n : ℕ). Good n (q .«ask_id»)) (ev ∙ ap value ep))))

@@ -42,24 +42,25 @@ portLines p h =
 abbrev pub stageLines : Connection → Header → List (Test Outcome)
 stageLines l h = test (refuse 34) (cond (isOpen l) (h .syn && not (h .ack)) (not (h .syn && not (h .ack)))) ∷ []
 
--- 32, 33 and 34
-abbrev pub segmentLines : ℕ → Connection → Header → List (Test Outcome)
-segmentLines added l h = growthLines added (h .end) (h .len) ++ (portLines (l .pair) h ++ stageLines l h)
+-- 33 and 34
+abbrev pub segmentLines : Connection → Header → List (Test Outcome)
+segmentLines l h = portLines (l .pair) h ++ stageLines l h
 
 -- 36
 abbrev pub placeLines : Connection → Place → Bool → List (Test Outcome)
 placeLines l x isSyn = tests (refuse 36) (not (located x) ∷ (isSyn && not (eqb (value x) (l .isn))) ∷ [])
 
--- 35, 36 and 37
+-- 35, 32, 36 and 37
 abbrev pub outputLines : ℕ → ℕ → Bool → Connection → Place → Header → List (Test Outcome)
 outputLines room added there l x h =
-    test (refuse 35) (not there) ∷ (placeLines l x (h .syn) ++ tests (refuse 37) (ltb room (h .len + added) ∷ []))
+    test (refuse 35) (not there)
+    ∷ (growthLines added (h .end) (h .len) ++ (placeLines l x (h .syn) ++ tests (refuse 37) (ltb room (h .len + added) ∷ [])))
 
--- 31 to 37
+-- 31, 33 to 35, 32, 36 and 37
 abbrev pub signLines : ℕ → ℕ → Bool → State → Header → List (Test Outcome)
 signLines room added there q h =
     freshLines (h .options)
-    ++ (segmentLines added (q .conn) h ++ outputLines room added there (q .conn) (placeOn (q .conn) (q .sent) (h .sequence)) h)
+    ++ (segmentLines (q .conn) h ++ outputLines room added there (q .conn) (placeOn (q .conn) (q .sent) (h .sequence)) h)
 
 -- what they come to, with the position where none applies
 abbrev pub signed : ℕ → ℕ → Bool → State → Header → Outcome

@@ -22,9 +22,9 @@ module _ (t : Tables) (s : List ℕ) (room : ℕ) (q : State) {a : Outcome} (ea 
   at-input = stop (inputTests t s (q .conn)) _ ea
 
   -- it leaves it to the rest
-  pub at-signing : {b : Outcome} {x r added : ℕ} {f : Found} {h : Header} → a ≡ Good x r → f ≡ outgoing t q → added ≡ addedBytes f
+  pub at-signing : {b : Outcome} {x r added : ℕ} {f : Found} {h : Header} → a ≡ Good x r → f ≡ outgoing t q → added ≡ addedBytes (f .entry)
       → h ≡ headerOf (length s) s → b ≡ signed room added (f .there) q h → b ≡ checkSign t s room q
   unfolding checkSign
   at-signing {added = added} {f = f} {h = h} good ef en eh eb =
-      let g : addedBytes f ≡ addedBytes (outgoing t q) = λ i. addedBytes (ef i) in
+      let g : addedBytes (f .entry) ≡ addedBytes (outgoing t q .entry) = λ i. addedBytes (ef i .entry) in
       pass (inputTests t s (q .conn)) (rw (refusal-final (checked t))) ea good (eb ∙ (λ i. signed room ((en ∙ g) i) (ef i .there) q (eh i)))

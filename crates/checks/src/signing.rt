@@ -6,15 +6,14 @@ ghost use mathlib.Core.Path.{_≡_};
 ghost use mathlib.Core.List.{[], _∷_, _++_};
 ghost use lib.Dec.{ltb};
 ghost use Rattle.octets.specs.Tests.{tests, first};
-ghost use Rattle.rules.specs.Calls.{refuse, unrefused, addedBytes, lengthTests};
+ghost use Rattle.rules.specs.Segment.{optionBytes};
+ghost use Rattle.rules.specs.Calls.{refuse, unrefused, lengthTests};
 ghost use Rattle.checks.specs.SignGroups.{inputTests, freshLines, growthLines, portLines, stageLines};
 ghost use Rattle.checks.specs.SignGroups.{segmentLines, placeLines, outputLines, signed};
 use crate::faults::bare_syn;
 use crate::faults::family_faults;
 use crate::faults::table_faults;
-use keys::algorithm::HmacSha1_96;
 use keys::entry::Pair;
-use keys::table::Found;
 use rules::Connection;
 use rules::Outcome;
 use rules::Place;
@@ -25,16 +24,11 @@ use states::writers::is_open;
 use wire::header::Header;
 use wire::options::Options;
 
-// The bytes that TCP-AO adds. Both algorithms add as many, so that 32 is given also where 35 would follow.
-pub fn added_bytes(found: Found) -> u16
-    ensures { λ r. ⌜ r ≡ addedBytes found ⌝ }
+// The bytes that signing with a MAC of n bytes adds: TCP-AO, padded to whole words.
+pub fn added_bytes(n: u8) -> u16
+    ensures { λ r. ⌜ r ≡ optionBytes n ⌝ }
 {
-    if found.there {
-        let entry = found.entry;
-        let secret = entry.secret;
-        return 4 + secret.mac_bytes as u16;
-    }
-    4 + HmacSha1_96::MAC_BYTES as u16
+    (4 + n as u16 + 3) / 4 * 4
 }
 
 // 31: "TCP-AO or MD5 present".
@@ -85,7 +79,8 @@ fn fresh_faults(options: Options) -> Outcome
     }
 }
 
-// 32: "data offset above 11, or result above 65,535 bytes". A header has at most 60 bytes. No sum is made of what was read, so none wraps.
+// 32, given when the data offset "would pass 15 or the result 65,535 bytes". A header has at most 60 bytes. No sum is made of what was
+// read, so none wraps.
 fn growth_faults(added: u16, end: usize, len: usize) -> Outcome
     ensures { λ r. ⌜ r ≡ first (growthLines added end len) unrefused ⌝ }
 {
@@ -131,14 +126,10 @@ fn stage_faults(conn: Connection, header: Header) -> Outcome
     Outcome::Bad(34, 0)
 }
 
-// 32, 33 and 34.
-fn segment_faults(added: u16, conn: Connection, header: Header) -> Outcome
-    ensures { λ r. ⌜ r ≡ first (segmentLines added conn header) unrefused ⌝ }
+// 33 and 34.
+fn segment_faults(conn: Connection, header: Header) -> Outcome
+    ensures { λ r. ⌜ r ≡ first (segmentLines conn header) unrefused ⌝ }
 {
-    let growth = growth_faults(added, header.end, header.len);
-    let Outcome::Good(_, _) = growth else {
-        return growth;
-    };
     let ports = port_faults(conn.pair, header);
     let Outcome::Good(_, _) = ports else {
         return ports;
@@ -176,7 +167,7 @@ fn room_faults(room: usize, added: u16, len: usize) -> Outcome
     Outcome::Good(0, 0)
 }
 
-// 35, 36 and 37.
+// 35, 32, 36 and 37.
 fn output_faults(
     room: usize,
     added: u16,
@@ -190,6 +181,10 @@ fn output_faults(
     if !there {
         return Outcome::Bad(35, 0);
     }
+    let growth = growth_faults(added, header.end, header.len);
+    let Outcome::Good(_, _) = growth else {
+        return growth;
+    };
     let placed = place_faults(conn, place, header.syn);
     let Outcome::Good(_, _) = placed else {
         return placed;
@@ -197,8 +192,8 @@ fn output_faults(
     room_faults(room, added, header.len)
 }
 
-// 31 to 37, behind the input's: `added` is what TCP-AO adds under the outgoing key's entry, `there` whether there is one, `room` the
-// output's length.
+// 31, 33 to 35, 32, 36 and 37, behind the input's: `added` is what signing adds under the outgoing key's entry, `there` whether there is
+// one, `room` the output's length.
 pub fn sign_faults(room: usize, added: u16, there: bool, state: State, header: Header) -> Outcome
     ensures { λ r. ⌜ r ≡ signed room added there state header ⌝ }
 {
@@ -208,7 +203,7 @@ pub fn sign_faults(room: usize, added: u16, there: bool, state: State, header: H
     let Outcome::Good(_, _) = fresh else {
         return fresh;
     };
-    let fits = segment_faults(added, conn, header);
+    let fits = segment_faults(conn, header);
     let Outcome::Good(_, _) = fits else {
         return fits;
     };

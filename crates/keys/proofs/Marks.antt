@@ -1,6 +1,6 @@
 -- The IDs that the loader has marked: an entry that shares neither of its IDs with those before it clashes with none of them.
 use Prim.Native.Nat.{ℕ, _+_, _≤_, _<_}
-use mathlib.Core.Bool.{Bool, true, false, cond, _&&_, _||_}
+use mathlib.Core.Bool.{Bool, true, false, cond, _&&_}
 use mathlib.Core.Path.{_≡_, refl, sym, ap, _∙_, subst}
 use mathlib.Core.List.{List, [], _∷_, _++_}
 use native.Mathlib.Omega.{arith}
@@ -10,10 +10,10 @@ use lib.Dec.{eqb}
 use borrow.Author.Tests.{eqb-true, eqb-false, ne-eqb}
 use Rattle.octets.specs.Each.{Each}
 use Rattle.octets.specs.Tests.{test}
-use Rattle.keys.specs.Entry.{size, itemAt, entries}
+use Rattle.keys.specs.Entry.{itemAt, entries}
 use Rattle.keys.specs.Match.{share, clash}
 use Rattle.keys.specs.Table.{numberOf, ownTests, itemTests, clashing, loaded}
-use Rattle.keys.proofs.Walk.{Walking, walk-start, walk-refused, walk-sound, walk-more, walk-next}
+use Rattle.keys.proofs.Walk.{sizeAt, Walking, walk-start, walk-refused, walk-step, walk-more, walk-next}
 use Rattle.keys.specs.declared.entry.Ids.{Ids}
 use Rattle.keys.specs.declared.entry.Entry.{Entry}
 use Rattle.keys.specs.declared.table.Loaded.the-variants.{Refused}
@@ -89,10 +89,10 @@ module _ {t : List ℕ} {limit : ℕ} {sends recvs : List ℕ} {at i : ℕ} (w :
   pub load-refused : at < length t → (i ≡ limit → ⊥) → (n ≡ 0 → ⊥) → Refused n i ≡ loaded limit t
   load-refused h e z = walk-refused (w .walking) n h e number z
 
-  pub load-sound : n ≡ 0 → at + size (getD t at 0) ≤ length t
-  load-sound z = walk-sound (w .walking) n number z
+  pub load-step : (s : ℕ) → n ≡ 0 → s ≡ sizeAt t at → (1 ≤ s) × (at + s ≤ length t)
+  load-step s z y = walk-step (w .walking) n s number z y
 
-  pub load-next : (s : ℕ) → at < length t → (i ≡ limit → ⊥) → n ≡ 0 → s ≡ size (getD t at 0) → ids .send < 256 → ids .recv < 256
+  pub load-next : (s : ℕ) → at < length t → (i ≡ limit → ⊥) → n ≡ 0 → s ≡ sizeAt t at → ids .send < 256 → ids .recv < 256
       → Loading t limit (set sends (ids .send) 1) (set recvs (ids .recv) 1) (at + s) (i + 1)
   load-next s h e z y a b =
       let p = w .sends-long in

@@ -1,7 +1,7 @@
 -- Laws for functions that go through tests one after another.
 use Prim.Native.Nat.{ℕ, _+_, _*_, _≤_, _<_, max, min}
 use mathlib.Core.Bool.{Bool, true, false, cond, not, _&&_}
-use mathlib.Core.Path.{_≡_, refl, sym, ap, _∙_, subst}
+use mathlib.Core.Path.{_≡_, refl, sym, ap, _∙_}
 use mathlib.Core.List.{List, _++_}
 use native.Mathlib.Omega.{arith}
 use native.Mathlib.Numerals.{add-one}
@@ -13,7 +13,7 @@ use borrow.Author.Tests.{eq-eqb, ne-eqb, eqb-true, eqb-false, lt-ltb, le-ltb}
 use Rattle.octets.specs.Octets.{get16}
 use Rattle.octets.specs.Tests.{Test}
 use Rattle.wire.specs.Prefix.{agree, clearPast}
-use Rattle.keys.specs.Entry.{width, padded, sideOf, selectorOf}
+use Rattle.keys.specs.Entry.{familyOf, width, padded, sideOf, selectorOf}
 use Rattle.keys.specs.Match.{fixed, meet, overlap}
 use Rattle.keys.specs.Table.{numberOf, zeros, sideTests}
 use Rattle.keys.specs.FaultLaws.{lacks, number-none, number-past, number-given}
@@ -71,15 +71,19 @@ module _ (e : List ℕ) where
   shuffle true false false s = refl
   shuffle false q r s = refl
 
+  pub overlap-other : (b : Selector) (f : ℕ) → f ≡ familyOf (getD e 0 0) → (f ≡ b .family → ⊥) → false ≡ overlap (selectorOf (getD e 0 0) e) b
+  unfolding overlap selectorOf
+  overlap-other b f fe h = rw (ne-eqb (familyOf (getD e 0 0)) (b .family) (λ z. h (fe ∙ z)))
+
   -- the ports of both sides, then the addresses
-  pub overlap-is : (b : Selector) (w : ℕ) → w ≡ width (getD e 0 0) → getD e 0 0 ≡ b .family
-      → (portsMeet 9 (b .remote) && (portsMeet 5 (b .local) && (addressesMeet (getD e 0 0) (14 + w) (b .remote) && addressesMeet (getD e 0 0) 13 (b .local)))) ≡ overlap (selectorOf (width (getD e 0 0)) e) b
+  pub overlap-is : (b : Selector) (f w : ℕ) → f ≡ familyOf (getD e 0 0) → w ≡ width f → f ≡ b .family
+      → (portsMeet 9 (b .remote) && (portsMeet 5 (b .local) && (addressesMeet f (14 + w) (b .remote) && addressesMeet f 13 (b .local)))) ≡ overlap (selectorOf (getD e 0 0) e) b
   unfolding overlap selectorOf meet sideOf
-  overlap-is b w we fe =
-      let f = getD e 0 0 in
-      rw (eq-eqb f (b .family) fe)
-      (ap (λ (v : ℕ). portsMeet 9 (b .remote) && (portsMeet 5 (b .local) && (addressesMeet f (14 + v) (b .remote) && addressesMeet f 13 (b .local)))) we
-      ∙ sym (shuffle (portsMeet 9 (b .remote)) (portsMeet 5 (b .local)) (addressesMeet f (14 + width f) (b .remote)) (addressesMeet f 13 (b .local))))
+  overlap-is b f w fe we h =
+      let g = familyOf (getD e 0 0) in
+      rw (eq-eqb g (b .family) (sym fe ∙ h))
+      ((λ i. portsMeet 9 (b .remote) && (portsMeet 5 (b .local) && (addressesMeet (fe i) (14 + (we ∙ ap width fe) i) (b .remote) && addressesMeet (fe i) 13 (b .local))))
+      ∙ sym (shuffle (portsMeet 9 (b .remote)) (portsMeet 5 (b .local)) (addressesMeet g (14 + width g) (b .remote)) (addressesMeet g 13 (b .local))))
 
 -- 15 of one side, whose family's addresses have w bytes
 

@@ -7,11 +7,11 @@ use mathlib.Core.List.{List, [], _∷_, _++_}
 use native.Mathlib.Omega.{arith}
 use native.Mathlib.Nat.{sub-zero}
 use lib.ListN.{length, getD, take, drop, drop-of-length-le, length-drop, length-append}
-use lib.Seq.{take-all, take-nil, take-append-add, append-snoc}
+use lib.Seq.{take-nil, take-append-add, append-snoc}
 use lib.Dec.{leb}
 use borrow.Author.Tests.{eq-eqb, ne-eqb, le-leb, lt-leb}
 use Rattle.octets.specs.Tests.{Test, test}
-use Rattle.keys.specs.Entry.{knownKind, size, width, idsOf, selectorOf, entryOf, Item, item, itemAt, sound, items, entries}
+use Rattle.keys.specs.Entry.{knownKind, body, size, idsOf, selectorOf, entryOf, Item, item, itemAt, sound, items, entries}
 use Rattle.keys.specs.EntryLaws.{kind-is, items-at, items-end, sound-inside, entries-next, entries-stop}
 use Rattle.keys.specs.Match.{overlap, share, clash}
 use Rattle.keys.specs.Table.{numberOf, entryTests, clashing, itemTests, loadTests, refusing, loadedFrom, loaded, nobody, found}
@@ -27,15 +27,15 @@ use Rattle.keys.specs.declared.table.Found.{Found}
 
 -- what begins at `at`
 
+size-none : (b : Bool) (s n : ℕ) → n ≡ cond b (1 + s) 0 → n ≡ 0 → b ≡ false
+size-none true s n e z = absurd (omega arith)
+size-none false s n e z = refl
+
+size-some : (b : Bool) (s n : ℕ) → n ≡ cond b s 0 → (n ≡ 0 → ⊥) → b ≡ true
+size-some true s n e z = refl
+size-some false s n e z = absurd (z e)
+
 module _ (t : List ℕ) (at : ℕ) where
-  pub sound-past : length t ≤ at → false ≡ sound (itemAt t at)
-  unfolding item knownKind
-  sound-past h = rw (drop-of-length-le t h)
-
-  pub sound-unknown : (r : Bool) → r ≡ knownKind (getD t at 0) → r ≡ false → false ≡ sound (itemAt t at)
-  unfolding item
-  sound-unknown r e h = let k : knownKind (getD (drop at t) 0 0) ≡ false = ap knownKind (kind-is t at) ∙ sym e ∙ h in rw k
-
   pub known-is : (r b : Bool) → r ≡ knownKind (getD t at 0) → r ≡ b → itemAt t at .kind-known ≡ b
   unfolding item
   known-is r b e h = ap knownKind (kind-is t at) ∙ sym e ∙ h
@@ -44,8 +44,34 @@ module _ (t : List ℕ) (at : ℕ) where
   unfolding item
   whole-is n e h = λ i. leb ((e ∙ ap size (sym (kind-is t at))) i) (sym (length-drop at t) i)
 
-  pub sound-is : (r : Bool) (n : ℕ) → r ≡ knownKind (getD t at 0) → r ≡ true → n ≡ size (getD t at 0) → at ≤ length t → leb n (length t - at) ≡ sound (itemAt t at)
-  sound-is r n e h q k = whole-is n q k ∙ ap (λ (b : Bool). b && itemAt t at .whole) (sym (known-is r true e h))
+  -- how many bytes the entry has that is there
+  abbrev pub sizeAt : ℕ
+  sizeAt = cond (sound (itemAt t at)) (size (getD t at 0)) 0
+
+  pub size-past : length t ≤ at → 0 ≡ sizeAt
+  unfolding item knownKind
+  size-past h = rw (drop-of-length-le t h)
+
+  pub size-unknown : (r : Bool) → r ≡ knownKind (getD t at 0) → r ≡ false → 0 ≡ sizeAt
+  size-unknown r e h = rw (known-is r false e h)
+
+  pub size-is : (r : Bool) (n : ℕ) (b : Bool) → r ≡ knownKind (getD t at 0) → r ≡ true → n ≡ size (getD t at 0) → at ≤ length t → leb n (length t - at) ≡ b → cond b n 0 ≡ sizeAt
+  size-is r n b e h q k z =
+      let s : b ≡ sound (itemAt t at) = sym z ∙ whole-is n q k ∙ ap (λ (y : Bool). y && itemAt t at .whole) (sym (known-is r true e h)) in
+      λ i. cond (s i) (q i) 0
+
+  module _ (n : ℕ) (ne : n ≡ sizeAt) where
+    pub sound-not : n ≡ 0 → sound (itemAt t at) ≡ false
+    sound-not z = size-none (sound (itemAt t at)) (body (getD t at 0)) n ne z
+
+    pub sound-there : (n ≡ 0 → ⊥) → sound (itemAt t at) ≡ true
+    sound-there z = size-some (sound (itemAt t at)) (size (getD t at 0)) n ne z
+
+    pub size-sound : sound (itemAt t at) ≡ true → n ≡ size (getD t at 0)
+    size-sound h = ne ∙ ap (λ (b : Bool). cond b (size (getD t at 0)) 0) h
+
+    pub size-inside : sound (itemAt t at) ≡ true → (1 ≤ n) × (at + n ≤ length t)
+    size-inside h = let e = size-sound h in let i = sound-inside t at h in (omega arith, omega arith)
 
   pub tail-whole : at + size (getD t at 0) ≤ length t → size (getD (tail t at) 0 0) ≤ length (tail t at)
   tail-whole h =
@@ -57,9 +83,9 @@ module _ (t : List ℕ) (at : ℕ) where
   unfolding item entryOf
   ids-at i e = e ∙ ap idsOf (tail-is t at)
 
-  pub selector-at : (s : Selector) → s ≡ selectorOf (width (getD (tail t at) 0 0)) (tail t at) → s ≡ itemAt t at .entry .selector
+  pub selector-at : (s : Selector) → s ≡ selectorOf (getD (tail t at) 0 0) (tail t at) → s ≡ itemAt t at .entry .selector
   unfolding item entryOf
-  selector-at s e = e ∙ ap (λ (x : List ℕ). selectorOf (width (getD x 0 0)) x) (tail-is t at)
+  selector-at s e = e ∙ ap (λ (x : List ℕ). selectorOf (getD x 0 0) x) (tail-is t at)
 
   pub entry-at : (e : Entry) → e ≡ entryOf (tail t at) → e ≡ itemAt t at .entry
   unfolding item
@@ -94,38 +120,39 @@ pub clashing-over : {t : List ℕ} {e : Entry} {i j at : ℕ} → Clashing t e i
 unfolding clashing
 clashing-over {t} {e} {i} {j} {at} w k = let z : i - j ≡ 0 = omega arith in sym (ap (λ (n : ℕ). clashing e (take n (entries (drop at t)))) z) ∙ w .rest
 
-module _ {t : List ℕ} {e : Entry} {i j at : ℕ} (w : Clashing t e i j at) (s : Bool) (se : s ≡ sound (itemAt t at)) where
-  pub clashing-cut : s ≡ false → false ≡ clashing e (take i (entries t))
+module _ {t : List ℕ} {e : Entry} {i j at : ℕ} (w : Clashing t e i j at) (n : ℕ) (ne : n ≡ sizeAt t at) where
+  pub clashing-cut : n ≡ 0 → false ≡ clashing e (take i (entries t))
   unfolding clashing
-  clashing-cut n =
-      sym (ap (λ (l : List Entry). clashing e (take (i - j) l)) (entries-stop t at (sym se ∙ n)) ∙ ap (clashing e) (take-nil (i - j))) ∙ w .rest
+  clashing-cut z =
+      sym (ap (λ (l : List Entry). clashing e (take (i - j) l)) (entries-stop t at (sound-not t at n ne z)) ∙ ap (clashing e) (take-nil (i - j))) ∙ w .rest
 
-  pub clashing-inside : s ≡ true → at + size (getD t at 0) ≤ length t
-  clashing-inside y = sound-inside t at (sym se ∙ y)
+  module _ (y : n ≡ 0 → ⊥) where
+    pub clashing-inside : at + size (getD t at 0) ≤ length t
+    clashing-inside = sound-inside t at (sound-there t at n ne y)
 
-  turn : s ≡ true → j < i → (clash (itemAt t at .entry) e || clashing e (take (i - (j + 1)) (entries (drop (at + size (getD t at 0)) t)))) ≡ clashing e (take i (entries t))
-  unfolding clashing
-  turn y k =
-      let z : i - j ≡ suc (i - (j + 1)) = omega arith in
-      sym
-      (ap (λ (l : List Entry). clashing e (take (i - j) l)) (entries-next t at (sym se ∙ y))
-      ∙ ap (λ (n : ℕ). clashing e (take n (itemAt t at .entry ∷ entries (drop (at + size (getD t at 0)) t)))) z)
-      ∙ w .rest
+    pub clashing-step : (1 ≤ n) × (at + n ≤ length t)
+    clashing-step = size-inside t at n ne (sound-there t at n ne y)
 
-  module _ (y : s ≡ true) (k : j < i) (r : Bool) (re : r ≡ (share (itemAt t at .entry .ids) (e .ids) && overlap (itemAt t at .entry .selector) (e .selector))) where
-    pub clashing-hit : r ≡ true → true ≡ clashing e (take i (entries t))
-    unfolding clash
-    clashing-hit g = or-hit (clash (itemAt t at .entry) e) _ _ (sym re ∙ g) (turn y k)
+    turn : j < i → (clash (itemAt t at .entry) e || clashing e (take (i - (j + 1)) (entries (drop (at + n) t)))) ≡ clashing e (take i (entries t))
+    unfolding clashing
+    turn k =
+        let h = sound-there t at n ne y in
+        let z : i - j ≡ suc (i - (j + 1)) = omega arith in
+        ap (λ (m : ℕ). clash (itemAt t at .entry) e || clashing e (take (i - (j + 1)) (entries (drop (at + m) t)))) (size-sound t at n ne h)
+        ∙ sym
+        (ap (λ (l : List Entry). clashing e (take (i - j) l)) (entries-next t at h)
+        ∙ ap (λ (m : ℕ). clashing e (take m (itemAt t at .entry ∷ entries (drop (at + size (getD t at 0)) t)))) z)
+        ∙ w .rest
 
-    pub clashing-next : (n : ℕ) → r ≡ false → n ≡ size (getD t at 0) → Clashing t e i (j + 1) (at + n)
-    unfolding clash
-    clashing-next n g z =
-        let h = sound-inside t at (sym se ∙ y) in
-        record {
-          few = omega arith;
-          within = omega arith;
-          rest = ap (λ (m : ℕ). clashing e (take (i - (j + 1)) (entries (drop (at + m) t)))) z ∙ or-miss (clash (itemAt t at .entry) e) _ _ (sym re ∙ g) (turn y k);
-        }
+    module _ (k : j < i) (r : Bool) (re : r ≡ (share (itemAt t at .entry .ids) (e .ids) && overlap (itemAt t at .entry .selector) (e .selector))) where
+      pub clashing-hit : r ≡ true → true ≡ clashing e (take i (entries t))
+      unfolding clash
+      clashing-hit g = or-hit (clash (itemAt t at .entry) e) _ _ (sym re ∙ g) (turn k)
+
+      pub clashing-next : r ≡ false → Clashing t e i (j + 1) (at + n)
+      unfolding clash
+      clashing-next g =
+          record { few = omega arith; within = clashing-step .1; rest = or-miss (clash (itemAt t at .entry) e) _ _ (sym re ∙ g) (turn k) }
 
 -- the loop of a search
 
@@ -144,34 +171,37 @@ module _ {t : List ℕ} {test : Entry → Bool} {i at : ℕ} (w : Seeking t test
   stopped s r q = q ∙ sym (ap (found test i) (entries-stop t at s)) ∙ w .rest
 
   pub seek-over : length t ≤ at → (r : Found) → r ≡ nobody → r ≡ found test 0 (entries t)
-  seek-over k r q = stopped (sym (sound-past t at k)) r q
+  seek-over k r q = stopped (sound-not t at 0 (size-past t at k) refl) r q
 
-  module _ (s : Bool) (se : s ≡ sound (itemAt t at)) where
-    pub seek-cut : s ≡ false → (r : Found) → r ≡ nobody → r ≡ found test 0 (entries t)
-    seek-cut n r q = stopped (sym se ∙ n) r q
+  module _ (n : ℕ) (ne : n ≡ sizeAt t at) where
+    pub seek-cut : n ≡ 0 → (r : Found) → r ≡ nobody → r ≡ found test 0 (entries t)
+    seek-cut z r q = stopped (sound-not t at n ne z) r q
 
-    module _ (y : s ≡ true) where
+    module _ (y : n ≡ 0 → ⊥) where
       pub seek-inside : at + size (getD t at 0) ≤ length t
-      seek-inside = sound-inside t at (sym se ∙ y)
+      seek-inside = sound-inside t at (sound-there t at n ne y)
 
-      seek-turn : cond (test (itemAt t at .entry)) (record { there = true; index = i; entry = itemAt t at .entry }) (found test (i + 1) (entries (drop (at + size (getD t at 0)) t))) ≡ found test 0 (entries t)
+      pub seek-step : (1 ≤ n) × (at + n ≤ length t)
+      seek-step = size-inside t at n ne (sound-there t at n ne y)
+
+      seek-turn : cond (test (itemAt t at .entry)) (record { there = true; index = i; entry = itemAt t at .entry }) (found test (i + 1) (entries (drop (at + n) t))) ≡ found test 0 (entries t)
       unfolding found
-      seek-turn = sym (ap (found test i) (entries-next t at (sym se ∙ y))) ∙ w .rest
+      seek-turn =
+          let h = sound-there t at n ne y in
+          ap (λ (m : ℕ). cond (test (itemAt t at .entry)) (record { there = true; index = i; entry = itemAt t at .entry }) (found test (i + 1) (entries (drop (at + m) t)))) (size-sound t at n ne h)
+          ∙ sym (ap (found test i) (entries-next t at h))
+          ∙ w .rest
 
       module _ (r : Bool) (re : r ≡ test (itemAt t at .entry)) where
         pub seek-hit : r ≡ true → (e : Entry) → e ≡ entryOf (tail t at) → record { there = true; index = i; entry = e } ≡ found test 0 (entries t)
         seek-hit g e z =
             ap (λ (x : Entry). record { there = true; index = i; entry = x }) (entry-at t at e z) ∙ cond-hit (test (itemAt t at .entry)) _ _ _ (sym re ∙ g) seek-turn
 
-        pub seek-next : r ≡ false → (n : ℕ) → n ≡ size (getD t at 0) → Seeking t test (i + 1) (at + n)
-        seek-next g n z =
-            let h = seek-inside in
+        pub seek-next : r ≡ false → Seeking t test (i + 1) (at + n)
+        seek-next g =
+            let h = seek-step in
             let k = w .counted in
-            record {
-              counted = omega arith;
-              within = omega arith;
-              rest = ap (λ (m : ℕ). found test (i + 1) (entries (drop (at + m) t))) z ∙ cond-miss (test (itemAt t at .entry)) _ _ _ (sym re ∙ g) seek-turn;
-            }
+            record { counted = omega arith; within = h .1; rest = cond-miss (test (itemAt t at .entry)) _ _ _ (sym re ∙ g) seek-turn }
 
 -- the loader's loop
 
@@ -213,8 +243,8 @@ module _ {t : List ℕ} {limit at i : ℕ} (w : Walking t limit at i) where
   unfolding numberOf
   walk-refused n h e q k = refused-by n i _ (loaded limit t) k (rw (ne-eqb i limit e, sym q) at (begin h))
 
-  pub walk-sound : (n : ℕ) → n ≡ numberOf (itemTests (take i (entries t)) (itemAt t at)) → n ≡ 0 → at + size (getD t at 0) ≤ length t
-  walk-sound n q z = sound-inside t at (item-good (take i (entries t)) (itemAt t at) (sym q ∙ z))
+  pub walk-step : (n s : ℕ) → n ≡ numberOf (itemTests (take i (entries t)) (itemAt t at)) → n ≡ 0 → s ≡ sizeAt t at → (1 ≤ s) × (at + s ≤ length t)
+  walk-step n s q z y = size-inside t at s y (item-good (take i (entries t)) (itemAt t at) (sym q ∙ z))
 
   -- the entry that begins here is one more of those taken
   pub walk-more : (n : ℕ) → n ≡ numberOf (itemTests (take i (entries t)) (itemAt t at)) → n ≡ 0 → take (i + 1) (entries t) ≡ take i (entries t) ++ (itemAt t at .entry ∷ [])
@@ -223,15 +253,15 @@ module _ {t : List ℕ} {limit at i : ℕ} (w : Walking t limit at i) where
       let x = itemAt t at in
       taken-more (entries t) b (entries (drop (at + size (getD t at 0)) t)) (x .entry) i (w .taken) (w .split ∙ ap (λ (m : List Entry). b ++ m) (entries-next t at (item-good b x (sym q ∙ z))))
 
-  pub walk-next : (n s : ℕ) → at < length t → (i ≡ limit → ⊥) → n ≡ numberOf (itemTests (take i (entries t)) (itemAt t at)) → n ≡ 0 → s ≡ size (getD t at 0) → Walking t limit (at + s) (i + 1)
+  pub walk-next : (n s : ℕ) → at < length t → (i ≡ limit → ⊥) → n ≡ numberOf (itemTests (take i (entries t)) (itemAt t at)) → n ≡ 0 → s ≡ sizeAt t at → Walking t limit (at + s) (i + 1)
   unfolding numberOf
   walk-next n s h e q z y =
       let b = take i (entries t) in
       let x = itemAt t at in
       let g = item-good b x (sym q ∙ z) in
-      let l = sound-inside t at g in
+      let l = walk-step n s q z y in
       let k = w .counted in
-      let v : drop (at + size (getD t at 0)) t ≡ drop (at + s) t = ap (λ (m : ℕ). drop (at + m) t) (sym y) in
+      let v : drop (at + size (getD t at 0)) t ≡ drop (at + s) t = ap (λ (m : ℕ). drop (at + m) t) (sym (size-sound t at s y g)) in
       let c : entries t ≡ b ++ (x .entry ∷ entries (drop (at + s) t)) = w .split ∙ ap (λ (m : List Entry). b ++ m) (entries-next t at g ∙ ap (λ (m : List ℕ). x .entry ∷ entries m) v) in
       let d = walk-more n q z in
       record {

@@ -1,4 +1,4 @@
--- What the table's bytes mean: document 01, "Key table (house bytes)". A later kind of entry moves this file.
+-- What the table's bytes mean: document 01, "Key table (house bytes)", and document 02, Ticket 4. A later kind of entry moves this file.
 -- Any list of bytes has a meaning: a byte that is not there counts as 0, and the numbers 10 to 17 (specs/Table.antt) say what is refused.
 use Prim.Native.Nat.{ℕ, zero, suc, _+_, _*_, _-_, _%_}
 use mathlib.Core.Bool.{Bool, cond, _&&_, _||_}
@@ -13,20 +13,25 @@ use Rattle.keys.specs.declared.entry.Ids.{Ids}
 use Rattle.keys.specs.declared.entry.Secret.{Secret}
 use Rattle.keys.specs.declared.entry.Entry.{Entry}
 
--- "kind 4 (IPv4) has 103 bytes, kind 6 (IPv6) 127"
+-- "kind 4 (IPv4) has 103 bytes, kind 6 (IPv6) 127"; document 02, Ticket 4: "Add entry kinds 5 and 7"
 unfoldable pub knownKind : ℕ → Bool
-knownKind k = eqb k 4 || eqb k 6
+knownKind k = leb 4 k && leb k 7
 
--- the family of an entry by its kind: today the kind is the family's number
-abbrev pub familyOf : ℕ → ℕ
-familyOf k = k
+-- "like 4 and 6 with one more byte": one for kinds 5 and 7, none for 4 and 6
+unfoldable pub extra : ℕ → ℕ
+extra k = k % 2
+
+-- the family of an entry of the kind: IPv4 for 4 and 5, IPv6 for 6 and 7
+unfoldable pub familyOf : ℕ → ℕ
+familyOf k = k - extra k
 
 -- the families: IPv4 and IPv6
 unfoldable pub isFamily : ℕ → Bool
 isFamily f = eqb f 4 || eqb f 6
 
+-- 103 and 127 bytes, and the one more
 unfoldable pub body : ℕ → ℕ
-body k = cond (eqb k 4) 103 127
+body k = cond (eqb (familyOf k) 4) 103 127 + extra k
 
 -- an entry: "one byte of kind, then a body"
 abbrev pub size : ℕ → ℕ
@@ -45,34 +50,42 @@ unfoldable pub sideOf : ℕ → ℕ → ℕ → List ℕ → Side
 sideOf w ports at e =
     record { low = get16 e ports; high = get16 e (ports + 2); bits = getD e (at + w) 0; address = padded (take w (drop at e)) }
 
--- "local port low and high, remote port low and high (two bytes each, big-endian, ends included); local address, its prefix length; remote
--- address, its prefix length"
+-- of an entry of kind k: "local port low and high, remote port low and high (two bytes each, big-endian, ends included); local address,
+-- its prefix length; remote address, its prefix length"
 unfoldable pub selectorOf : ℕ → List ℕ → Selector
-selectorOf w e = record { family = familyOf (getD e 0 0); local = sideOf w 5 13 e; remote = sideOf w 9 (14 + w) e }
+selectorOf k e =
+    record {
+      family = familyOf k;
+      local = sideOf (width (familyOf k)) 5 13 e;
+      remote = sideOf (width (familyOf k)) 9 (14 + width (familyOf k)) e;
+    }
 
 -- "SendID, RecvID"
 unfoldable pub idsOf : List ℕ → Ids
 idsOf e = record { send = getD e 3 0; recv = getD e 4 0 }
 
--- "flags .., algorithm", and "key length 1 to 80; the key, padded with zeros to 80". The MAC's length is the algorithm's.
+-- where the two sides end
+abbrev pub sidesEnd : ℕ → ℕ
+sidesEnd k = 15 + 2 * width (familyOf k)
+
+-- "one more byte, 4 to 16, before the key length": the MAC's length. Where the kind has no such byte, it is the algorithm's.
+unfoldable pub macLength : ℕ → List ℕ → ℕ
+macLength k e = cond (eqb (extra k) 1) (getD e (sidesEnd k) 0) (macBytes (getD e 2 0))
+
+-- "flags .., algorithm", and "key length 1 to 80; the key, padded with zeros to 80"
 unfoldable pub secretOf : ℕ → List ℕ → Secret
-secretOf w e =
+secretOf k e =
     record {
       flags = getD e 1 0;
       algorithm = getD e 2 0;
-      «mac_bytes» = macBytes (getD e 2 0);
-      «key_len» = getD e (15 + 2 * w) 0;
-      key = take 80 (drop (16 + 2 * w) e);
+      «mac_bytes» = macLength k e;
+      «key_len» = getD e (sidesEnd k + extra k) 0;
+      key = take 80 (drop (sidesEnd k + extra k + 1) e);
     }
 
 -- the entry whose kind is the first byte of e, whatever stands behind its own bytes
 unfoldable pub entryOf : List ℕ → Entry
-entryOf e =
-    record {
-      selector = selectorOf (width (familyOf (getD e 0 0))) e;
-      ids = idsOf e;
-      secret = secretOf (width (familyOf (getD e 0 0))) e;
-    }
+entryOf e = record { selector = selectorOf (getD e 0 0) e; ids = idsOf e; secret = secretOf (getD e 0 0) e }
 
 -- "flags (1: all options covered by the MAC; 0: only TCP-AO)": the lowest bit says it
 abbrev pub allOptions : Secret → Bool

@@ -4,32 +4,60 @@ use Prim.Native.Nat.{ℕ, zero, suc, _+_, _*_, _-_, _≤_, _<_}
 use mathlib.Core.Bool.{Bool, true, false, cond}
 use mathlib.Core.Path.{_≡_, refl, sym, ap, _∙_}
 use mathlib.Core.List.{List, [], _∷_, _++_}
-use mathlib.Core.Logic.{inl, inr, ⊎-elim}
+use mathlib.Core.Logic.{inl, inr}
 use native.Mathlib.Omega.{arith}
 use lib.ListN.{length, getD, take, drop, replicate, length-append, length-take, length-drop, length-replicate, drop-of-length-le}
 use lib.Seq.{drop-nil, drop-drop, getD-drop}
 use lib.Dec.{leb, eqb}
-use borrow.Author.Tests.{eqb-true, leb-true, leb-false}
+use borrow.Author.Tests.{eqb-true, eqb-false, leb-true, leb-false}
 use Rattle.octets.specs.Each.{Each, Octets}
-use Rattle.keys.specs.Algorithm.{macBytes}
-use Rattle.keys.specs.Entry.{knownKind, familyOf, body, size, width, sideOf, selectorOf, secretOf, entryOf, Item, item, itemAt, sound, items, entriesOf, entries}
-use Rattle.keys.specs.MatchLaws.{or-true, and-true, SideFields, Fields}
+use Rattle.keys.specs.Entry.{knownKind, familyOf, extra, body, size, width, sideOf, selectorOf, sidesEnd, secretOf, entryOf}
+use Rattle.keys.specs.Entry.{Item, item, itemAt, sound, items, entriesOf, entries}
+use Rattle.keys.specs.MatchLaws.{and-true, SideFields, Fields}
 use Rattle.keys.specs.Clash.{Family}
 use Rattle.keys.specs.declared.entry.Entry.{Entry}
 
 -- sizes
 
-width-of : (f : ℕ) (b : Bool) → eqb f 4 ≡ b → (width f ≤ 16) × (body f ≡ 95 + 2 * width f)
-unfolding width body
-width-of f true e = (rw e (omega arith), rw e)
-width-of f false e = (rw e (omega arith), rw e)
-
 pub width-le : (f : ℕ) → width f ≤ 16
-width-le f = width-of f (eqb f 4) refl .0
+unfolding width
+width-le f = go (eqb f 4) refl
+  where
+    go : (b : Bool) → eqb f 4 ≡ b → cond (eqb f 4) 4 16 ≤ 16
+    go true e = rw e (omega arith)
+    go false e = rw e (omega arith)
 
 -- "the body is: .." so many bytes beside the two addresses
-pub body-is : (f : ℕ) → body f ≡ 95 + 2 * width f
-body-is f = width-of f (eqb f 4) refl .1
+pub body-is : (k : ℕ) → body k ≡ 95 + 2 * width (familyOf k) + extra k
+unfolding width body
+body-is k = go (eqb (familyOf k) 4) refl
+  where
+    go : (b : Bool) → eqb (familyOf k) 4 ≡ b → cond (eqb (familyOf k) 4) 103 127 + extra k ≡ 95 + 2 * cond (eqb (familyOf k) 4) 4 16 + extra k
+    go true e = rw e
+    go false e = rw e
+
+-- the kinds are those of the two families
+
+known-range : (k : ℕ) → knownKind k ≡ true → (4 ≤ k) × (k ≤ 7)
+unfolding knownKind
+known-range k h = let a = and-true (leb 4 k) (leb k 7) h in (leb-true 4 k (a .0), leb-true k 7 (a .1))
+
+pub known-family : (k : ℕ) → knownKind k ≡ true → Family (familyOf k)
+unfolding familyOf extra
+known-family k h = go (leb k 5) refl (known-range k h)
+  where
+    go : (b : Bool) → leb k 5 ≡ b → (4 ≤ k) × (k ≤ 7) → Family (familyOf k)
+    go true e r = let l = leb-true k 5 e in inl (omega arith)
+    go false e r = let l = leb-false k 5 e in inr (omega arith)
+
+-- and an entry of the higher kind is longer by one
+pub known-size : (k : ℕ) → knownKind k ≡ true → size k ≡ cond (eqb (familyOf k) 4) 100 122 + k
+unfolding body familyOf extra
+known-size k h = go (eqb (familyOf k) 4) refl (known-range k h)
+  where
+    go : (b : Bool) → eqb (familyOf k) 4 ≡ b → (4 ≤ k) × (k ≤ 7) → size k ≡ cond (eqb (familyOf k) 4) 100 122 + k
+    go true e r = let z = eqb-true (familyOf k) 4 e in rw e (omega arith)
+    go false e r = let z = eqb-false (familyOf k) 4 e in rw e (omega arith)
 
 -- where the next entry begins
 
@@ -106,10 +134,6 @@ append-octets (x ∷ a) b ha hb (suc i) = append-octets a b (λ j. ha (suc j)) h
 
 -- every entry's fields
 
-known-family : (k : ℕ) → knownKind k ≡ true → Family (familyOf k)
-unfolding knownKind
-known-family k e = ⊎-elim (λ q. inl (eqb-true k 4 q)) (λ q. inr (eqb-true k 6 q)) (or-true (eqb k 4) _ e)
-
 side-fields : (w ports at : ℕ) (e : List ℕ) → w ≤ 16 → Octets e → SideFields (sideOf w ports at e)
 unfolding sideOf
 side-fields w ports at e k h =
@@ -126,28 +150,26 @@ side-fields w ports at e k h =
 -- what every entry has that bytes mean, of any bytes
 pub record Shape (e : Entry) : Type 0 where
   pub family : Family (e .selector .family)
-  -- "MAC bytes (12 and 12)": the algorithm's
-  pub mac : e .secret .«mac_bytes» ≡ macBytes (e .secret .algorithm)
   pub key : length (e .secret .key) ≡ 80
 
 entry-shape : (s : List ℕ) → sound (item s) ≡ true → Shape (entryOf s)
 unfolding item entryOf selectorOf secretOf
 entry-shape s h =
-    let k = and-true (knownKind (getD s 0 0)) _ h in
-    let l = leb-true (size (getD s 0 0)) (length s) (k .1) in
-    let b = body-is (getD s 0 0) in
-    let w = 16 + 2 * width (getD s 0 0) in
-    let d = length-drop w s in
-    record { family = known-family (getD s 0 0) (k .0); mac = refl; key = length-take 80 (drop w s) ∙ omega arith }
+    let k = getD s 0 0 in
+    let a = and-true (knownKind k) _ h in
+    let l = leb-true (size k) (length s) (a .1) in
+    let b = body-is k in
+    let d = length-drop (sidesEnd k + extra k + 1) s in
+    record { family = known-family k (a .0); key = length-take 80 (drop (sidesEnd k + extra k + 1) s) ∙ omega arith }
 
 entry-fields : (s : List ℕ) → Octets s → sound (item s) ≡ true → Fields (entryOf s .selector)
 unfolding item entryOf selectorOf
 entry-fields s o h =
-    let w = width (getD s 0 0) in
+    let f = familyOf (getD s 0 0) in
     record {
       family = known-family (getD s 0 0) (and-true (knownKind (getD s 0 0)) _ h .0);
-      local = side-fields w 5 13 s (width-le (getD s 0 0)) o;
-      remote = side-fields w 9 (14 + w) s (width-le (getD s 0 0)) o;
+      local = side-fields (width f) 5 13 s (width-le f) o;
+      remote = side-fields (width f) 9 (14 + width f) s (width-le f) o;
     }
 
 -- what holds of each entry's own bytes holds of the table's entries

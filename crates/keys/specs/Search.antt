@@ -3,7 +3,6 @@
 use Prim.Native.Nat.{ℕ}
 use mathlib.Core.Bool.{true}
 use mathlib.Core.Path.{_≡_}
-use mathlib.Core.List.{List}
 use Rattle.keys.specs.Entry.{entries}
 use Rattle.keys.specs.Match.{matches}
 use Rattle.keys.specs.Places.{At}

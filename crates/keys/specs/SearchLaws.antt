@@ -11,7 +11,6 @@ use lib.ListN.{length, drop}
 use lib.Dec.{ltb}
 use borrow.Author.Tests.{eq-eqb, eqb-true, ltb-true, ltb-false, not-false}
 use Rattle.wire.specs.Prefix.{clearPast}
-use Rattle.keys.specs.Algorithm.{macBytes}
 use Rattle.keys.specs.Entry.{width, entries}
 use Rattle.keys.specs.EntryLaws.{Shape, entries-shape}
 use Rattle.keys.specs.Match.{matches, clash}
@@ -188,7 +187,8 @@ pub record Proper (e : Entry) : Type 0 where
   pub family : Family (e .selector .family)
   pub flags : e .secret .flags ≤ 1
   pub algorithm : (e .secret .algorithm ≡ 1) ⊎ (e .secret .algorithm ≡ 2)
-  pub mac : e .secret .«mac_bytes» ≡ 12
+  pub mac-low : 4 ≤ e .secret .«mac_bytes»
+  pub mac-high : e .secret .«mac_bytes» ≤ 16
   pub key-low : 1 ≤ e .secret .«key_len»
   pub key-high : e .secret .«key_len» ≤ 80
   pub key : length (e .secret .key) ≡ 80
@@ -200,22 +200,22 @@ pub record Proper (e : Entry) : Type 0 where
   pub local-clear : clearPast (e .selector .local .bits) (e .selector .local .address) ≡ true
   pub remote-clear : clearPast (e .selector .remote .bits) (e .selector .remote .address) ≡ true
 
-listed : (a : ℕ) → 1 ≤ a → a ≤ 2 → ((a ≡ 1) ⊎ (a ≡ 2)) × (macBytes a ≡ 12)
-unfolding macBytes
-listed a h k = ⊎-elim (λ (z : a ≡ 2). (inr z, rw z)) (λ (l : a < 2). let z : a ≡ 1 = omega arith in (inl z, rw z)) (eq-or-lt-of-le k)
+listed : (a : ℕ) → 1 ≤ a → a ≤ 2 → (a ≡ 1) ⊎ (a ≡ 2)
+listed a h k = ⊎-elim inr (λ (l : a < 2). inl (omega arith)) (eq-or-lt-of-le k)
 
 proper-of : (e : Entry) → Shape e → Formed e → Proper e
 proper-of e s f =
-    let a = listed (e .secret .algorithm) (ltb-false (e .secret .algorithm) 1 (f .1 .0)) (ltb-false 2 (e .secret .algorithm) (f .1 .1 .0)) in
-    let p = f .1 .1 .1 in
+    let m = f .1 .1 .1 in
+    let p = m .1 .1 in
     let q = p .1 .1 in
     let r = q .1 .1 in
     let k = r .1 .1 in
     record {
       family = s .family;
       flags = ltb-false 1 (e .secret .flags) (f .0);
-      algorithm = a .0;
-      mac = s .mac ∙ a .1;
+      algorithm = listed (e .secret .algorithm) (ltb-false (e .secret .algorithm) 1 (f .1 .0)) (ltb-false 2 (e .secret .algorithm) (f .1 .1 .0));
+      mac-low = ltb-false (e .secret .«mac_bytes») 4 (m .0);
+      mac-high = ltb-false 16 (e .secret .«mac_bytes») (m .1 .0);
       key-low = ltb-false (e .secret .«key_len») 1 (k .0);
       key-high = ltb-false 80 (e .secret .«key_len») (k .1 .0);
       key = s .key;

@@ -1,9 +1,12 @@
-// One entry of the key table (an MKT of RFC 5925, section 3.1), by value and read from its bytes: document 01, "Key table (house bytes)".
+// One entry of the key table (an MKT of RFC 5925, section 3.1), by value and read from its bytes: document 01, "Key table (house bytes)",
+// and document 02, Ticket 4.
 // The functions here ask that the entry is there whole; the walks of table.rt see to it.
+ghost use mathlib.Core.Bool.{true};
 ghost use mathlib.Core.Path.{_≡_};
 ghost use Prim.Native.Nat.{_+_, _*_, _≤_};
 ghost use lib.ListN.{length, take, drop, getD};
-ghost use Rattle.keys.specs.Entry.{knownKind, familyOf, size, width, padded, sideOf, selectorOf, idsOf, secretOf, entryOf};
+ghost use Rattle.keys.specs.Entry.{knownKind, familyOf, extra, size, width, padded, sideOf, selectorOf, idsOf};
+ghost use Rattle.keys.specs.Entry.{sidesEnd, macLength, secretOf, entryOf};
 
 // One side of whom an entry matches: ports from low to high, and the addresses whose first `bits` bits are those of `address`.
 pub struct Side {
@@ -50,20 +53,28 @@ pub struct Pair {
     pub remote: [u8; 16],
 }
 
+// Kinds 4 to 7.
 pub(crate) fn known_kind(kind: u8) -> bool
     ensures { λ r. ⌜ r ≡ knownKind kind ⌝ }
 {
-    if kind == 4 {
-        return true;
+    if kind < 4 {
+        return false;
     }
-    kind == 6
+    kind <= 7
 }
 
-// How many bytes an entry has, its kind among them.
-pub(crate) fn size_of(kind: u8) -> usize
-    ensures { λ r. ⌜ r ≡ size kind ⌝ }
+// One for the kinds that have a byte for the MAC's length.
+fn extra_of(kind: u8) -> u8
+    ensures { λ r. ⌜ r ≡ extra kind ⌝ }
 {
-    if kind == 4 { 104 } else { 128 }
+    kind % 2
+}
+
+// Kinds 4 and 5 are IPv4's, 6 and 7 IPv6's.
+pub(crate) fn family_of(kind: u8) -> u8
+    ensures { λ r. ⌜ r ≡ familyOf kind ⌝ }
+{
+    kind - extra_of(kind)
 }
 
 // How many bytes an address has.
@@ -73,12 +84,36 @@ pub fn width_of(family: u8) -> usize
     if family == 4 { 4 } else { 16 }
 }
 
-fn address_at(e: &[u8], at: usize, w: usize) -> [u8; 16]
-    requires { ⌜ (w ≤ 16) × (at + w ≤ length (now e)) ⌝ }
-    ensures { λ r. ⌜ r ≡ padded (take w (drop at (now (e .entry)))) ⌝ }
+// How many bytes an entry has, its kind among them. Written so that the compiler needs few steps: the walks wait for it.
+pub(crate) fn size_of(kind: u8) -> usize
+    requires { ⌜ knownKind kind ≡ true ⌝ }
+    ensures { λ r. ⌜ r ≡ size kind ⌝ }
+{
+    if family_of(kind) == 4 {
+        100 + kind as usize
+    } else {
+        122 + kind as usize
+    }
+}
+
+// Where the two sides end, in an entry of the kind.
+fn sides_end(kind: u8) -> usize
+    ensures { λ r. ⌜ r ≡ sidesEnd kind ⌝ }
+{
+    15 + 2 * width_of(family_of(kind))
+}
+
+// By the family, so that the compiler knows how many bytes are copied.
+fn address_at(e: &[u8], at: usize, family: u8) -> [u8; 16]
+    requires { ⌜ at + width family ≤ length (now e) ⌝ }
+    ensures { λ r. ⌜ r ≡ padded (take (width family) (drop at (now (e .entry)))) ⌝ }
 {
     let mut a = [0u8; 16];
-    octets::copy_at(&mut a, 0, &e[at..at + w]);
+    if family == 4 {
+        octets::copy_at(&mut a, 0, &e[at..at + 4]);
+        return a;
+    }
+    octets::copy_at(&mut a, 0, &e[at..at + 16]);
     a
 }
 
@@ -91,29 +126,30 @@ fn key_at(e: &[u8], at: usize) -> [u8; 80]
     k
 }
 
-// The side whose ports stand at `ports` and whose address of w bytes stands at `at`.
-fn side_of(e: &[u8], w: usize, ports: usize, at: usize) -> Side
-    requires { ⌜ (w ≤ 16) × (ports + 4 ≤ length (now e)) × (at + w + 1 ≤ length (now e)) ⌝ }
-    ensures { λ r. ⌜ r ≡ sideOf w ports at (now (e .entry)) ⌝ }
+// The side whose ports stand at `ports` and whose address of the family stands at `at`.
+fn side_of(e: &[u8], family: u8, ports: usize, at: usize) -> Side
+    requires { ⌜ (ports + 4 ≤ length (now e)) × (at + width family + 1 ≤ length (now e)) ⌝ }
+    ensures { λ r. ⌜ r ≡ sideOf (width family) ports at (now (e .entry)) ⌝ }
 {
-    let a = address_at(e, at, w);
+    let a = address_at(e, at, family);
     Side {
         low: octets::load16(e, ports),
         high: octets::load16(e, ports + 2),
-        bits: e[at + w],
+        bits: e[at + width_of(family)],
         address: a,
     }
 }
 
 pub(crate) fn selector_of(e: &[u8]) -> Selector
     requires { ⌜ size (getD (now e) 0 0) ≤ length (now e) ⌝ }
-    ensures { λ r. ⌜ r ≡ selectorOf (width (familyOf (getD (now (e .entry)) 0 0))) (now (e .entry)) ⌝ }
+    ensures { λ r. ⌜ r ≡ selectorOf (getD (now (e .entry)) 0 0) (now (e .entry)) ⌝ }
 {
-    let w = width_of(e[0]);
+    let family = family_of(e[0]);
+    let w = width_of(family);
     Selector {
-        family: e[0],
-        local: side_of(e, w, 5, 13),
-        remote: side_of(e, w, 9, 14 + w),
+        family: family,
+        local: side_of(e, family, 5, 13),
+        remote: side_of(e, family, 9, 14 + w),
     }
 }
 
@@ -127,17 +163,30 @@ pub(crate) fn ids_of(e: &[u8]) -> Ids
     }
 }
 
+// The byte before the key length where the kind has it, else the algorithm's number.
+fn mac_length(e: &[u8]) -> u8
+    requires { ⌜ size (getD (now e) 0 0) ≤ length (now e) ⌝ }
+    ensures { λ r. ⌜ r ≡ macLength (getD (now (e .entry)) 0 0) (now (e .entry)) ⌝ }
+{
+    let kind = e[0];
+    if extra_of(kind) == 1 {
+        return e[sides_end(kind)];
+    }
+    crate::algorithm::mac_bytes(e[2])
+}
+
 fn secret_of(e: &[u8]) -> Secret
     requires { ⌜ size (getD (now e) 0 0) ≤ length (now e) ⌝ }
-    ensures { λ r. ⌜ r ≡ secretOf (width (familyOf (getD (now (e .entry)) 0 0))) (now (e .entry)) ⌝ }
+    ensures { λ r. ⌜ r ≡ secretOf (getD (now (e .entry)) 0 0) (now (e .entry)) ⌝ }
 {
-    let w = width_of(e[0]);
-    let k = key_at(e, 16 + 2 * w);
+    let kind = e[0];
+    let at = sides_end(kind) + extra_of(kind) as usize;
+    let k = key_at(e, at + 1);
     Secret {
         flags: e[1],
         algorithm: e[2],
-        mac_bytes: crate::algorithm::mac_bytes(e[2]),
-        key_len: e[15 + 2 * w],
+        mac_bytes: mac_length(e),
+        key_len: e[at],
         key: k,
     }
 }

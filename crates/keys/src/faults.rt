@@ -21,6 +21,12 @@ fn secret_number(s: Secret) -> u8
     if 2 < s.algorithm {
         return 13;
     }
+    if s.mac_bytes < 4 {
+        return 13;
+    }
+    if 16 < s.mac_bytes {
+        return 13;
+    }
     0
 }
 

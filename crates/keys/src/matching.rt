@@ -6,12 +6,13 @@ ghost use lib.ListN.{length, take, drop, getD};
 ghost use lib.Dec.{leb};
 ghost use Rattle.octets.specs.Octets.{get16};
 ghost use Rattle.wire.specs.Prefix.{agree};
-ghost use Rattle.keys.specs.Entry.{familyOf, size, width, padded, selectorOf};
+ghost use Rattle.keys.specs.Entry.{size, width, padded, selectorOf};
 ghost use Rattle.keys.specs.Match.{fixed, holds, matches as matchesOf, overlap, share};
 use crate::entry::Ids;
 use crate::entry::Pair;
 use crate::entry::Selector;
 use crate::entry::Side;
+use crate::entry::family_of;
 use crate::entry::width_of;
 
 fn larger(a: u16, b: u16) -> u16
@@ -98,9 +99,9 @@ fn addresses_meet(e: &[u8], family: u8, at: usize, b: Side) -> bool
 // the loader asks this of many pairs.
 pub(crate) fn overlaps(e: &[u8], b: Selector) -> bool
     requires { ⌜ size (getD (now e) 0 0) ≤ length (now e) ⌝ }
-    ensures { λ r. ⌜ r ≡ overlap (selectorOf (width (familyOf (getD (now (e .entry)) 0 0))) (now (e .entry))) b ⌝ }
+    ensures { λ r. ⌜ r ≡ overlap (selectorOf (getD (now (e .entry)) 0 0) (now (e .entry))) b ⌝ }
 {
-    let family = e[0];
+    let family = family_of(e[0]);
     let other = b.family;
     if family != other {
         return false;

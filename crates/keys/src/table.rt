@@ -46,17 +46,22 @@ pub struct Found {
     pub entry: Entry,
 }
 
-// Whether an entry of a known kind begins at `at` and is there whole.
-fn sound_at(table: &[u8], at: usize) -> bool
-    ensures { λ r. ⌜ r ≡ sound (itemAt (now (table .entry)) at) ⌝ }
+// How many bytes the entry at `at` has; 0 where none of a known kind begins there or it is not there whole.
+fn size_at(table: &[u8], at: usize) -> usize
+    ensures { λ r. ⌜ r ≡ cond (sound (itemAt (now (table .entry)) at)) (size (getD (now (table .entry)) at 0)) 0 ⌝ }
 {
     if table.len() <= at {
-        return false;
+        return 0;
     }
-    if !known_kind(table[at]) {
-        return false;
+    let kind = table[at];
+    if !known_kind(kind) {
+        return 0;
     }
-    size_of(table[at]) <= table.len() - at
+    let n = size_of(kind);
+    if table.len() - at < n {
+        return 0;
+    }
+    n
 }
 
 // Whether the entry at `at` clashes with one of these IDs and this selector. The IDs mostly decide.
@@ -78,13 +83,14 @@ fn clashes_before(table: &[u8], i: usize, e: Entry) -> bool
     let mut at: usize = 0;
     let mut j: usize = 0;
     while j < i {
-        if !sound_at(table, at) {
+        let n = size_at(table, at);
+        if n == 0 {
             return false;
         }
         if clash_at(table, at, e.ids, e.selector) {
             return true;
         }
-        at = at + size_of(table[at]);
+        at = at + n;
         j += 1;
     }
     false
@@ -95,10 +101,11 @@ fn number_at(table: &[u8], at: usize, i: usize) -> u8
     requires { ⌜ at < length (now table) ⌝ }
     ensures { λ r. ⌜ r ≡ numberOf (itemTests (take i (entries (now (table .entry)))) (itemAt (now (table .entry)) at)) ⌝ }
 {
-    if !known_kind(table[at]) {
+    let kind = table[at];
+    if !known_kind(kind) {
         return 11;
     }
-    if table.len() - at < size_of(table[at]) {
+    if table.len() - at < size_of(kind) {
         return 10;
     }
     let e = entry_of(&table[at..]);
@@ -156,7 +163,7 @@ pub fn load(table: &[u8], limit: usize) -> Loaded
         }
         sends[ids.send as usize] = 1;
         recvs[ids.recv as usize] = 1;
-        at = at + size_of(table[at]);
+        at = at + size_at(table, at);
         i += 1;
     }
     Loaded::Valid(i)
@@ -232,7 +239,8 @@ fn find(table: &[u8], pair: Pair, by: By) -> Found
     let mut at: usize = 0;
     let mut i: usize = 0;
     while at < table.len() {
-        if !sound_at(table, at) {
+        let n = size_at(table, at);
+        if n == 0 {
             return nothing();
         }
         if answers_at(table, at, pair, by) {
@@ -242,7 +250,7 @@ fn find(table: &[u8], pair: Pair, by: By) -> Found
                 entry: entry_of(&table[at..]),
             };
         }
-        at = at + size_of(table[at]);
+        at = at + n;
         i += 1;
     }
     nothing()

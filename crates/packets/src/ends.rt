@@ -3,11 +3,11 @@
 ghost use Prim.Native.Nat.{_+_, _≤_};
 ghost use lib.ListN.{length};
 use keys::entry::Pair;
-use rules::Checked;
 use rules::Judged;
 use rules::Settled;
 use rules::Signed;
 use rules::State;
+use rules::SynJudged;
 
 // RFC 9235, section 3: the master key, the KeyIDs of the two directions, and the server's port, BGP's.
 pub const KEY: [u8; 10] = *b"testvector";
@@ -152,7 +152,7 @@ pub fn table(e: End) -> [u8; 128] {
     t
 }
 
-pub fn judge_syn(e: End, segment: &[u8]) -> Checked {
+pub fn judge_syn(e: End, segment: &[u8]) -> SynJudged {
     let pair = e.pair;
     let source = pair.remote;
     let destination = pair.local;

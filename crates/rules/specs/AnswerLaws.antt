@@ -100,8 +100,8 @@ signed-number t s out q =
     (first-passes notPassed (signTests t s (length out) q (outgoing t q)) _ (rw (refusal-not (checked t))) refl)
   where
     go : (o : Outcome) → notPassed o ≡ true
-        → signingAnswer (signedBy q s (outgoing t q) o .answer) (signedBy q s (outgoing t q) o .index)
-        ≡ outcomeAnswer (λ x. length s + addedBytes (outgoing t q)) o
+        → signingAnswer (signedBy q s (outgoing t q .entry) o .answer) (signedBy q s (outgoing t q .entry) o .index)
+        ≡ outcomeAnswer (λ x. length s + addedBytes (outgoing t q .entry)) o
     go (Good x r) e = refl
     go Passed e = let z : _≡_ {A = ℕ} 0 1 = cc in absurd (omega arith)
     go (Bad n i) e = refl

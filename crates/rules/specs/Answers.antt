@@ -102,4 +102,4 @@ askedNumber t id l = outcomeAnswer (λ x. 0) (first (askTests t id l) unrefused)
 
 -- how many bytes the signed segment has
 abbrev pub signedNumber : Tables → (segment out : List ℕ) → State → Answer
-signedNumber t s out q = outcomeAnswer (λ x. length s + addedBytes (outgoing t q)) (checkSign t s (length out) q)
+signedNumber t s out q = outcomeAnswer (λ x. length s + addedBytes (outgoing t q .entry)) (checkSign t s (length out) q)

@@ -12,7 +12,6 @@ use Rattle.keys.specs.declared.entry.Entry.{Entry}
 use Rattle.keys.specs.declared.table.Found.{Found}
 use Rattle.keys.specs.declared.table.Loaded.{Loaded}
 use Rattle.keys.specs.declared.table.Loaded.the-variants.{Valid, Refused}
-use Rattle.keys.specs.Algorithm.{macBytes}
 use Rattle.keys.specs.Entry.{isFamily}
 use Rattle.keys.specs.Table.{Tables, checked, sendEntry, recvEntry, anyEntry}
 use Rattle.rules.specs.declared.Place.{Place}
@@ -24,7 +23,7 @@ use Rattle.rules.specs.declared.Verdict.the-variants.{Accept, Pass, Drop
 use Rattle.rules.specs.declared.Connection.{Connection}
 use Rattle.rules.specs.declared.State.{State}
 use Rattle.rules.specs.declared.Judged.{Judged}
-use Rattle.rules.specs.declared.Checked.{Checked}
+use Rattle.rules.specs.declared.SynJudged.{SynJudged}
 use Rattle.rules.specs.declared.Signing.the-variants as S
 use Rattle.rules.specs.declared.Signed.{Signed}
 use Rattle.rules.specs.declared.Done.{Done}
@@ -213,7 +212,7 @@ unfoldable pub judged : Tables → Arrival → State → Judged
 judged t a q = judgedBy t q (check t (q .conn) (q .seen) a)
 
 -- "a bare SYN is judged without a state"
-unfoldable pub judgedSyn : Tables → Arrival → Bool → Checked
+unfoldable pub judgedSyn : Tables → Arrival → Bool → SynJudged
 judgedSyn t a strict = record { verdict = verdictOf (checkSyn t a strict); index = indexOf (checkSyn t a strict) }
 
 -- "A second call takes the same SYN and our ISN, judges it again and, only on accept, opens with the entry found, then applies the key rule
@@ -264,17 +263,16 @@ asked t id q = settledBy (first (askTests t id (q .conn)) unrefused) q (withAske
 
 -- Signing. No test of it gives pass.
 
--- the bytes that TCP-AO adds: 4 and the entry's MAC bytes, which makes 16. Both algorithms add as many, so 32 is given as document 01
--- says also where no entry is found and 35 would follow
-abbrev pub addedBytes : Found → ℕ
-addedBytes found = optionBytes (cond (found .there) (found .entry .secret .«mac_bytes») (macBytes 1))
+-- the bytes that signing under an entry adds: TCP-AO with the entry's MAC bytes, and its padding
+abbrev pub addedBytes : Entry → ℕ
+addedBytes e = optionBytes (e .secret .«mac_bytes»)
 
 -- 31: "malformed, or TCP-AO or MD5 present"
 abbrev pub freshTests : List ℕ → List (Test Outcome)
 freshTests s = tests (refuse 31) (malformed s ∷ ltb 0 (ao s .count) ∷ ltb 0 (md5 s .count) ∷ [])
 
--- 32: "data offset above 11, or result above 65,535 bytes". A header has at most 15 words, 60 bytes: with 16 more, an offset above 11
--- passes that
+-- 32, Ticket 4: "the data offset rises by the words of the padded option, and 32 .. is given when it would pass 15 or the result 65,535
+-- bytes". A header of 15 words has 60 bytes.
 abbrev pub growthTests : ℕ → List ℕ → List (Test Outcome)
 growthTests added s = tests (refuse 32) (ltb 60 (headerEnd s + added) ∷ ltb 65535 (length s + added) ∷ [])
 
@@ -290,18 +288,19 @@ signStageTests l s = test (refuse 34) (cond (isOpen l) (isBareSyn s) (not (isBar
 abbrev pub sentPlaceTests : Connection → Place → List ℕ → List (Test Outcome)
 sentPlaceTests l x s = tests (refuse 36) (not (located x) ∷ (syn s && not (eqb (value x) (l .isn))) ∷ [])
 
+-- Ticket 4: "32, tested now after 35": where no entry is found, no length is asked for
 abbrev pub signTests : Tables → List ℕ → ℕ → State → Found → List (Test Outcome)
 signTests t s room q found =
     familyTests (q .conn)
     ++ (tableTests t
     ++ (lengthTests 30 s
     ++ (freshTests s
-    ++ (growthTests (addedBytes found) s
     ++ (portTests (q .conn .pair) s
     ++ (signStageTests (q .conn) s
     ++ (test (refuse 35) (not (found .there))
-    ∷ (sentPlaceTests (q .conn) (placeOn (q .conn) (q .sent) (sequence s)) s
-    ++ (test (refuse 37) (ltb room (length s + addedBytes found)) ∷ [])))))))))
+    ∷ (growthTests (addedBytes (found .entry)) s
+    ++ (sentPlaceTests (q .conn) (placeOn (q .conn) (q .sent) (sequence s)) s
+    ++ (test (refuse 37) (ltb room (length s + addedBytes (found .entry))) ∷ [])))))))))
 
 -- the outgoing key's entry
 abbrev pub outgoing : Tables → State → Found
@@ -323,10 +322,10 @@ signedSegment e q x s =
 abbrev pub written : List ℕ → List ℕ → List ℕ
 written bytes out = bytes ++ drop (length bytes) out
 
-abbrev pub signedBy : State → List ℕ → Found → Outcome → Signed
-signedBy q s found (Good x r) = record { answer = S.Signed (length s + addedBytes found); index = 0; state = withSent x q }
-signedBy q s found Passed = record { answer = S.Refused 0; index = 0; state = q }
-signedBy q s found (Bad n i) = record { answer = S.Refused n; index = i; state = q }
+abbrev pub signedBy : State → List ℕ → Entry → Outcome → Signed
+signedBy q s e (Good x r) = record { answer = S.Signed (length s + addedBytes e); index = 0; state = withSent x q }
+signedBy q s e Passed = record { answer = S.Refused 0; index = 0; state = q }
+signedBy q s e (Bad n i) = record { answer = S.Refused n; index = i; state = q }
 
 abbrev pub outputBy : State → List ℕ → List ℕ → Entry → Outcome → List ℕ
 outputBy q s out e (Good x r) = written (signedSegment e q x s) out
@@ -335,7 +334,7 @@ outputBy q s out e (Bad n i) = out
 
 -- the answer and the new state
 unfoldable pub signed : Tables → List ℕ → List ℕ → State → Signed
-signed t s out q = signedBy q s (outgoing t q) (checkSign t s (length out) q)
+signed t s out q = signedBy q s (outgoing t q .entry) (checkSign t s (length out) q)
 
 -- every byte of the output
 unfoldable pub output : Tables → List ℕ → List ℕ → State → List ℕ

@@ -1,5 +1,5 @@
 -- What the signing call wrote, as it arrives: what the receiver reads in it, and that its MAC is the one it carries.
-use Prim.Native.Nat.{ℕ, _+_, _-_}
+use Prim.Native.Nat.{ℕ, _+_, _-_, _≤_}
 use mathlib.Core.Path.{_≡_, ap, ap₂, sym, _∙_, subst, subst⁻¹}
 use mathlib.Core.Bool.{false}
 use mathlib.Core.List.{List}
@@ -16,32 +16,30 @@ use Rattle.rules.specs.declared.Outcome.{Outcome}
 use Rattle.rules.specs.declared.State.{State}
 use Rattle.rules.specs.Mac.{Flow, applied, trafficKey, segmentMac}
 use Rattle.rules.specs.MacLaws.{length-mac, Agree, mac-agree}
-use Rattle.rules.specs.Segment.{optionBytes, signedWith, Whole, Fits}
+use Rattle.rules.specs.Segment.{optionBytes, signedWith}
 use Rattle.rules.specs.Connection.{leaving, value, extensionOf}
 use Rattle.rules.specs.Calls.{outgoing, addedBytes, signedSegment, written, outputBy, output}
 use Rattle.rules.specs.Ends.{SignedAt, rechecked}
 use Rattle.rules.specs.RoundTripLaws.{Arrived, arrival, covers, length-signed}
 use Rattle.rules.specs.SigningLaws.{Signs, signs-good, signed-good}
-use Rattle.rules.specs.GrowthLaws.{added-under, fits-found}
+use Rattle.rules.specs.GrowthLaws.{short-found}
 
 -- what was signed, by the outgoing entry: it has as many bytes as the answer says
 module _ (t : Tables) (s out : List ℕ) (q : State) (signs : Signs t s out q) (x : ℕ) where
   abbrev entry : Entry
   entry = outgoing t q .entry
 
-  fits-of : Fits (entry .secret .«mac_bytes»)
-  fits-of = fits-found t (q .conn .pair) (q .«send_id») (signs .valid) (signs .entry)
+  short-of : entry .secret .«mac_bytes» ≤ 16
+  short-of = short-found t (q .conn .pair) (q .«send_id») (signs .valid) (signs .entry)
 
-  pub signed-long : length (signedSegment entry q x s) ≡ length s + addedBytes (outgoing t q)
+  pub signed-long : length (signedSegment entry q x s) ≡ length s + addedBytes entry
   unfolding signedSegment
   signed-long =
       let n = entry .secret .«mac_bytes» in
       let z = signedWith (q .«send_id») (q .«ask_id») (replicate n 0) s in
       let m = segmentMac (entry .secret) (leaving (q .conn)) (extensionOf x) 20 z in
-      let l : length m ≡ n = length-mac (entry .secret) (leaving (q .conn)) (extensionOf x) 20 z (fits-of .short) in
-      let w : Whole (optionBytes (length m)) = subst⁻¹ (λ (n : ℕ). Whole (optionBytes n)) l (fits-of .words) in
-      length-signed s (signs .fresh) 0 0 (q .«send_id») (q .«ask_id») m w
-      ∙ ap (λ (n : ℕ). length s + n) (ap optionBytes l ∙ sym (added-under (outgoing t q) (signs .entry)))
+      let l : length m ≡ n = length-mac (entry .secret) (leaving (q .conn)) (extensionOf x) 20 z short-of in
+      length-signed s (signs .fresh) 0 0 (q .«send_id») (q .«ask_id») m ∙ ap (λ (n : ℕ). length s + optionBytes n) l
 
 module _ (q : State) (e : Entry) (x : ℕ) (b : List ℕ) (g : SignedAt q e x b) where
   abbrev s : List ℕ
@@ -55,8 +53,8 @@ module _ (q : State) (e : Entry) (x : ℕ) (b : List ℕ) (g : SignedAt q e x b)
   its-entry : outgoing (g .table) q .entry .secret .«mac_bytes» ≡ e .secret .«mac_bytes»
   its-entry = ap (λ (f : Entry). f .secret .«mac_bytes») (g .under)
 
-  fits : Fits (e .secret .«mac_bytes»)
-  fits = subst Fits its-entry (fits-of (g .table) s (g .out) q signs x)
+  short : e .secret .«mac_bytes» ≤ 16
+  short = subst (λ (n : ℕ). n ≤ 16) its-entry (short-of (g .table) s (g .out) q signs x)
 
   abbrev blank : List ℕ
   blank = signedWith (q .«send_id») (q .«ask_id») (replicate (e .secret .«mac_bytes») 0) s
@@ -65,13 +63,10 @@ module _ (q : State) (e : Entry) (x : ℕ) (b : List ℕ) (g : SignedAt q e x b)
   mac = segmentMac (e .secret) (leaving (q .conn)) (extensionOf x) 20 blank
 
   pub length-its-mac : length mac ≡ e .secret .«mac_bytes»
-  length-its-mac = length-mac (e .secret) (leaving (q .conn)) (extensionOf x) 20 blank (fits .short)
+  length-its-mac = length-mac (e .secret) (leaving (q .conn)) (extensionOf x) 20 blank short
 
-  even : Whole (optionBytes (length mac))
-  even = subst⁻¹ (λ (n : ℕ). Whole (optionBytes n)) length-its-mac (fits .words)
-
-  added-is : addedBytes (outgoing (g .table) q) ≡ optionBytes (length mac)
-  added-is = added-under (outgoing (g .table) q) (signs .entry) ∙ ap optionBytes (its-entry ∙ sym length-its-mac)
+  added-is : addedBytes (outgoing (g .table) q .entry) ≡ optionBytes (length mac)
+  added-is = ap optionBytes (its-entry ∙ sym length-its-mac)
 
   abbrev carried : List ℕ
   carried = signedWith (q .«send_id») (q .«ask_id») mac s
@@ -84,7 +79,7 @@ module _ (q : State) (e : Entry) (x : ℕ) (b : List ℕ) (g : SignedAt q e x b)
       let p = signs-good (g .table) s (g .out) q (o .0) (o .1) (o .2) in
       let v : o .0 ≡ x = sym (p .1) ∙ ap value (g .position) in
       let l : length carried ≡ length b =
-      length-signed s (signs .fresh) 0 0 (q .«send_id») (q .«ask_id») mac even ∙ ap (λ (n : ℕ). length s + n) (sym added-is) ∙ o .3 in
+      length-signed s (signs .fresh) 0 0 (q .«send_id») (q .«ask_id») mac ∙ ap (λ (n : ℕ). length s + n) (sym added-is) ∙ o .3 in
       g .wrote
       ∙ ap (λ (z : Outcome). take (length b) (outputBy q s (g .out) (outgoing (g .table) q .entry) z)) (o .2)
       ∙ ap₂ (λ (f : Entry) (y : ℕ). take (length b) (written (signedSegment f q y s) (g .out))) (g .under) v
@@ -101,7 +96,7 @@ module _ (q : State) (e : Entry) (x : ℕ) (b : List ℕ) (g : SignedAt q e x b)
     pub reads : Arrived s segment (q .«send_id») (q .«ask_id») mac
     reads =
         subst⁻¹ (λ (z : List ℕ). Arrived s z (q .«send_id») (q .«ask_id») mac) segment-is
-        (arrival s (signs .fresh) c d (q .«send_id») (q .«ask_id») mac even)
+        (arrival s (signs .fresh) c d (q .«send_id») (q .«ask_id») mac)
 
     -- the receiver computes the MAC that it carries
     pub same-mac : (r : Secret) (f : Flow) → Agree r (e .secret) → f ≡ leaving (q .conn) → segmentMac r f (extensionOf x) 20 segment ≡ mac
@@ -110,7 +105,7 @@ module _ (q : State) (e : Entry) (x : ℕ) (b : List ℕ) (g : SignedAt q e x b)
         mac-agree r (e .secret) f (extensionOf x) 20 segment a
         ∙ ap₂ (λ (f : Flow) (z : List ℕ). segmentMac (e .secret) f (extensionOf x) 20 z) p segment-is
         ∙ ap (λ (m : List ℕ). take (e .secret .«mac_bytes») (applied (e .secret .algorithm) (trafficKey (e .secret) (leaving (q .conn))) m))
-        (covers s (signs .fresh) c d (q .«send_id») (q .«ask_id») mac even (e .secret) (leaving (q .conn)) (extensionOf x)
+        (covers s (signs .fresh) c d (q .«send_id») (q .«ask_id») mac (e .secret) (leaving (q .conn)) (extensionOf x)
         (sym length-its-mac))
 
     -- none of 20, 21, 22 and 25

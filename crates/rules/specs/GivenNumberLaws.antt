@@ -31,7 +31,7 @@ use Rattle.rules.specs.History.{judge, sign, ask}
 use Rattle.rules.specs.GroupLaws.{unknown-passes}
 use Rattle.rules.specs.Refusals.{Request, on, judgeSyn, openPassively, openActively, byVerdict, bySigning}
 use Rattle.rules.specs.GivenNumbers.{among, tableNumbers, judgeNumbers, synNumbers, signNumbers, askNumbers, openNumbers, numbersOf}
-use Rattle.rules.specs.GivenNumbers.{Within, isPass, RefusedAmong, RefusedBounds, CheckedWithin, TableBounds, JudgeNeverPasses}
+use Rattle.rules.specs.GivenNumbers.{Bounded, isPass, RefusedAmong, RefusedBounds, CheckedWithin, TableBounds, JudgeNeverPasses}
 use Rattle.rules.specs.GivenNumbers.{SignNotPassed, AskNotPassed, OpenNotPassed}
 
 -- all of them pass f
@@ -68,13 +68,13 @@ less i limit h n = go (ltb i limit) refl
     go true e = omega (arith, ltb-true i limit e)
     go false e = absurd (n (omega (arith, ltb-false i limit e)))
 
-from-within : (limit : ℕ) (l : List Item) (i : ℕ) (before : List Entry) → i ≤ limit → Within limit (K.loadedFrom limit i before l)
+from-within : (limit : ℕ) (l : List Item) (i : ℕ) (before : List Entry) → i ≤ limit → Bounded limit (K.loadedFrom limit i before l)
 unfolding K.loadedFrom
 from-within limit [] i before h = h
 from-within limit (x ∷ l) i before h = go (K.numberOf (K.loadTests limit i before x)) refl (from-within limit l (i + 1) (before ++ (x .entry ∷ [])))
   where
-    go : (m : ℕ) → K.numberOf (K.loadTests limit i before x) ≡ m → (i + 1 ≤ limit → Within limit (K.loadedFrom limit (i + 1) (before ++ (x .entry ∷ [])) l))
-        → Within limit (K.loadedFrom limit i before (x ∷ l))
+    go : (m : ℕ) → K.numberOf (K.loadTests limit i before x) ≡ m → (i + 1 ≤ limit → Bounded limit (K.loadedFrom limit (i + 1) (before ++ (x .entry ∷ [])) l))
+        → Bounded limit (K.loadedFrom limit i before (x ∷ l))
     go zero q ih = rw q (ih (less i limit h (eqb-false i limit (number-none (K.loadTests limit i before x) refl q .0))))
     go (suc m) q ih = rw q (first-number (K.loadTests limit i before x) m refl q, h)
 
@@ -116,7 +116,7 @@ table-only pass l t e = go (K.checked t) (checked-within t)
     or-true true = refl
     or-true false = refl
 
-    go : (o : Loaded) → Within K.maxEntries o → (only pass l (refusal o) || not (isRefused o)) ≡ true
+    go : (o : Loaded) → Bounded K.maxEntries o → (only pass l (refusal o) || not (isRefused o)) ≡ true
     go (Valid n) w = or-true (among 0 l)
     go (Refused n i) w = rw (among-every (λ (m : ℕ). among m l) n tableNumbers e (w .0))
 
@@ -154,7 +154,7 @@ verdict-among pass l (Good x r) n p e = let z : _≡_ {A = ℕ} 0 1 = cc in absu
 verdict-among pass l Passed n p e = let z : _≡_ {A = ℕ} 0 1 = cc in absurd (omega arith)
 verdict-among pass l (Bad m i) n p e = let z : m ≡ n = cc in sym (ap (λ (k : ℕ). among k l) z) ∙ p
 
-signing-among : (q : State) (s : List ℕ) (f : Found) (l : List ℕ) (o : Outcome) (n : ℕ) → only false l o ≡ true → bySigning (signedBy q s f o .answer) ≡ D.Refused n → among n l ≡ true
+signing-among : (q : State) (s : List ℕ) (f : Entry) (l : List ℕ) (o : Outcome) (n : ℕ) → only false l o ≡ true → bySigning (signedBy q s f o .answer) ≡ D.Refused n → among n l ≡ true
 signing-among q s f l (Good x r) n p e = let z : _≡_ {A = ℕ} 0 1 = cc in absurd (omega arith)
 signing-among q s f l Passed n p e = let z : _≡_ {A = ℕ} 0 1 = cc (p) in absurd (omega arith)
 signing-among q s f l (Bad m i) n p e = let z : m ≡ n = cc in sym (ap (λ (k : ℕ). among k l) z) ∙ p
@@ -172,7 +172,7 @@ active-among t local remote p isn sendId n e =
 pub refused-among : RefusedAmong
 unfolding judged signed asked judgedSyn openedPassively openedActively
 refused-among (on (judge t a) q) n e = verdict-among false judgeNumbers (check t (q .conn) (q .seen) a) n (check-only t (q .conn) (q .seen) a) e
-refused-among (on (sign t s out) q) n e = signing-among q s (outgoing t q) signNumbers (checkSign t s (length out) q) n (checkSign-only t s (length out) q) e
+refused-among (on (sign t s out) q) n e = signing-among q s (outgoing t q .entry) signNumbers (checkSign t s (length out) q) n (checkSign-only t s (length out) q) e
 refused-among (on (ask t id) q) n e = settled-among q _ askNumbers (first (askTests t id (q .conn)) unrefused) n (ask-only t id (q .conn)) e
 refused-among (judgeSyn t a strict) n e = verdict-among true synNumbers (checkSyn t a strict) n (checkSyn-only t a strict) e
 refused-among (openPassively t a isn strict) n e = verdict-among true synNumbers (checkSyn t a strict) n (checkSyn-only t a strict) e

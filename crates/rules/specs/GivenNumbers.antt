@@ -58,9 +58,9 @@ numbersOf (openPassively t a isn strict) = synNumbers
 numbersOf (openActively t local remote localPort remotePort isn sendId) = openNumbers
 
 -- the loader's counts and indices stay at or below the limit, and its numbers are these
-abbrev pub Within : ℕ → Loaded → Type 0
-Within limit (Valid n) = n ≤ limit
-Within limit (Refused n i) = (among n tableNumbers ≡ true) × (i ≤ limit)
+abbrev pub Bounded : ℕ → Loaded → Type 0
+Bounded limit (Valid n) = n ≤ limit
+Bounded limit (Refused n i) = (among n tableNumbers ≡ true) × (i ≤ limit)
 
 abbrev pub isPass : Verdict → Bool
 isPass (Accept e) = false
@@ -79,7 +79,7 @@ RefusedBounds = (c : Request) (n : ℕ) → reply c ≡ D.Refused n → (10 ≤ 
 
 -- what a table gives: at most 64 entries, or 10 to 17 with an index up to 64
 abbrev pub CheckedWithin : Type 0
-CheckedWithin = (t : K.Tables) → Within K.maxEntries (K.checked t)
+CheckedWithin = (t : K.Tables) → Bounded K.maxEntries (K.checked t)
 
 abbrev pub TableBounds : Type 0
 TableBounds = (t : K.Tables) (n i : ℕ) → K.checked t ≡ Refused n i → (10 ≤ n) × (n ≤ 17)

@@ -1,29 +1,38 @@
--- 32 in document 01's words, as statements: what the bytes that TCP-AO adds come to. The first two assume a valid table, which the tests
--- before 32 ensure. GrowthLaws proves them.
-use Prim.Native.Nat.{ℕ, _+_}
+-- 32 in the papers' words, as statements: what the bytes that TCP-AO adds come to, for every MAC length and for document 01's.
+-- GrowthLaws proves them.
+use Prim.Native.Nat.{ℕ, _+_, _/_}
 use mathlib.Core.Path.{_≡_}
 use mathlib.Core.List.{List, [], _∷_}
 use lib.ListN.{length}
 use lib.Dec.{ltb}
 use Rattle.wire.specs.Header.{dataOffset}
-use Rattle.keys.specs.Table.{Tables, ValidTable}
+use Rattle.keys.specs.declared.entry.Entry.{Entry}
+use Rattle.keys.specs.Table.{Tables}
 use Rattle.rules.specs.declared.State.{State}
 use Rattle.rules.specs.declared.Outcome.{Outcome}
 use Rattle.rules.specs.declared.Signing.the-variants as S
 use Rattle.octets.specs.Tests.{Test, tests}
 use Rattle.rules.specs.Calls.{refuse, outgoing, addedBytes, growthTests, signed}
 
--- "With a 12-byte MAC the length is 16.": whether or not the outgoing key has an entry
-abbrev pub Added16 : Type 0
-Added16 = (t : Tables) (q : State) → ValidTable t → addedBytes (outgoing t q) ≡ 16
+-- 32, where so many words come and the data offset may be at most `most` before
+abbrev pub tests32 : ℕ → ℕ → List ℕ → List (Test Outcome)
+tests32 most added s = tests (refuse 32) (ltb most (dataOffset s) ∷ ltb 65535 (length s + added) ∷ [])
 
--- 32: "data offset above 11, or result above 65,535 bytes"
-abbrev pub tests32 : List ℕ → List (Test Outcome)
-tests32 s = tests (refuse 32) (ltb 11 (dataOffset s) ∷ ltb 65535 (length s + 16) ∷ [])
-
+-- Ticket 4: "the data offset rises by the words of the padded option, and 32 .. is given when it would pass 15 or the result 65,535 bytes"
 abbrev pub GrowthIs : Type 0
-GrowthIs = (t : Tables) (s : List ℕ) (q : State) → ValidTable t → growthTests (addedBytes (outgoing t q)) s ≡ tests32 s
+GrowthIs = (e : Entry) (s : List ℕ)
+    → growthTests (addedBytes e) s
+    ≡ tests (refuse 32) (ltb 15 (dataOffset s + addedBytes e / 4) ∷ ltb 65535 (length s + addedBytes e) ∷ [])
 
--- what is signed is 16 bytes longer
-abbrev pub Signed16 : Type 0
-Signed16 = (t : Tables) (s out : List ℕ) (q : State) (n : ℕ) → signed t s out q .answer ≡ S.Signed n → n ≡ length s + 16
+-- document 01: "data offset above 11, or result above 65,535 bytes", and "With a 12-byte MAC the length is 16."
+abbrev pub Growth12 : Type 0
+Growth12 = (e : Entry) (s : List ℕ) → e .secret .«mac_bytes» ≡ 12 → growthTests (addedBytes e) s ≡ tests32 11 16 s
+
+-- with a MAC of 16 bytes a header of ten words can still be signed
+abbrev pub Growth16 : Type 0
+Growth16 = (e : Entry) (s : List ℕ) → e .secret .«mac_bytes» ≡ 16 → growthTests (addedBytes e) s ≡ tests32 10 20 s
+
+-- what is signed is longer by the padded option
+abbrev pub SignedLength : Type 0
+SignedLength = (t : Tables) (s out : List ℕ) (q : State) (n : ℕ) → signed t s out q .answer ≡ S.Signed n
+    → n ≡ length s + addedBytes (outgoing t q .entry)

@@ -38,9 +38,9 @@ verdictOn (sign t s out) q = []
 verdictOn (ask t id) q = []
 
 -- the verdicts that were given on the open connection
-abbrev pub given : State → List Call → List Verdict
-given q [] = []
-given q (c ∷ l) = verdictOn c q ++ given (next c q) l
+abbrev pub verdictsOn : State → List Call → List Verdict
+verdictsOn q [] = []
+verdictsOn q (c ∷ l) = verdictOn c q ++ verdictsOn (next c q) l
 
 -- how many accepts there are among the verdicts, how many drops of the number n, and how many drops 20 to 29
 abbrev pub accepts : List Verdict → ℕ
@@ -73,13 +73,13 @@ pub record CountsZero (q : State) : Type 0 where
 -- The statement, of the calls l from the state q on.
 pub record OneCount (q : State) (l : List Call) : Type 0 where
   -- one verdict, one count; "Counts of acceptances and of each drop stop at 2^64-1."
-  pub accepted : ended q l .accepted ≡ min stop (accepts (given q l))
-  pub dropped : (n : ℕ) → isCounted n ≡ true → dropCount n (ended q l) ≡ min stop (drops n (given q l))
+  pub accepted : ended q l .accepted ≡ min stop (accepts (verdictsOn q l))
+  pub dropped : (n : ℕ) → isCounted n ≡ true → dropCount n (ended q l) ≡ min stop (drops n (verdictsOn q l))
   -- so each is exact if no count is at its stop at the end
-  pub accepted-exactly : NoStop (ended q l) → ended q l .accepted ≡ accepts (given q l)
-  pub dropped-exactly : NoStop (ended q l) → (n : ℕ) → isCounted n ≡ true → dropCount n (ended q l) ≡ drops n (given q l)
+  pub accepted-exactly : NoStop (ended q l) → ended q l .accepted ≡ accepts (verdictsOn q l)
+  pub dropped-exactly : NoStop (ended q l) → (n : ℕ) → isCounted n ≡ true → dropCount n (ended q l) ≡ drops n (verdictsOn q l)
   -- "Below the stop, their sum is how many accepts and drops 20 to 29 were given since opening."
-  pub total : NoStop (ended q l) → ended q l .accepted + sum (ended q l .drops) ≡ accepts (given q l) + countedDrops (given q l)
+  pub total : NoStop (ended q l) → ended q l .accepted + sum (ended q l .drops) ≡ accepts (verdictsOn q l) + countedDrops (verdictsOn q l)
 
 -- from any state whose counts are 0; from a passive and from an active opening, whatever came of it
 abbrev pub FromZero : Type 0

@@ -8,7 +8,6 @@ use native.Mathlib.Omega.{arith}
 use lib.ListN.{length, getD, getD-replicate}
 use Rattle.keys.specs.declared.entry.Pair.{Pair}
 use Rattle.keys.specs.declared.entry.Entry.{Entry}
-use Rattle.keys.specs.declared.table.Found.{Found}
 use Rattle.keys.specs.Table.{Tables, sendEntry}
 use Rattle.rules.specs.declared.Outcome.{Outcome}
 use Rattle.rules.specs.declared.Outcome.the-variants.{Good, Passed, Bad}
@@ -19,7 +18,7 @@ use Rattle.rules.specs.Connection.{pairOf, isOpen, extensionOf, value, s
 use Rattle.rules.specs.Calls.{check, checkSyn, checkSign, askTests, verdictOf, afterJudging, judged, openedBy, openedPassively}
 use Rattle.rules.specs.Calls.{settledBy, unrefused, openTests, openedWith, openedActively, asked, outgoing, signedBy, signed}
 use Rattle.rules.specs.Demand3.{sum}
-use Rattle.rules.specs.History.{Call, judge, sign, ask, next, ended, verdictOn, given, accepts, drops, countedDrops, dropCount}
+use Rattle.rules.specs.History.{Call, judge, sign, ask, next, ended, verdictOn, verdictsOn, accepts, drops, countedDrops, dropCount}
 use Rattle.rules.specs.History.{CountsZero, FromZero, FromPassive, FromActive}
 use Rattle.rules.specs.CountLaws.{raised, each-below, slot-below, length-count, Counts, count-none, count-accept, count-drop}
 
@@ -34,7 +33,7 @@ record Keeps (q r : State) : Type 0 where
   accepted : r .accepted ≡ q .accepted
   drops : r .drops ≡ q .drops
 
-sign-keeps : (q : State) (s : List ℕ) (f : Found) (o : Outcome) → Keeps q (signedBy q s f o .state)
+sign-keeps : (q : State) (s : List ℕ) (f : Entry) (o : Outcome) → Keeps q (signedBy q s f o .state)
 sign-keeps q s f (Good x r) = record { conn = refl; accepted = refl; drops = refl }
 sign-keeps q s f Passed = record { conn = refl; accepted = refl; drops = refl }
 sign-keeps q s f (Bad n i) = record { conn = refl; accepted = refl; drops = refl }
@@ -85,31 +84,31 @@ judge-counts t q (Bad n i) vs end false e h c = rw e (rw e at c)
 call-ready : (c : Call) (q : State) → Ready q → Ready (next c q)
 unfolding judged signed asked
 call-ready (judge t a) q h = judge-ready t q (check t (q .conn) (q .seen) a) (isOpen (q .conn)) refl h
-call-ready (sign t s out) q h = keeps-ready q _ (sign-keeps q s (outgoing t q) (checkSign t s (length out) q)) h
+call-ready (sign t s out) q h = keeps-ready q _ (sign-keeps q s (outgoing t q .entry) (checkSign t s (length out) q)) h
 call-ready (ask t id) q h = keeps-ready q _ (ask-keeps q id (first (askTests t id (q .conn)) unrefused)) h
 
 call-counts : (c : Call) (q : State) (vs : List Verdict) (end : State) → Ready q → Counts (next c q) vs end → Counts q (verdictOn c q ++ vs) end
 unfolding judged signed asked
 call-counts (judge t a) q vs end h n = judge-counts t q (check t (q .conn) (q .seen) a) vs end (isOpen (q .conn)) refl h n
-call-counts (sign t s out) q vs end h n = let k = sign-keeps q s (outgoing t q) (checkSign t s (length out) q) in count-same q _ vs end (k .accepted) (k .drops) n
+call-counts (sign t s out) q vs end h n = let k = sign-keeps q s (outgoing t q .entry) (checkSign t s (length out) q) in count-same q _ vs end (k .accepted) (k .drops) n
 call-counts (ask t id) q vs end h n = let k = ask-keeps q id (first (askTests t id (q .conn)) unrefused) in count-same q _ vs end (k .accepted) (k .drops) n
 
 -- any list of calls, from any state that is open, or whose counts are 0
-pub history : (l : List Call) (q : State) → Ready q → Counts q (given q l) (ended q l)
+pub history : (l : List Call) (q : State) → Ready q → Counts q (verdictsOn q l) (ended q l)
 history [] q h = count-none q
-history (c ∷ l) q h = call-counts c q (given (next c q) l) (ended (next c q) l) h (history l (next c q) (call-ready c q h))
+history (c ∷ l) q h = call-counts c q (verdictsOn (next c q) l) (ended (next c q) l) h (history l (next c q) (call-ready c q h))
 
 pub one-count : FromZero
 one-count q f l =
     record {
-      accepted = c .accepted ∙ from-0 (accepts (given q l)) (q .accepted) (f .accepted);
-      dropped = λ n k. c .dropped n k ∙ from-0 (drops n (given q l)) (dropCount n q) (zero-at n k);
+      accepted = c .accepted ∙ from-0 (accepts (verdictsOn q l)) (q .accepted) (f .accepted);
+      dropped = λ n k. c .dropped n k ∙ from-0 (drops n (verdictsOn q l)) (dropCount n q) (zero-at n k);
       accepted-exactly = λ s. omega (arith, c .accepted, f .accepted, s .accepts);
       dropped-exactly = λ s n k. omega (arith, c .dropped n k, zero-at n k, each-below stop (ended q l .drops) (s .drops) (omega arith) (value (slot n)));
       total = λ s. omega (arith, c .accepted, f .accepted, s .accepts, c .total (s .drops), ap sum (f .drops));
     }
   where
-    c : Counts q (given q l) (ended q l)
+    c : Counts q (verdictsOn q l) (ended q l)
     c = history l q (record { counts = ap length (f .drops); fresh = λ z. f })
 
     from-0 : (k n : ℕ) → n ≡ 0 → raised k n ≡ min stop k

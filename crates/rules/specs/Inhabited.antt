@@ -1,6 +1,6 @@
--- The demands are not empty: one connection across a rollover, with a true arrival and one of the other kind, of which demand 3 holds; and
--- a bare SYN that demand 2 accepts; and one whose KeyID is unknown. As statements, with the MAC shut: it is whatever it is. InhabitedLaws
--- proves them.
+-- The demands are not empty: one connection across a rollover, with two true arrivals, under entries of two kinds, and one of the other
+-- sort, of which demand 3 holds; and a bare SYN that demand 2 accepts; and one whose KeyID is unknown. As statements, with the MAC shut: it
+-- is whatever it is. InhabitedLaws proves them.
 use Prim.Native.Nat.{ℕ}
 use mathlib.Core.Path.{_≡_}
 use mathlib.Core.Bool.{true, false}
@@ -18,21 +18,30 @@ use Rattle.rules.specs.Ends.{Typed, Delivered, SignedAt, Holds, rechecke
 use Rattle.rules.specs.Demand3.{Arriving, real, other, Given, Demand3}
 use Rattle.rules.specs.Passes.{UnknownKey}
 
--- a table of one entry for every IPv4 pair, HMAC-SHA-1-96, all options covered, the key 01 02
-abbrev pub table : ℕ → ℕ → List ℕ
-table sendId recvId =
+-- an entry of kind 4 for every IPv4 pair, HMAC-SHA-1, all options covered, the key 01 02
+abbrev pub entry4 : ℕ → ℕ → List ℕ
+entry4 sendId recvId =
     (4 ∷ 1 ∷ 1 ∷ sendId ∷ recvId ∷ 0 ∷ 0 ∷ 255 ∷ 255 ∷ 0 ∷ 0 ∷ 255 ∷ 255 ∷ 0 ∷ 0 ∷ 0 ∷ 0 ∷ 0 ∷ 0 ∷ 0 ∷ 0 ∷ 0 ∷ 0 ∷ 2 ∷ 1 ∷ 2 ∷ [])
+    ++ replicate 78 0
+
+-- the same of kind 5, with a MAC of five bytes
+abbrev pub entry5 : ℕ → ℕ → List ℕ
+entry5 sendId recvId =
+    (5 ∷ 1 ∷ 1 ∷ sendId ∷ recvId ∷ 0 ∷ 0 ∷ 255 ∷ 255 ∷ 0 ∷ 0 ∷ 255 ∷ 255 ∷ 0 ∷ 0 ∷ 0 ∷ 0 ∷ 0 ∷ 0 ∷ 0 ∷ 0 ∷ 0 ∷ 0 ∷ 5 ∷ 2 ∷ 1 ∷ 2 ∷ [])
     ++ replicate 78 0
 
 -- our end's table, and the other end's
 abbrev pub ourTable : List ℕ
-ourTable = table 61 84
+ourTable = entry4 61 84 ++ entry5 71 94
 
 abbrev pub theirTable : List ℕ
-theirTable = table 84 61
+theirTable = entry4 84 61 ++ entry5 94 71
 
 abbrev pub theirEntry : Entry
-theirEntry = entryOf theirTable
+theirEntry = entryOf (entry4 84 61)
+
+abbrev pub theirShort : Entry
+theirShort = entryOf (entry5 94 71)
 
 -- 10.11.12.13, port 59863, and 172.27.28.29, port 179: the pair as we hold it, and as the other end does
 abbrev pub ourPair : Pair
@@ -74,14 +83,15 @@ ourState =
       drops = replicate slots 0;
     }
 
-abbrev pub theirState : State
-theirState =
+-- the other end, under the entry with its SendID and asking for a RecvID
+abbrev pub theirs : ℕ → ℕ → State
+theirs sendId recvId =
     record {
       conn = record { stage = 1; pair = theirPair; isn = 4294967280; «peer_isn» = 100 };
       sent = 4294967280;
       seen = 100;
-      «send_id» = 84;
-      «ask_id» = 61;
+      «send_id» = sendId;
+      «ask_id» = recvId;
       accepted = 0;
       drops = replicate slots 0;
     }
@@ -93,21 +103,28 @@ segment =
     ∷ 1 ∷ 1 ∷ 1 ∷ 1 ∷ 97 ∷ 98 ∷ 99 ∷ []
 
 abbrev pub signedBytes : List ℕ
-signedBytes = signedSegment theirEntry theirState 4294967312 segment
+signedBytes = signedSegment theirEntry (theirs 84 61) 4294967312 segment
 
--- it arrives signed, and once more without TCP-AO; then the demand holds of both arrivals
+-- with a MAC of five bytes
+abbrev pub shortBytes : List ℕ
+shortBytes = signedSegment theirShort (theirs 94 71) 4294967312 segment
+
+-- it arrives signed, under either entry, and once more without TCP-AO; then the demand holds of all three arrivals
 pub record Arrivals : Type 0 where
   pub true-arrival : TrueSegment ourTable (ourState .conn) (fromThem signedBytes) 4294967312 61
+  pub short-arrival : TrueSegment ourTable (ourState .conn) (fromThem shortBytes) 4294967312 71
   pub other-arrival : Verifies ourTable (ourState .conn) (fromThem segment) → ⊥
 
-abbrev pub both : Arrivals → List (Arriving ourTable (ourState .conn))
-both a =
-    real (fromThem signedBytes) 4294967312 61 (a .true-arrival) ∷ (other (fromThem segment) (a .other-arrival) ∷ [])
+abbrev pub all : Arrivals → List (Arriving ourTable (ourState .conn))
+all a =
+    real (fromThem signedBytes) 4294967312 61 (a .true-arrival)
+    ∷ (real (fromThem shortBytes) 4294967312 71 (a .short-arrival)
+    ∷ (other (fromThem segment) (a .other-arrival) ∷ []))
 
 pub record Demand3NotEmpty : Type 0 where
   pub arrivals : Arrivals
-  pub given : Given ourTable ourState (both arrivals)
-  pub demand : Demand3 ourTable ourState (both arrivals)
+  pub given : Given ourTable ourState (all arrivals)
+  pub demand : Demand3 ourTable ourState (all arrivals)
 
 -- Demand 2, of a bare SYN. The other end opens.
 
@@ -138,7 +155,7 @@ pub record BareSynNotEmpty : Type 0 where
   pub holds : Holds ourTable (arrivalPair (fromThem synBytes)) (opener .conn .pair) theirEntry
   pub accepted : judgedSyn ourTable (fromThem synBytes) true ≡ record { verdict = Accept 0; index = 0 }
 
--- A bare SYN with the KeyID 85, where our one entry has the RecvID 84.
+-- A bare SYN with the KeyID 85, where our entries have the RecvIDs 84 and 94.
 
 abbrev pub unknownSyn : Arrival
 unknownSyn =
@@ -146,7 +163,7 @@ unknownSyn =
     ((0 ∷ 179 ∷ 233 ∷ 215 ∷ 255 ∷ 255 ∷ 255 ∷ 240 ∷ 0 ∷ 0 ∷ 0 ∷ 0 ∷ 144 ∷ 2 ∷ 128 ∷ 0 ∷ 0 ∷ 0 ∷ 0 ∷ 0 ∷ 29 ∷ 16 ∷ 85 ∷ 61 ∷ [])
     ++ replicate 12 0)
 
--- our entry matches the pair: 26, though the setting says pass. With an empty table the setting decides.
+-- our entries match the pair: 26, though the setting says pass. With an empty table the setting decides.
 pub record UnknownKeyNotEmpty : Type 0 where
   pub with-entry : UnknownKey ourTable unknownSyn
   pub matches : anyEntry ourTable (arrivalPair unknownSyn) ≡ true

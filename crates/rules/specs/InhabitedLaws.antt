@@ -1,5 +1,5 @@
 -- The statements of Inhabited.antt, proved: what is given there holds by computing, with the MAC shut.
-use Prim.Native.Nat.{ℕ, zero, suc, _+_, _<_}
+use Prim.Native.Nat.{ℕ, zero, suc, _+_, _<_, _≤_}
 use mathlib.Core.Path.{_≡_, refl, ap, sym, _∙_, subst⁻¹}
 use mathlib.Core.Bool.{true, false}
 use mathlib.Core.List.{List, [], _∷_}
@@ -12,7 +12,7 @@ use Rattle.wire.specs.Prefix.{agree, clearTo}
 use Rattle.wire.specs.Options.{optionsOf, readFrom}
 use Rattle.keys.specs.declared.entry.Entry.{Entry}
 use Rattle.keys.specs.Algorithm.{macBytes}
-use Rattle.keys.specs.Entry.{knownKind, isFamily, body, width, sideOf, selectorOf, idsOf, secretOf, entryOf, item, items, entriesOf}
+use Rattle.keys.specs.Entry.{knownKind, familyOf, extra, isFamily, body, width, sideOf, selectorOf, idsOf, macLength, secretOf, entryOf, item, items, entriesOf}
 use Rattle.keys.specs.Entry.{entries}
 use Rattle.keys.specs.Places as Places
 use Rattle.keys.specs.Match.{holds, matches, share, clash}
@@ -26,16 +26,16 @@ use Rattle.rules.specs.declared.State.{State}
 use Rattle.rules.specs.Position.{position}
 use Rattle.rules.specs.Mac.{segmentMac}
 use Rattle.rules.specs.MacLaws.{length-mac}
-use Rattle.rules.specs.Segment.{inserted, withOption, signedWith}
+use Rattle.rules.specs.Segment.{inserted, withOption, optionBytes, signedWith}
 use Rattle.rules.specs.Connection.{arrivalPair, leaving, extensionOf, placeOn}
 use Rattle.rules.specs.Calls.{outgoing, addedBytes, checkSign, signedSegment, written, signedBy, outputBy, signed, output}
-use Rattle.rules.specs.Ends.{Typed, Delivered, Holds, SignedAt}
+use Rattle.rules.specs.Ends.{Typed, Delivered, Holds, SignedAt, OtherEnd}
 use Rattle.rules.specs.RoundTripLaws.{Fresh, length-signed}
 use Rattle.rules.specs.Demand3.{Given}
 use Rattle.rules.specs.OrderLaws.{demand3}
 use Rattle.rules.specs.Demand2Laws.{bare-syn}
-use Rattle.rules.specs.Inhabited.{ourTable, theirTable, theirEntry, ourPair, theirPair, fromThem, ourState, theirState, segment}
-use Rattle.rules.specs.Inhabited.{signedBytes, Arrivals, both, Demand3NotEmpty, opener, synSegment, synBytes, BareSynNotEmpty}
+use Rattle.rules.specs.Inhabited.{entry4, entry5, ourTable, theirTable, theirEntry, theirShort, ourPair, theirPair, fromThem, ourState, theirs, segment}
+use Rattle.rules.specs.Inhabited.{signedBytes, shortBytes, Arrivals, all, Demand3NotEmpty, opener, synSegment, synBytes, BareSynNotEmpty}
 use Rattle.rules.specs.Inhabited.{unknownSyn, UnknownKeyNotEmpty}
 use Rattle.rules.specs.Passes.{UnknownKey}
 use Rattle.rules.specs.PassLaws.{matched-dropped, setting-decides}
@@ -43,24 +43,27 @@ use Rattle.rules.specs.PassLaws.{matched-dropped, setting-decides}
 -- Of both tables.
 
 valid : ValidTable ourTable
-unfolding agree clearTo macBytes knownKind body width sideOf selectorOf idsOf secretOf entryOf item items entriesOf holds matches share
-    clash numberOf clashing loadedFrom loaded found answers
-valid = (1, refl)
+unfolding agree clearTo macBytes knownKind familyOf extra body width sideOf selectorOf macLength idsOf secretOf entryOf item items entriesOf
+    holds matches share clash numberOf clashing loadedFrom loaded found answers
+valid = (2, refl)
 
-one-entry : entries ourTable ≡ entryOf ourTable ∷ []
-unfolding knownKind body item items entriesOf
-one-entry = refl
+entries-are : entries ourTable ≡ entryOf (entry4 61 84) ∷ (entryOf (entry5 71 94) ∷ [])
+unfolding knownKind familyOf extra body width sideOf selectorOf macLength idsOf secretOf entryOf item items entriesOf
+entries-are = refl
 
-among : Places.At (entries ourTable) 0 (entryOf ourTable)
-among = subst⁻¹ (λ (l : List Entry). Places.At l 0 (entryOf ourTable)) one-entry Places.here
+among : Places.At (entries ourTable) 0 (entryOf (entry4 61 84))
+among = subst⁻¹ (λ (l : List Entry). Places.At l 0 (entryOf (entry4 61 84))) entries-are Places.here
 
-mirrored : Mirror ourPair theirPair (entryOf ourTable) theirEntry
-unfolding agree width sideOf selectorOf idsOf secretOf entryOf holds matches
+among-short : Places.At (entries ourTable) 1 (entryOf (entry5 71 94))
+among-short = subst⁻¹ (λ (l : List Entry). Places.At l 1 (entryOf (entry5 71 94))) entries-are (Places.there Places.here)
+
+mirrored : Mirror ourPair theirPair (entryOf (entry4 61 84)) theirEntry
+unfolding agree familyOf extra width sideOf selectorOf macLength idsOf secretOf entryOf holds matches
 mirrored = record { here = refl; there = refl; sent = refl; received = refl; flags = refl; algorithm = refl; mac = refl; key = refl }
 
-twelve : theirEntry .secret .«mac_bytes» ≡ 12
-unfolding entryOf secretOf macBytes
-twelve = refl
+mirrored-short : Mirror ourPair theirPair (entryOf (entry5 71 94)) theirShort
+unfolding agree familyOf extra width sideOf selectorOf macLength idsOf secretOf entryOf holds matches
+mirrored-short = record { here = refl; there = refl; sent = refl; received = refl; flags = refl; algorithm = refl; mac = refl; key = refl }
 
 -- bytes one by one
 octets : (s : List ℕ) → Each (λ (b : ℕ). b < 256) s → Octets s
@@ -73,27 +76,26 @@ octets (x ∷ s) b (suc i) = octets s (b .1) i
 abbrev out : List ℕ
 out = replicate 60 0
 
--- what computing says of the call
-record Signs (q : State) (s : List ℕ) (x : ℕ) : Type 0 where
-  good : checkSign theirTable s 60 q ≡ Good x 61
-  under : outgoing theirTable q .entry ≡ theirEntry
-  added : addedBytes (outgoing theirTable q) ≡ 16
+-- what computing says of the call, under the entry e
+record Signs (e : Entry) (q : State) (s : List ℕ) (x : ℕ) : Type 0 where
+  good : checkSign theirTable s 60 q ≡ Good x (q .«ask_id»)
+  under : outgoing theirTable q .entry ≡ e
+  short : e .secret .«mac_bytes» ≤ 16
   fresh : Fresh s
   octets : Octets s
   place : placeOn (q .conn) (q .sent) (sequence s) ≡ At x
 
-module _ (q : State) (s : List ℕ) (x : ℕ) (g : Signs q s x) where
+module _ (e : Entry) (q : State) (s : List ℕ) (x : ℕ) (g : Signs e q s x) where
   abbrev bytes : List ℕ
-  bytes = signedSegment theirEntry q x s
+  bytes = signedSegment e q x s
 
-  long : length bytes ≡ length s + 16
+  long : length bytes ≡ length s + addedBytes e
   unfolding signedSegment
   long =
-      let zeros = signedWith (q .«send_id») (q .«ask_id») (replicate (theirEntry .secret .«mac_bytes») 0) s in
-      let m = segmentMac (theirEntry .secret) (leaving (q .conn)) (extensionOf x) 20 zeros in
-      let n = length-mac (theirEntry .secret) (leaving (q .conn)) (extensionOf x) 20 zeros (omega (arith, twelve)) in
-      let l : length m ≡ 12 = n ∙ twelve in
-      length-signed s (g .fresh) 0 0 (q .«send_id») (q .«ask_id») m (omega arith) ∙ ap (λ (n : ℕ). length s + (4 + n)) l
+      let zeros = signedWith (q .«send_id») (q .«ask_id») (replicate (e .secret .«mac_bytes») 0) s in
+      let m = segmentMac (e .secret) (leaving (q .conn)) (extensionOf x) 20 zeros in
+      let n = length-mac (e .secret) (leaving (q .conn)) (extensionOf x) 20 zeros (g .short) in
+      length-signed s (g .fresh) 0 0 (q .«send_id») (q .«ask_id») m ∙ ap (λ (n : ℕ). length s + optionBytes n) n
 
   wrote : bytes ≡ take (length bytes) (output theirTable s out q)
   unfolding output
@@ -102,7 +104,7 @@ module _ (q : State) (s : List ℕ) (x : ℕ) (g : Signs q s x) where
       ∙ ap (λ (e : Entry). take (length bytes) (written (signedSegment e q x s) out)) (g .under)
       ∙ take-at bytes (drop (length bytes) out) (length bytes) refl)
 
-  signing : SignedAt q theirEntry x bytes
+  signing : SignedAt q e x bytes
   unfolding signed
   signing =
       record {
@@ -111,35 +113,48 @@ module _ (q : State) (s : List ℕ) (x : ℕ) (g : Signs q s x) where
         out = out;
         octets = g .octets;
         answer =
-            ap (λ (o : Outcome). signedBy q s (outgoing theirTable q) o .answer) (g .good)
-            ∙ ap (λ (n : ℕ). S.Signed (length s + n)) (g .added)
+            ap (λ (o : Outcome). signedBy q s (outgoing theirTable q .entry) o .answer) (g .good)
+            ∙ ap (λ (e : Entry). S.Signed (length s + addedBytes e)) (g .under)
             ∙ ap S.Signed (sym long);
         wrote = wrote;
         under = g .under;
         position = g .place;
       }
 
-signs : Signs theirState segment 4294967312
-unfolding checkSign position optionsOf readFrom agree clearTo macBytes knownKind isFamily body width sideOf selectorOf idsOf secretOf
-    entryOf item items entriesOf holds matches share clash numberOf clashing loadedFrom loaded found answers
+signs : Signs theirEntry (theirs 84 61) segment 4294967312
+unfolding checkSign position optionsOf readFrom agree clearTo macBytes knownKind familyOf extra isFamily body width sideOf selectorOf
+    macLength idsOf secretOf entryOf item items entriesOf holds matches share clash numberOf clashing loadedFrom loaded found answers
 signs =
     record {
       good = refl;
       under = refl;
-      added = refl;
+      short = omega arith;
       fresh = record { long = omega arith; low = omega arith; inside = omega arith; formed = refl; no-ao = refl; no-md5 = refl };
       octets = octets segment (omega arith);
       place = refl;
     }
 
-signs-syn : Signs opener synSegment 4294967280
-unfolding checkSign position optionsOf readFrom agree clearTo macBytes knownKind isFamily body width sideOf selectorOf idsOf secretOf
-    entryOf item items entriesOf holds matches share clash numberOf clashing loadedFrom loaded found answers
+signs-short : Signs theirShort (theirs 94 71) segment 4294967312
+unfolding checkSign position optionsOf readFrom agree clearTo macBytes knownKind familyOf extra isFamily body width sideOf selectorOf
+    macLength idsOf secretOf entryOf item items entriesOf holds matches share clash numberOf clashing loadedFrom loaded found answers
+signs-short =
+    record {
+      good = refl;
+      under = refl;
+      short = omega arith;
+      fresh = signs .fresh;
+      octets = signs .octets;
+      place = refl;
+    }
+
+signs-syn : Signs theirEntry opener synSegment 4294967280
+unfolding checkSign position optionsOf readFrom agree clearTo macBytes knownKind familyOf extra isFamily body width sideOf selectorOf
+    macLength idsOf secretOf entryOf item items entriesOf holds matches share clash numberOf clashing loadedFrom loaded found answers
 signs-syn =
     record {
       good = refl;
       under = refl;
-      added = refl;
+      short = omega arith;
       fresh = record { long = omega arith; low = omega arith; inside = omega arith; formed = refl; no-ao = refl; no-md5 = refl };
       octets = octets synSegment (omega arith);
       place = refl;
@@ -151,9 +166,20 @@ typed-ours : Typed ourState
 typed-ours =
     record { sent = omega arith; seen = omega arith; isn = omega arith; peer = omega arith; local = refl; remote = refl; counts = refl }
 
-typed-theirs : Typed theirState
-typed-theirs =
+typed-theirs : (sendId recvId : ℕ) → Typed (theirs sendId recvId)
+typed-theirs sendId recvId =
     record { sent = omega arith; seen = omega arith; isn = omega arith; peer = omega arith; local = refl; remote = refl; counts = refl }
+
+other-end : (sendId recvId : ℕ) → OtherEnd (ourState .conn) (theirs sendId recvId .conn)
+unfolding width
+other-end sendId recvId =
+    record {
+      here = refl;
+      there = refl;
+      pair = record { family = refl; local = refl; remote = refl; local-port = refl; remote-port = refl };
+      isn = refl;
+      peer = refl;
+    }
 
 arrivals : Arrivals
 unfolding optionsOf readFrom width
@@ -161,23 +187,31 @@ arrivals =
     record {
       true-arrival =
           record {
-            peer = theirState;
-            typed = typed-theirs;
-            other =
-                record {
-                  here = refl;
-                  there = refl;
-                  pair = record { family = refl; local = refl; remote = refl; local-port = refl; remote-port = refl };
-                  isn = refl;
-                  peer = refl;
-                };
-            ours = entryOf ourTable;
+            peer = theirs 84 61;
+            typed = typed-theirs 84 61;
+            other = other-end 84 61;
+            ours = entryOf (entry4 61 84);
             theirs = theirEntry;
             place = 0;
             among = among;
             mirror = mirrored;
             bytes = signedBytes;
-            signed = signing theirState segment 4294967312 signs;
+            signed = signing theirEntry (theirs 84 61) segment 4294967312 signs;
+            delivered = record { from = refl; to = refl; high = 18; low = 52; segment = refl };
+            asks = refl;
+          };
+      short-arrival =
+          record {
+            peer = theirs 94 71;
+            typed = typed-theirs 94 71;
+            other = other-end 94 71;
+            ours = entryOf (entry5 71 94);
+            theirs = theirShort;
+            place = 1;
+            among = among-short;
+            mirror = mirrored-short;
+            bytes = shortBytes;
+            signed = signing theirShort (theirs 94 71) segment 4294967312 signs-short;
             delivered = record { from = refl; to = refl; high = 18; low = 52; segment = refl };
             asks = refl;
           };
@@ -187,16 +221,16 @@ arrivals =
 
 pub demand3-not-empty : Demand3NotEmpty
 unfolding isFamily
-demand3-not-empty = record { arrivals = arrivals; given = given; demand = demand3 ourTable ourState (both arrivals) given }
+demand3-not-empty = record { arrivals = arrivals; given = given; demand = demand3 ourTable ourState (all arrivals) given }
   where
-    given : Given ourTable ourState (both arrivals)
+    given : Given ourTable ourState (all arrivals)
     given =
         record {
           valid = valid;
           typed = typed-ours;
           allowed = refl;
           is-open = refl;
-          close = (((omega arith, omega arith), tt), (tt, tt));
+          close = (((omega arith, omega arith), ((omega arith, omega arith), tt)), (((omega arith, omega arith), tt), (tt, tt)));
         }
 
 -- Demand 2.
@@ -210,7 +244,7 @@ delivered = record { from = refl; to = refl; high = 18; low = 52; segment = refl
 
 held : Holds ourTable (arrivalPair (fromThem synBytes)) theirPair theirEntry
 unfolding signedSegment withOption inserted
-held = record { valid = valid; ours = entryOf ourTable; place = 0; among = among; mirror = mirrored }
+held = record { valid = valid; ours = entryOf (entry4 61 84); place = 0; among = among; mirror = mirrored }
 
 pub bare-syn-not-empty : BareSynNotEmpty
 unfolding width
@@ -218,24 +252,24 @@ bare-syn-not-empty =
     record {
       typed = typed-opener;
       opening = refl;
-      signed = signing opener synSegment 4294967280 signs-syn;
+      signed = signing theirEntry opener synSegment 4294967280 signs-syn;
       delivered = delivered;
       holds = held;
       accepted =
           bare-syn opener theirEntry 4294967280 synBytes (fromThem synBytes) ourTable typed-opener refl
-          (signing opener synSegment 4294967280 signs-syn) delivered held true;
+          (signing theirEntry opener synSegment 4294967280 signs-syn) delivered held true;
     }
 
 -- An unknown KeyID.
 
 with-entry : UnknownKey ourTable unknownSyn
-unfolding optionsOf readFrom agree clearTo macBytes knownKind body width sideOf selectorOf idsOf secretOf entryOf item items
+unfolding optionsOf readFrom agree clearTo macBytes knownKind familyOf extra body width sideOf selectorOf macLength idsOf secretOf entryOf item items
     entriesOf holds matches share clash numberOf clashing loadedFrom loaded found answers nobody
 with-entry =
     record { addresses = refl; table = refl; size = refl; options = refl; one = refl; alone = refl; bare = refl; unknown = refl }
 
 matching : anyEntry ourTable (arrivalPair unknownSyn) ≡ true
-unfolding agree knownKind body width sideOf selectorOf idsOf secretOf entryOf item items entriesOf holds matches answers anyOf
+unfolding agree knownKind familyOf extra body width sideOf selectorOf idsOf secretOf entryOf item items entriesOf holds matches answers anyOf
 matching = refl
 
 without : UnknownKey [] unknownSyn

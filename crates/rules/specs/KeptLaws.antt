@@ -110,7 +110,7 @@ sign-kept : (t : Tables) (s out : List ℕ) (q : State) → Typed q → isOpen (
 unfolding signed
 sign-kept t s out q v o = go (checkSign t s (length out) q) refl
   where
-    go : (c : Outcome) → checkSign t s (length out) q ≡ c → Kept q (signedBy q s (outgoing t q) c .state)
+    go : (c : Outcome) → checkSign t s (length out) q ≡ c → Kept q (signedBy q s (outgoing t q .entry) c .state)
     go (Good x r) e =
         let b = at-value (q .conn) (q .sent) (sequence s) x o (v .sent) (signs-good t s out q x r e .1) in
         let w = v .sent in

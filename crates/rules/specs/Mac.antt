@@ -74,6 +74,6 @@ unfoldable pub message : Secret → Flow → ℕ → ℕ → List ℕ → List �
 message s f extension at segment =
     front s f extension at (length segment) (take (headerEnd segment) segment) ++ drop (headerEnd segment) segment
 
--- "The leftmost 12 bytes are the MAC": the entry's number of MAC bytes
+-- "The leftmost 12 bytes are the MAC"; document 02, Ticket 4: "no longer .. twelve bytes but the leftmost n", the entry's number
 unfoldable pub segmentMac : Secret → Flow → ℕ → ℕ → List ℕ → List ℕ
 segmentMac s f extension at segment = take (s .«mac_bytes») (applied (s .algorithm) (trafficKey s f) (message s f extension at segment))

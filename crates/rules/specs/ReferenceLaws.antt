@@ -60,7 +60,7 @@ signed-state t s out q n e =
     let g = signed-good t s out q n e in
     let p = signs-good t s out q (g .0) (g .1) (g .2) in (
       at-value (placeOn (q .conn) (q .sent) (sequence s)) (p .0 .is-located),
-      ap (λ (o : Outcome). signedBy q s (outgoing t q) o .state) (g .2) ∙ (λ j. record {
+      ap (λ (o : Outcome). signedBy q s (outgoing t q .entry) o .state) (g .2) ∙ (λ j. record {
         conn = q .conn;
         sent = max (q .sent) (sym (p .1) j);
         seen = q .seen;
@@ -83,7 +83,7 @@ pub signing-refused : SigningRefused
 unfolding signed
 signing-refused t s out q n e = go (checkSign t s (length out) q) refl
   where
-    go : (o : Outcome) → checkSign t s (length out) q ≡ o → signedBy q s (outgoing t q) (checkSign t s (length out) q) .state ≡ q
+    go : (o : Outcome) → checkSign t s (length out) q ≡ o → signedBy q s (outgoing t q .entry) (checkSign t s (length out) q) .state ≡ q
     go (Good x r) f = let z : _≡_ {A = ℕ} 0 1 = cc (rw f at e) in absurd (omega arith)
     go Passed f = rw f
     go (Bad m i) f = rw f

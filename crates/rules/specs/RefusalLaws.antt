@@ -9,7 +9,6 @@ use borrow.Author.Tests.{ltb-false}
 use lib.Seq.{drop-at}
 use Rattle.keys.specs.declared.entry.Pair.{Pair}
 use Rattle.keys.specs.declared.entry.Entry.{Entry}
-use Rattle.keys.specs.declared.table.Found.{Found}
 use Rattle.keys.specs.Table.{Tables, checked, sendEntry, recvEntry}
 use Rattle.rules.specs.declared.Place.{Place}
 use Rattle.rules.specs.declared.Place.the-variants.{At, Nowhere}
@@ -45,8 +44,8 @@ judge-left t q (Good x r) n e = let z : _≡_ {A = ℕ} 0 1 = cc in absurd (omeg
 judge-left t q Passed n e = let z : _≡_ {A = ℕ} 0 1 = cc in absurd (omega arith)
 judge-left t q (Bad m i) n e = let z : m ≡ n = cc in ap (λ (k : ℕ). cond (isOpen (q .conn)) (withDrop k q) q) z ∙ drop-left n q (isOpen (q .conn)) (slot n) refl refl
 
-sign-left : (q : State) (s out : List ℕ) (f : Found) (o : Outcome) (n : ℕ) → bySigning (signedBy q s f o .answer) ≡ D.Refused n
-    → (outputBy q s out (f .entry) o ≡ out) × (signedBy q s f o .state ≡ q)
+sign-left : (q : State) (s out : List ℕ) (f : Entry) (o : Outcome) (n : ℕ) → bySigning (signedBy q s f o .answer) ≡ D.Refused n
+    → (outputBy q s out f o ≡ out) × (signedBy q s f o .state ≡ q)
 sign-left q s out f (Good x r) n e = let z : _≡_ {A = ℕ} 0 1 = cc in absurd (omega arith)
 sign-left q s out f Passed n e = (refl, refl)
 sign-left q s out f (Bad m i) n e = (refl, refl)
@@ -70,7 +69,7 @@ pub refusal : RefusalLeaves
 unfolding judged signed output asked openedPassively openedActively
 refusal (on (judge t a) q) n e = record { output = refl; state = judge-left t q (check t (q .conn) (q .seen) a) n e }
 refusal (on (sign t s out) q) n e =
-    let u = sign-left q s out (outgoing t q) (checkSign t s (length out) q) n e in
+    let u = sign-left q s out (outgoing t q .entry) (checkSign t s (length out) q) n e in
     record { output = u .0; state = u .1 }
 refusal (on (ask t id) q) n e = record { output = refl; state = settle-left (first (askTests t id (q .conn)) unrefused) q (withAsked id q) n e }
 refusal (judgeSyn t a strict) n e = record { output = refl; state = refl }
@@ -94,12 +93,12 @@ passed-empty t a isn strict e = go (checkSyn t a strict) refl
 
 -- the output, where signing answers with a length
 module _ (t : Tables) (s out : List ℕ) (q : State) where
-  fits : (x r : ℕ) → checkSign t s (length out) q ≡ Good x r → length s + addedBytes (outgoing t q) ≤ length out
+  fits : (x r : ℕ) → checkSign t s (length out) q ≡ Good x r → length s + addedBytes (outgoing t q .entry) ≤ length out
   unfolding checkSign
   fits x r e = go (none-applied isBad (signTests t s (length out) q (outgoing t q)) _ (rw (refusal-bad (checked t))) (ap isBad e))
     where
-      go : NoneApplies (signTests t s (length out) q (outgoing t q)) → length s + addedBytes (outgoing t q) ≤ length out
-      go p = ltb-false (length out) (length s + addedBytes (outgoing t q)) (search)
+      go : NoneApplies (signTests t s (length out) q (outgoing t q)) → length s + addedBytes (outgoing t q .entry) ≤ length out
+      go p = ltb-false (length out) (length s + addedBytes (outgoing t q .entry)) (search)
 
   writes : (n : ℕ) → signed t s out q .answer ≡ S.Signed n → (drop n (output t s out q) ≡ drop n out) × (length (output t s out q) ≡ length out)
   unfolding signed output
@@ -107,7 +106,7 @@ module _ (t : Tables) (s out : List ℕ) (q : State) where
     where
       go : (o : Outcome) → checkSign t s (length out) q ≡ o → (drop n (output t s out q) ≡ drop n out) × (length (output t s out q) ≡ length out)
       go (Good x r) f =
-          let k : length s + addedBytes (outgoing t q) ≡ n = cc (rw f at e) in
+          let k : length s + addedBytes (outgoing t q .entry) ≡ n = cc (rw f at e) in
           let l = signed-long t s out q (signs-good t s out q x r f .0) x ∙ k in
           let w = fits x r f in
           rw f (

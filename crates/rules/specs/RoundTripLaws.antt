@@ -16,7 +16,7 @@ use Rattle.octets.specs.Octets.{bytes32}
 use Rattle.keys.specs.declared.entry.Secret.{Secret}
 use Rattle.keys.specs.Entry.{allOptions}
 use Rattle.rules.specs.Mac.{Flow, pseudoHeader, zeroed, coveredHeader, front, message}
-use Rattle.rules.specs.Segment.{malformed, ao, md5, keyId, rnextKeyId, macIn, inserted, withOption, optionOf, optionBytes, signedWith, Whole}
+use Rattle.rules.specs.Segment.{malformed, ao, md5, keyId, rnextKeyId, macIn, inserted, withOption, padding, optionOf, optionBytes, signedWith, Whole}
 use Rattle.rules.specs.Ends.{rechecked}
 
 -- a header's twenty fixed bytes, by name, so that what is read of them computes
@@ -116,16 +116,12 @@ pub record Arrived (s b : List ℕ) (k r : ℕ) (m : List ℕ) : Type 0 where
   pub its-syn : syn b ≡ syn s
   pub its-ack : ack b ≡ ack s
 
--- How the option looks that is inserted: TCP-AO, then so many bytes of padding, today none; and its length. What follows uses nothing
--- else of `optionOf` and `optionBytes`.
-abbrev pads : ℕ → ℕ
-pads n = 0
-
-option-is : (k r : ℕ) (m : List ℕ) → optionOf k r m ≡ (29 ∷ (4 + length m) ∷ k ∷ r ∷ m) ++ replicate (pads (length m)) 1
-option-is k r m = sym (append-nil (29 ∷ (4 + length m) ∷ k ∷ r ∷ m))
-
+-- the padded option: its length, which fills whole words
 pub length-option : (k r : ℕ) (m : List ℕ) → length (optionOf k r m) ≡ optionBytes (length m)
-length-option k r m = omega arith
+length-option k r m = omega (arith, length-append m (replicate (padding (length m)) 1), length-replicate {A = ℕ} (padding (length m)) 1)
+
+pub whole-words : (n : ℕ) → Whole (optionBytes n)
+whole-words n = omega arith
 
 -- A segment of the header h, the options and the data. It arrives with the checksum c d and an option behind byte 20.
 module _ (h : Head) (options rest : List ℕ) where
@@ -195,7 +191,7 @@ module _ (h : Head) (options rest : List ℕ) where
     covered s f extension k r n added =
         bytes32 extension ++ pseudoHeader (f .source) (f .destination) (length plain + added)
         ++ shortened (allOptions s) n
-        (cells h (added / 4) 0 0 ++ ((29 ∷ (4 + n) ∷ k ∷ r ∷ replicate n 0) ++ (replicate (pads n) 1 ++ options))) ++ rest
+        (cells h (added / 4) 0 0 ++ ((29 ∷ (4 + n) ∷ k ∷ r ∷ replicate n 0) ++ (replicate (padding n) 1 ++ options))) ++ rest
 
     module _ (c d k r : ℕ) (m : List ℕ) where
       abbrev ours : List ℕ
@@ -205,13 +201,11 @@ module _ (h : Head) (options rest : List ℕ) where
       came = arrived c d ours
 
       abbrev behind : List ℕ
-      behind = replicate (pads (length m)) 1 ++ options
+      behind = replicate (padding (length m)) 1 ++ options
 
       -- TCP-AO, and what stands behind it
-      before : (l : List ℕ) → ours ++ l ≡ (29 ∷ (4 + length m) ∷ k ∷ r ∷ m) ++ (replicate (pads (length m)) 1 ++ l)
-      before l =
-          ap (λ (o : List ℕ). o ++ l) (option-is k r m)
-          ∙ append-assoc (29 ∷ (4 + length m) ∷ k ∷ r ∷ m) (replicate (pads (length m)) 1) l
+      before : (l : List ℕ) → ours ++ l ≡ (29 ∷ (4 + length m) ∷ k ∷ r ∷ m) ++ (replicate (padding (length m)) 1 ++ l)
+      before l = append-assoc (29 ∷ (4 + length m) ∷ k ∷ r ∷ m) (replicate (padding (length m)) 1) l
 
       module _ (even : Whole (length ours)) where
         -- the options before TCP-AO was put there have neither kind
@@ -222,12 +216,12 @@ module _ (h : Head) (options rest : List ℕ) where
           options-arrived : optionsOf (area came) ≡ Found alone
           options-arrived =
               ap optionsOf (area-arrived c d ours even ∙ before options)
-              ∙ ao-alone (4 + length m) (pads (length m)) (k ∷ r ∷ m) options e (omega arith) (omega arith) old noMd5 noAo
+              ∙ ao-alone (4 + length m) (padding (length m)) (k ∷ r ∷ m) options e (omega arith) (omega arith) old noMd5 noAo
 
           carried-mac : take (4 + length m - 4) (drop 24 came) ≡ m
           carried-mac =
               ap (λ (l : List ℕ). take (4 + length m - 4) (drop 4 l)) (before (options ++ rest))
-              ∙ take-at m (replicate (pads (length m)) 1 ++ (options ++ rest)) (4 + length m - 4) (omega arith)
+              ∙ take-at m (replicate (padding (length m)) 1 ++ (options ++ rest)) (4 + length m - 4) (omega arith)
 
           reads : Reads came k r m
           reads =
@@ -287,9 +281,9 @@ module _ (s : List ℕ) (fresh : Fresh s) where
   is-whole : headerEnd (plain (headOf s) options rest) ≡ 20 + length options
   is-whole = omega (arith, length-take (headerEnd s - 20) (drop 20 s), length-drop 20 s, fresh .long, fresh .low, fresh .inside)
 
-  module _ (c d k r : ℕ) (m : List ℕ) (even : Whole (optionBytes (length m))) where
-    whole-option : Whole (length (optionOf k r m))
-    whole-option = subst⁻¹ Whole (length-option k r m) even
+  module _ (c d k r : ℕ) (m : List ℕ) where
+    whole-option : (m : List ℕ) → Whole (length (optionOf k r m))
+    whole-option m = subst⁻¹ Whole (length-option k r m) (whole-words (length m))
 
     pub arrival : Arrived s (rechecked c d (signedWith k r m s)) k r m
     arrival = subst (λ (z : List ℕ). Arrived z (rechecked c d (signedWith k r m z)) k r m) is-plain (go (optionsOf (area s)) refl)
@@ -302,12 +296,12 @@ module _ (s : List ℕ) (fresh : Fresh s) where
         go (Found x) e =
             subst⁻¹ (λ (b : List ℕ). Arrived old b k r m) (arrives (headOf s) options rest is-whole c d (optionOf k r m))
             (record {
-              reads = reads (headOf s) options rest is-whole c d k r m whole-option x e (rw e at (fresh .no-md5)) (rw e at (fresh .no-ao));
+              reads = reads (headOf s) options rest is-whole c d k r m (whole-option m) x e (rw e at (fresh .no-md5)) (rw e at (fresh .no-ao));
               its-length =
                   length-arrived (headOf s) options rest is-whole c d (optionOf k r m)
                   ∙ ap (λ (n : ℕ). length old + n) (length-option k r m);
               its-end =
-                  end-arrived (headOf s) options rest is-whole c d (optionOf k r m) whole-option
+                  end-arrived (headOf s) options rest is-whole c d (optionOf k r m) (whole-option m)
                   ∙ ap (λ (n : ℕ). headerEnd old + n) (length-option k r m);
               source-port = refl;
               destination-port = refl;
@@ -330,9 +324,9 @@ module _ (s : List ℕ) (fresh : Fresh s) where
     covers key f extension e =
         subst (λ (z : List ℕ). covering (rechecked c d (signedWith k r m z)) ≡ covering (signedWith k r zeros z)) is-plain
         (ap (message key f extension 20) (arrives (headOf s) options rest is-whole c d (optionOf k r m))
-        ∙ message-arrived (headOf s) options rest is-whole c d k r m whole-option key f extension e
+        ∙ message-arrived (headOf s) options rest is-whole c d k r m (whole-option m) key f extension e
         ∙ sym (ap (message key f extension 20) (inserts (headOf s) options rest is-whole 0 0 (optionOf k r zeros))
-        ∙ message-arrived (headOf s) options rest is-whole 0 0 k r zeros even-zeros key f extension (sym n-zeros)
+        ∙ message-arrived (headOf s) options rest is-whole 0 0 k r zeros (whole-option zeros) key f extension (sym n-zeros)
         ∙ ap (λ (n : ℕ). covered (headOf s) options rest is-whole key f extension k r n (optionBytes n)) (n-zeros ∙ e)))
       where
         covering : List ℕ → List ℕ
@@ -343,6 +337,3 @@ module _ (s : List ℕ) (fresh : Fresh s) where
 
         n-zeros : length zeros ≡ key .«mac_bytes»
         n-zeros = length-replicate (key .«mac_bytes») 0
-
-        even-zeros : Whole (length (optionOf k r zeros))
-        even-zeros = subst⁻¹ Whole (length-option k r zeros ∙ ap optionBytes (n-zeros ∙ e)) even

@@ -1,10 +1,10 @@
 -- Document 01, "The option in a segment": what a segment's TCP-AO says. Every reader is total: where there is no TCP-AO, or the options are
 -- malformed, it reads the place 0 of the option area, and an earlier line of document 01's table decides.
-use Prim.Native.Nat.{ℕ, _+_, _-_, _*_, _/_, _≤_}
+use Prim.Native.Nat.{ℕ, _+_, _-_, _*_, _/_, _%_}
 use mathlib.Core.Path.{_≡_}
 use mathlib.Core.Bool.{Bool, not, _&&_}
 use mathlib.Core.List.{List, _∷_, _++_}
-use lib.ListN.{length, getD, take, drop}
+use lib.ListN.{length, getD, take, drop, replicate}
 use Rattle.wire.specs.Header.{headerEnd, area, syn, ack}
 use Rattle.wire.specs.Options.{optionsOf, isMalformed, aoIn, md5In}
 use Rattle.wire.specs.declared.options.Occurrence.{Occurrence}
@@ -49,23 +49,24 @@ inserted opt h =
 unfoldable pub withOption : List ℕ → List ℕ → List ℕ
 withOption opt s = inserted opt (take (headerEnd s) s) ++ drop (headerEnd s) s
 
--- TCP-AO with KeyID k, RNextKeyID r and MAC m; and how many bytes it has with a MAC of n bytes
-abbrev pub optionOf : ℕ → ℕ → List ℕ → List ℕ
-optionOf k r m = 29 ∷ (4 + length m) ∷ k ∷ r ∷ m
+-- Document 02, Ticket 4: "The signer pads the option, directly behind it, with kind 1 bytes to the next multiple of four." As many as a
+-- MAC of n bytes leaves open, since TCP-AO has four bytes besides.
+abbrev pub padding : ℕ → ℕ
+padding n = (4 - n % 4) % 4
 
+-- TCP-AO with KeyID k, RNextKeyID r and MAC m, and its padding, which its length byte does not count
+abbrev pub optionOf : ℕ → ℕ → List ℕ → List ℕ
+optionOf k r m = (29 ∷ (4 + length m) ∷ k ∷ r ∷ m) ++ replicate (padding (length m)) 1
+
+-- how many bytes that has with a MAC of n bytes
 abbrev pub optionBytes : ℕ → ℕ
-optionBytes n = 4 + n
+optionBytes n = 4 + n + padding n
 
 -- an option fills whole words
 abbrev pub Whole : ℕ → Type 0
 Whole n = 4 * (n / 4) ≡ n
 
--- a MAC of n bytes that can be signed with: both algorithms give as many, and its option fills whole words
-pub record Fits (n : ℕ) : Type 0 where
-  pub short : n ≤ 16
-  pub words : Whole (optionBytes n)
-
--- "Signing puts TCP-AO directly after byte 20, the old options behind it, raises the data offset by 4, and writes checksum zero."
--- (4 words where the MAC has 12 bytes)
+-- "Signing puts TCP-AO directly after byte 20, the old options behind it, raises the data offset .., and writes checksum zero."; Ticket 4:
+-- "the data offset rises by the words of the padded option"
 abbrev pub signedWith : ℕ → ℕ → List ℕ → List ℕ → List ℕ
 signedWith k r m s = withOption (optionOf k r m) s

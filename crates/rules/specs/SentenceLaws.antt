@@ -1,5 +1,5 @@
 -- Document 01's sentences of Sentences.antt, proved.
-use Prim.Native.Nat.{ℕ, _+_}
+use Prim.Native.Nat.{ℕ, _+_, _*_}
 use mathlib.Core.Path.{_≡_, refl, ap, _∙_}
 use mathlib.Core.Bool.{Bool, true, false, cond, not, _&&_}
 use mathlib.Core.List.{List, [], _∷_, _++_}
@@ -9,7 +9,7 @@ use mathlib.Core.Logic.{inl, inr}
 use lib.Dec.{eqb, ltb}
 use borrow.Author.Tests.{lt-ltb, eq-eqb, eqb-true}
 use Rattle.octets.specs.Tests.{any}
-use Rattle.wire.specs.Header.{sourcePort, destinationPort, sequence, headerEnd, syn}
+use Rattle.wire.specs.Header.{sourcePort, destinationPort, sequence, dataOffset, headerEnd, syn}
 use Rattle.mac.specs.Cmac.{cmac}
 use Rattle.keys.specs.Algorithm.{trafficKeyBytes, outputBits}
 use Rattle.keys.specs.declared.entry.Pair.{Pair}
@@ -23,16 +23,16 @@ use Rattle.octets.specs.Tests.{Test, tests, first}
 use Rattle.octets.specs.TestLaws.{first-append}
 use Rattle.rules.specs.Mac.{context, derivationInput, aesKey, applied, trafficKey, pseudoHeader, coveredHeader, front, message}
 use Rattle.rules.specs.Mac.{segmentMac}
-use Rattle.rules.specs.Segment.{malformed, ao, md5, keyId, rnextKeyId, isBareSyn, inserted, withOption}
+use Rattle.rules.specs.Segment.{malformed, ao, md5, keyId, rnextKeyId, isBareSyn, inserted, withOption, optionBytes}
 use Rattle.rules.specs.Connection.{sized, arrivalPair, isOpen, placeOn, located, value}
-use Rattle.rules.specs.Calls.{isRefused, check, synUnknown, checkSyn, unrefused, checkSign, outgoing, addedBytes}
+use Rattle.rules.specs.Calls.{check, synUnknown, checkSyn, unrefused, checkSign, outgoing}
 use Rattle.rules.specs.Answers.{verdictAnswer}
 use Rattle.rules.specs.MacLaws.{length-context, length-traffic-key}
-use Rattle.rules.specs.SigningLaws.{valid-of}
-use Rattle.rules.specs.GrowthLaws.{added-16, above-11}
+use Rattle.rules.specs.RoundTripLaws.{whole-words}
+use Rattle.rules.specs.GrowthLaws.{above-15}
 use Rattle.rules.specs.Sentences.{NumberRow, row, firstOf, badSize, judgeRows, synRows, signRows, entriesRow, JudgeTable, SynTable, SignTable}
 use Rattle.rules.specs.Sentences.{OpenTable, AskTable, EntryOrder, AnswerNumbers, CountsStop, Context, Contexts, TrafficKeys}
-use Rattle.rules.specs.Sentences.{PseudoHeaders, MessageOrder, Lengths, SegmentMacs, SignedExample, Covered}
+use Rattle.rules.specs.Sentences.{PseudoHeaders, MessageOrder, Lengths, SegmentMacs, SignedExample, PaddedExample, Covered, optionWords}
 
 -- the tests of rows, one behind another
 abbrev flat : List NumberRow → List (Test Outcome)
@@ -78,41 +78,39 @@ signRowsBy t s q x tests32 test37 =
     ∷ entriesRow t
     ∷ row 30 (badSize s)
     ∷ row 31 (malformed s ∷ ltb 0 (ao s .count) ∷ ltb 0 (md5 s .count) ∷ [])
-    ∷ row 32 tests32
     ∷ row 33 (not (eqb (sourcePort s) (q .conn .pair .«local_port»)) ∷ not (eqb (destinationPort s) (q .conn .pair .«remote_port»)) ∷ [])
     ∷ row 34 (cond (isOpen (q .conn)) (isBareSyn s) (not (isBareSyn s)) ∷ [])
     ∷ row 35 (not (outgoing t q .there) ∷ [])
+    ∷ row 32 tests32
     ∷ row 36 (not (located x) ∷ (syn s && not (eqb (value x) (q .conn .isn))) ∷ [])
     ∷ row 37 (test37 ∷ [])
     ∷ []
+
+-- the words of the padded option
+words-added : (n : ℕ) → optionBytes n ≡ 4 * optionWords n
+words-added n = omega arith
 
 pub sign-table : SignTable
 unfolding checkSign
 sign-table t s room q =
     first-flat
-    (signRowsBy t s q place (ltb 60 (headerEnd s + addedBytes (outgoing t q)) ∷ ltb 65535 (length s + addedBytes (outgoing t q)) ∷ [])
-    (ltb room (length s + addedBytes (outgoing t q))))
+    (signRowsBy t s q place (ltb 60 (headerEnd s + optionBytes n) ∷ ltb 65535 (length s + optionBytes n) ∷ [])
+    (ltb room (length s + optionBytes n)))
     (Good (value place) (q .«ask_id»))
-    ∙ go (isRefused (K.checked t)) refl
+    ∙ λ j. firstOf
+    (signRowsBy t s q place (above j ∷ ltb 65535 (length s + words-added n j) ∷ []) (ltb room (length s + words-added n j)))
+    (Good (value place) (q .«ask_id»))
   where
+    n : ℕ
+    n = outgoing t q .entry .secret .«mac_bytes»
+
     place : Place
     place = placeOn (q .conn) (q .sent) (sequence s)
 
-    go : (b : Bool) → isRefused (K.checked t) ≡ b
-        → firstOf
-        (signRowsBy t s q (placeOn (q .conn) (q .sent) (sequence s))
-        (ltb 60 (headerEnd s + addedBytes (outgoing t q)) ∷ ltb 65535 (length s + addedBytes (outgoing t q)) ∷ [])
-        (ltb room (length s + addedBytes (outgoing t q))))
-        (Good (value (placeOn (q .conn) (q .sent) (sequence s))) (q .«ask_id»))
-        ≡ firstOf (signRows t s room q (placeOn (q .conn) (q .sent) (sequence s)))
-        (Good (value (placeOn (q .conn) (q .sent) (sequence s))) (q .«ask_id»))
-    go true e = rw e
-    go false e =
-        let n = added-16 t q (valid-of t e) in
-        λ j. firstOf
-        (signRowsBy t s q (placeOn (q .conn) (q .sent) (sequence s))
-        ((ap (λ (k : ℕ). ltb 60 (headerEnd s + k)) n ∙ above-11 s) j ∷ ltb 65535 (length s + n j) ∷ []) (ltb room (length s + n j)))
-        (Good (value (placeOn (q .conn) (q .sent) (sequence s))) (q .«ask_id»))
+    above : ltb 60 (headerEnd s + optionBytes n) ≡ ltb 15 (dataOffset s + optionWords n)
+    above =
+        above-15 s (optionBytes n) (whole-words n)
+        ∙ ap (λ (w : ℕ). ltb 15 (dataOffset s + w)) (omega arith)
 
 pub open-table : OpenTable
 open-table t local remote p sendId =
@@ -183,7 +181,11 @@ message-order s f e at segment = refl
 
 pub segment-macs : SegmentMacs
 unfolding segmentMac applied
-segment-macs = record { hmac = λ s f e at segment a m. rw (a, m); cmac = λ s f e at segment a m. rw (a, m) }
+segment-macs = record { hmac = λ s f e at n segment a m. rw (a, m); cmac = λ s f e at n segment a m. rw (a, m) }
+
+pub padded-example : PaddedExample
+unfolding withOption inserted
+padded-example = refl
 
 pub signed-example : SignedExample
 unfolding withOption inserted
@@ -191,4 +193,4 @@ signed-example = refl
 
 pub covered : Covered
 unfolding message front pseudoHeader coveredHeader width
-covered = record { all-options = refl; only-ao = refl }
+covered = record { all-options = refl; only-ao = refl; all-padded = refl; only-padded = refl }

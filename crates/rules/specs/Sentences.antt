@@ -1,7 +1,7 @@
 -- Document 01's sentences, said of the definitions once more and apart from them: the table of numbers row by row, and bytes as numerals.
 -- A definition and the code that is proved equal to it could be wrong alike; then they contradict a sentence here. SentenceLaws proves
 -- each, PositionLaws `PlaceAnswers`.
-use Prim.Native.Nat.{ℕ, _+_, _/_, _%_, _<_}
+use Prim.Native.Nat.{ℕ, _+_, _*_, _/_, _%_, _<_}
 use mathlib.Core.Path.{_≡_}
 use mathlib.Core.Bool.{Bool, cond, not, _&&_}
 use mathlib.Core.List.{List, [], _∷_, _++_, map}
@@ -113,25 +113,31 @@ SynTable = (t : K.Tables) (a : Arrival) (strict : Bool)
     ≡ firstOf (synRows t strict (K.recvEntry t (arrivalPair a) (keyId (a .segment))) a)
     (Good (sequence (a .segment)) (rnextKeyId (a .segment)))
 
--- Signing the segment s into an output of `room` bytes: TCP-AO takes 16.
-abbrev pub signRows : K.Tables → List ℕ → ℕ → State → Place → List NumberRow
-signRows t s room q x =
+-- Ticket 4: the words of an option that has n bytes of MAC, padded "to the next multiple of four"
+abbrev pub optionWords : ℕ → ℕ
+optionWords n = (4 + n + 3) / 4
+
+-- Signing the segment s into an output of `room` bytes, under the entry that is found for the outgoing SendID: its option adds w words.
+abbrev pub signRows : K.Tables → List ℕ → ℕ → State → Place → ℕ → List NumberRow
+signRows t s room q x w =
     row 18 (not (isFamily (q .conn .pair .family)) ∷ [])
     ∷ entriesRow t
     ∷ row 30 (badSize s)
     ∷ row 31 (malformed s ∷ ltb 0 (ao s .count) ∷ ltb 0 (md5 s .count) ∷ [])
-    ∷ row 32 (ltb 11 (dataOffset s) ∷ ltb 65535 (length s + 16) ∷ [])
     ∷ row 33 (not (eqb (sourcePort s) (q .conn .pair .«local_port»)) ∷ not (eqb (destinationPort s) (q .conn .pair .«remote_port»)) ∷ [])
     ∷ row 34 (cond (isOpen (q .conn)) (isBareSyn s) (not (isBareSyn s)) ∷ [])
     ∷ row 35 (not (K.sendEntry t (q .conn .pair) (q .«send_id») .there) ∷ [])
+    ∷ row 32 (ltb 15 (dataOffset s + w) ∷ ltb 65535 (length s + 4 * w) ∷ [])
     ∷ row 36 (not (located x) ∷ (syn s && not (eqb (value x) (q .conn .isn))) ∷ [])
-    ∷ row 37 (ltb room (length s + 16) ∷ [])
+    ∷ row 37 (ltb room (length s + 4 * w) ∷ [])
     ∷ []
 
 abbrev pub SignTable : Type 0
 SignTable = (t : K.Tables) (s : List ℕ) (room : ℕ) (q : State)
     → checkSign t s room q
-    ≡ firstOf (signRows t s room q (placeOn (q .conn) (q .sent) (sequence s)))
+    ≡ firstOf
+    (signRows t s room q (placeOn (q .conn) (q .sent) (sequence s))
+    (optionWords (K.sendEntry t (q .conn .pair) (q .«send_id») .entry .secret .«mac_bytes»)))
     (Good (value (placeOn (q .conn) (q .sent) (sequence s))) (q .«ask_id»))
 
 -- 35: "no entry matching the pair has the outgoing SendID (opening ..) or the RecvID to ask (operator call)"
@@ -150,7 +156,7 @@ AskTable = (t : K.Tables) (id : ℕ) (l : Connection)
 abbrev pub EntryOrder : Type 0
 EntryOrder = (limit i : ℕ) (before : List Entry) (x : Item)
     → map (λ (r : Test ℕ). r .gives) (K.loadTests limit i before x)
-    ≡ 12 ∷ 11 ∷ 10 ∷ 13 ∷ 13 ∷ 13 ∷ 14 ∷ 14 ∷ 15 ∷ 15 ∷ 15 ∷ 15 ∷ 16 ∷ 16 ∷ 16 ∷ 17 ∷ []
+    ≡ 12 ∷ 11 ∷ 10 ∷ 13 ∷ 13 ∷ 13 ∷ 13 ∷ 13 ∷ 14 ∷ 14 ∷ 15 ∷ 15 ∷ 15 ∷ 15 ∷ 16 ∷ 16 ∷ 16 ∷ 17 ∷ []
 
 -- Answers. "A verdict is accept with its extension, pass, or drop with a number": accept has the number 0, pass 1.
 pub record AnswerNumbers : Type 0 where
@@ -248,12 +254,12 @@ MessageOrder = (s : Secret) (f : Flow) (e at : ℕ) (segment : List ℕ)
     ++ coveredHeader (allOptions s) at (s .«mac_bytes») (take (headerEnd segment) segment)
     ++ drop (headerEnd segment) segment
 
--- "The leftmost 12 bytes are the MAC."
+-- "The leftmost 12 bytes are the MAC."; Ticket 4: "no longer .. twelve bytes but the leftmost n"
 pub record SegmentMacs : Type 0 where
-  pub hmac : (s : Secret) (f : Flow) (e at : ℕ) (segment : List ℕ) → s .algorithm ≡ 1 → s .«mac_bytes» ≡ 12
-      → segmentMac s f e at segment ≡ take 12 (hmacSha1 (trafficKey s f) (message s f e at segment))
-  pub cmac : (s : Secret) (f : Flow) (e at : ℕ) (segment : List ℕ) → s .algorithm ≡ 2 → s .«mac_bytes» ≡ 12
-      → segmentMac s f e at segment ≡ take 12 (cmac (trafficKey s f) (message s f e at segment))
+  pub hmac : (s : Secret) (f : Flow) (e at n : ℕ) (segment : List ℕ) → s .algorithm ≡ 1 → s .«mac_bytes» ≡ n
+      → segmentMac s f e at segment ≡ take n (hmacSha1 (trafficKey s f) (message s f e at segment))
+  pub cmac : (s : Secret) (f : Flow) (e at n : ℕ) (segment : List ℕ) → s .algorithm ≡ 2 → s .«mac_bytes» ≡ n
+      → segmentMac s f e at segment ≡ take n (cmac (trafficKey s f) (message s f e at segment))
 
 -- A segment that arrives on the open connection, 27 bytes: four options of kind 1, three bytes of data.
 abbrev pub unsigned : List ℕ
@@ -274,8 +280,22 @@ signedBytes =
 abbrev pub SignedExample : Type 0
 SignedExample = signedWith 84 61 mac unsigned ≡ signedBytes
 
+-- Ticket 4: "The signer pads the option, directly behind it, with kind 1 bytes to the next multiple of four", here of a MAC of five bytes;
+-- "the data offset rises by the words of the padded option"
+abbrev pub paddedBytes : List ℕ
+paddedBytes =
+    0 ∷ 179 ∷ 233 ∷ 215 ∷ 0 ∷ 0 ∷ 0 ∷ 16 ∷ 1 ∷ 2 ∷ 3 ∷ 4 ∷ 144 ∷ 16 ∷ 128 ∷ 0 ∷ 0 ∷ 0 ∷ 7 ∷ 8
+    ∷ 29 ∷ 9 ∷ 84 ∷ 61 ∷ 201 ∷ 202 ∷ 203 ∷ 204 ∷ 205 ∷ 1 ∷ 1 ∷ 1
+    ∷ 1 ∷ 1 ∷ 1 ∷ 1 ∷ 97 ∷ 98 ∷ 99 ∷ []
+
+abbrev pub PaddedExample : Type 0
+PaddedExample = signedWith 84 61 (201 ∷ 202 ∷ 203 ∷ 204 ∷ 205 ∷ []) unsigned ≡ paddedBytes
+
+abbrev pub secretFor : ℕ → ℕ → Secret
+secretFor n flags = record { flags = flags; algorithm = 1; «mac_bytes» = n; «key_len» = 1; key = replicate 80 0 }
+
 abbrev pub secret : ℕ → Secret
-secret flags = record { flags = flags; algorithm = 1; «mac_bytes» = 12; «key_len» = 1; key = replicate 80 0 }
+secret flags = secretFor 12 flags
 
 -- "the TCP header with checksum and MAC bytes zero"; "With flag 0 only the header's first 20 bytes, data offset as sent, and TCP-AO
 -- remain."
@@ -290,3 +310,12 @@ pub record Covered : Type 0 where
       ∷ 0 ∷ 179 ∷ 233 ∷ 215 ∷ 0 ∷ 0 ∷ 0 ∷ 16 ∷ 1 ∷ 2 ∷ 3 ∷ 4 ∷ 160 ∷ 16 ∷ 128 ∷ 0 ∷ 0 ∷ 0 ∷ 7 ∷ 8
       ∷ 29 ∷ 16 ∷ 84 ∷ 61 ∷ 0 ∷ 0 ∷ 0 ∷ 0 ∷ 0 ∷ 0 ∷ 0 ∷ 0 ∷ 0 ∷ 0 ∷ 0 ∷ 0
       ∷ 97 ∷ 98 ∷ 99 ∷ []
+  -- the padding is no part of TCP-AO
+  pub all-padded : message (secretFor 5 1) (arriving openEnd []) 1 20 paddedBytes
+      ≡ 0 ∷ 0 ∷ 0 ∷ 1 ∷ 172 ∷ 27 ∷ 28 ∷ 29 ∷ 10 ∷ 11 ∷ 12 ∷ 13 ∷ 0 ∷ 6 ∷ 0 ∷ 39
+      ∷ 0 ∷ 179 ∷ 233 ∷ 215 ∷ 0 ∷ 0 ∷ 0 ∷ 16 ∷ 1 ∷ 2 ∷ 3 ∷ 4 ∷ 144 ∷ 16 ∷ 128 ∷ 0 ∷ 0 ∷ 0 ∷ 7 ∷ 8
+      ∷ 29 ∷ 9 ∷ 84 ∷ 61 ∷ 0 ∷ 0 ∷ 0 ∷ 0 ∷ 0 ∷ 1 ∷ 1 ∷ 1 ∷ 1 ∷ 1 ∷ 1 ∷ 1 ∷ 97 ∷ 98 ∷ 99 ∷ []
+  pub only-padded : message (secretFor 5 0) (arriving openEnd []) 1 20 paddedBytes
+      ≡ 0 ∷ 0 ∷ 0 ∷ 1 ∷ 172 ∷ 27 ∷ 28 ∷ 29 ∷ 10 ∷ 11 ∷ 12 ∷ 13 ∷ 0 ∷ 6 ∷ 0 ∷ 39
+      ∷ 0 ∷ 179 ∷ 233 ∷ 215 ∷ 0 ∷ 0 ∷ 0 ∷ 16 ∷ 1 ∷ 2 ∷ 3 ∷ 4 ∷ 144 ∷ 16 ∷ 128 ∷ 0 ∷ 0 ∷ 0 ∷ 7 ∷ 8
+      ∷ 29 ∷ 9 ∷ 84 ∷ 61 ∷ 0 ∷ 0 ∷ 0 ∷ 0 ∷ 0 ∷ 97 ∷ 98 ∷ 99 ∷ []

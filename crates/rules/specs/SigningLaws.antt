@@ -40,8 +40,8 @@ module _ (t : Tables) (s out : List ℕ) (q : State) where
     pub allowed : isFamily (q .conn .pair .family) ≡ true
     pub valid : ValidTable t
     pub fresh : Fresh s
-    pub header : headerEnd s + addedBytes (outgoing t q) ≤ 60
-    pub whole : length s + addedBytes (outgoing t q) ≤ 65535
+    pub header : headerEnd s + addedBytes (outgoing t q .entry) ≤ 60
+    pub whole : length s + addedBytes (outgoing t q .entry) ≤ 65535
     pub source-port : sourcePort s ≡ q .conn .pair .«local_port»
     pub destination-port : destinationPort s ≡ q .conn .pair .«remote_port»
     pub stage : cond (isOpen (q .conn)) (isBareSyn s) (not (isBareSyn s)) ≡ false
@@ -63,8 +63,8 @@ module _ (t : Tables) (s out : List ℕ) (q : State) where
               no-ao = omega (arith, ltb-false 0 (ao s .count) (search));
               no-md5 = omega (arith, ltb-false 0 (md5 s .count) (search));
             };
-        header = ltb-false 60 (headerEnd s + addedBytes (outgoing t q)) (search);
-        whole = ltb-false 65535 (length s + addedBytes (outgoing t q)) (search);
+        header = ltb-false 60 (headerEnd s + addedBytes (outgoing t q .entry)) (search);
+        whole = ltb-false 65535 (length s + addedBytes (outgoing t q .entry)) (search);
         source-port = eqb-true _ _ (not-false (eqb (sourcePort s) (q .conn .pair .«local_port»)) (search));
         destination-port = eqb-true _ _ (not-false (eqb (destinationPort s) (q .conn .pair .«remote_port»)) (search));
         stage = search;
@@ -81,11 +81,11 @@ module _ (t : Tables) (s out : List ℕ) (q : State) where
       (none-signs n, cc, cc)
 
   -- where the call answers with a length, it signed
-  pub signed-good : (n : ℕ) → signed t s out q .answer ≡ S.Signed n → (x : ℕ) × (r : ℕ) × (checkSign t s (length out) q ≡ Good x r) × (length s + addedBytes (outgoing t q) ≡ n)
+  pub signed-good : (n : ℕ) → signed t s out q .answer ≡ S.Signed n → (x : ℕ) × (r : ℕ) × (checkSign t s (length out) q ≡ Good x r) × (length s + addedBytes (outgoing t q .entry) ≡ n)
   unfolding signed
   signed-good n e = go (checkSign t s (length out) q) refl
     where
-      go : (o : Outcome) → checkSign t s (length out) q ≡ o → (x : ℕ) × (r : ℕ) × (checkSign t s (length out) q ≡ Good x r) × (length s + addedBytes (outgoing t q) ≡ n)
+      go : (o : Outcome) → checkSign t s (length out) q ≡ o → (x : ℕ) × (r : ℕ) × (checkSign t s (length out) q ≡ Good x r) × (length s + addedBytes (outgoing t q .entry) ≡ n)
       go (Good x r) f = (x, r, f, cc (rw f at e))
       go Passed f = let z : _≡_ {A = ℕ} 0 1 = cc (rw f at e) in absurd (omega arith)
       go (Bad m i) f = let z : _≡_ {A = ℕ} 0 1 = cc (rw f at e) in absurd (omega arith)

@@ -55,7 +55,7 @@ pub struct Judged {
 }
 
 // What a bare SYN gets that is judged without a state.
-pub struct Checked {
+pub struct SynJudged {
     pub verdict: Verdict,
     pub index: usize,
 }

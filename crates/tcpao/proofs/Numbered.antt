@@ -6,7 +6,7 @@ use mathlib.Core.List.{List}
 use Rattle.keys.specs.declared.table.Loaded.{Loaded}
 use Rattle.keys.specs.Table.{Tables, checked}
 use Rattle.rules.specs.declared.Judged.{Judged}
-use Rattle.rules.specs.declared.Checked.{Checked}
+use Rattle.rules.specs.declared.SynJudged.{SynJudged}
 use Rattle.rules.specs.declared.Settled.{Settled}
 use Rattle.rules.specs.declared.Signed.{Signed}
 use Rattle.rules.specs.declared.State.{State}
@@ -19,8 +19,8 @@ use Rattle.rules.specs.AnswerLaws as law
 abbrev ofJudged : Judged → Answer
 ofJudged j = verdictAnswer (j .verdict) (j .index)
 
-abbrev ofChecked : Checked → Answer
-ofChecked c = verdictAnswer (c .verdict) (c .index)
+abbrev ofSynJudged : SynJudged → Answer
+ofSynJudged c = verdictAnswer (c .verdict) (c .index)
 
 abbrev ofSettled : Settled → Answer
 ofSettled s = doneAnswer (s .answer) (s .index)
@@ -32,9 +32,9 @@ pub judged-numbered : (t : Tables) (a : Arrival) (q : State) {r : Judged} → r 
     → (r ≡ judged t a q) × (ofJudged r ≡ judgedNumber t a q)
 judged-numbered t a q e = (e, ap ofJudged e ∙ law.judged-number t a q)
 
-pub syn-numbered : (t : Tables) (a : Arrival) (strict : Bool) {r : Checked} → r ≡ judgedSyn t a strict
-    → (r ≡ judgedSyn t a strict) × (ofChecked r ≡ synNumber t a strict)
-syn-numbered t a strict e = (e, ap ofChecked e ∙ law.syn-number t a strict)
+pub syn-numbered : (t : Tables) (a : Arrival) (strict : Bool) {r : SynJudged} → r ≡ judgedSyn t a strict
+    → (r ≡ judgedSyn t a strict) × (ofSynJudged r ≡ synNumber t a strict)
+syn-numbered t a strict e = (e, ap ofSynJudged e ∙ law.syn-number t a strict)
 
 pub passively-numbered : (t : Tables) (a : Arrival) (isn : ℕ) (strict : Bool) {r : Judged} → r ≡ openedPassively t a isn strict
     → (r ≡ openedPassively t a isn strict) × (ofJudged r ≡ synNumber t a strict)

@@ -20,7 +20,7 @@ use Rattle.rules.specs.JudgeLaws.{isBad, refusal-bad}
 use Rattle.rules.specs.Segment.{optionBytes}
 use Rattle.rules.specs.Calls.{outgoing, addedBytes, signTests, checkSign, signedBy, outputBy, written, signed, output}
 use Rattle.rules.specs.SigningLaws.{Signs, signs-good}
-use Rattle.rules.specs.GrowthLaws.{added-under, fits-found}
+use Rattle.rules.specs.GrowthLaws.{short-found}
 use Rattle.checks.specs.GroupLaws.{isFinal, Else, else-final}
 use Rattle.tcpao.specs.SignedBytes.{Signable}
 use Rattle.tcpao.specs.SignBegin.{Ready, Starts, SignBegins, Writable, finished}
@@ -45,39 +45,36 @@ module _ (t : Tables) (s : List ℕ) (room : ℕ) (q : State) where
     left =
         let g = signs-good t s (replicate room 0) q x r (ap (λ (n : ℕ). checkSign t s n q) (length-replicate room 0) ∙ good) in (g .0, g .2)
 
-    added-is : addedBytes (outgoing t q) ≡ optionBytes (entry .«mac_bytes»)
-    added-is = added-under (outgoing t q) (left .0 .entry)
-
     can : Signable s entry
     can =
         let g = left .0 in
         record {
           low = g .fresh .low;
           inside = g .fresh .inside;
-          header = omega (arith, g .header, added-is);
-          fits = fits-found t (q .conn .pair) (q .«send_id») (g .valid) (g .entry);
+          header = g .header;
+          short = short-found t (q .conn .pair) (q .«send_id») (g .valid) (g .entry);
         }
 
-    room-of : NoneApplies (signTests t s room q (outgoing t q)) → length s + addedBytes (outgoing t q) ≤ room
-    room-of n = ltb-false room (length s + addedBytes (outgoing t q)) (search)
+    room-of : NoneApplies (signTests t s room q (outgoing t q)) → length s + addedBytes (outgoing t q .entry) ≤ room
+    room-of n = ltb-false room (length s + addedBytes (outgoing t q .entry)) (search)
 
     enough : length s + optionBytes (entry .«mac_bytes») ≤ room
     unfolding checkSign
     enough =
         let n = none-applied isBad (signTests t s room q (outgoing t q)) _ (rw (refusal-bad (checked t))) (ap isBad good) in
-        omega (arith, room-of n, added-is)
+        room-of n
 
   -- begin goes on
   module _ {f : Found} {o : Outcome} {x r : ℕ} (is : f ≡ outgoing t q) (gave : o ≡ checkSign t s room q) (good : o ≡ Good x r) where
     signs : checkSign t s room q ≡ Good x r
     signs = sym gave ∙ good
 
-    pub may-start : {added : ℕ} {h : Header} → added ≡ addedBytes f → h ≡ headerOf (length s) s
+    pub may-start : {added : ℕ} {h : Header} → added ≡ addedBytes (f .entry) → h ≡ headerOf (length s) s
         → Signable s (f .entry .secret) × (h .end ≡ headerEnd s) × (added ≡ optionBytes (f .entry .secret .«mac_bytes»))
     may-start adds reads = (
       subst⁻¹ (λ (f : Found). Signable s (f .entry .secret)) is (can signs),
       ap (λ (h : Header). h .end) reads,
-      adds ∙ subst⁻¹ (λ (f : Found). addedBytes f ≡ optionBytes (f .entry .secret .«mac_bytes»)) is (added-is signs),
+      adds,
     )
 
     pub begins : {b : SignBegun} → Starts x (f .entry .secret) q s b → SignBegins t s room q b
@@ -102,8 +99,8 @@ module _ (t : Tables) (s out : List ℕ) (q : State) (b : SignBegun) (begun : Si
     may-write =
         writable x (outgoing t q .entry .secret) q s (can t s (length out) q signs-at) b its-ready out (enough t s (length out) q signs-at)
 
-    pub adds : b .added ≡ addedBytes (outgoing t q)
-    adds = its-ready .added ∙ sym (added-is t s (length out) q signs-at)
+    pub adds : b .added ≡ addedBytes (outgoing t q .entry)
+    adds = its-ready .added
 
     pub sum-fits : length s + b .added ≤ 65535
     sum-fits = omega (arith, adds, left t s (length out) q signs-at .0 .whole)
@@ -113,9 +110,9 @@ module _ (t : Tables) (s out : List ℕ) (q : State) (b : SignBegun) (begun : Si
         e ∙ ap (λ (l : List ℕ). written l out)
         (finished-is x (outgoing t q .entry .secret) q s (can t s (length out) q signs-at) b its-ready (outgoing t q .entry) refl)
 
-  pub answers : (z : Outcome) {r : Signed} → b .outcome ≡ z → r ≡ signedBy q s (outgoing t q) z → r ≡ signed t s out q
+  pub answers : (z : Outcome) {r : Signed} → b .outcome ≡ z → r ≡ signedBy q s (outgoing t q .entry) z → r ≡ signed t s out q
   unfolding signed
-  answers z g h = h ∙ ap (signedBy q s (outgoing t q)) (sym g ∙ begun .outcome)
+  answers z g h = h ∙ ap (signedBy q s (outgoing t q .entry)) (sym g ∙ begun .outcome)
 
   pub outputs : (z : Outcome) {c : List ℕ} → b .outcome ≡ z → c ≡ outputBy q s out (outgoing t q .entry) z → c ≡ output t s out q
   unfolding output

@@ -14,8 +14,8 @@ use Rattle.rules.specs.declared.Outcome.the-variants.{Good}
 use Rattle.rules.specs.declared.State.{State}
 use Rattle.rules.specs.Mac.{Flow, trafficKey, front, segmentMac}
 use Rattle.rules.specs.MacLaws.{length-mac}
-use Rattle.rules.specs.Segment.{inserted, withOption, optionOf, optionBytes, Fits, signedWith}
-use Rattle.rules.specs.RoundTripLaws.{length-option}
+use Rattle.rules.specs.Segment.{inserted, withOption, padding, optionOf, optionBytes, signedWith}
+use Rattle.rules.specs.RoundTripLaws.{length-option, whole-words}
 use Rattle.rules.specs.Connection.{leaving, extensionOf}
 use Rattle.rules.specs.Calls.{signedSegment, written}
 use Rattle.traffic.specs.Padded.{padded, digestRoom}
@@ -43,21 +43,29 @@ reads-is (suc n) i s h =
 abbrev words : ℕ → ℕ
 words n = optionBytes n / 4
 
--- a header with TCP-AO inserted is the head, the MAC and the old options
+-- what stands behind a MAC of n bytes: the padding and the old options
+abbrev after : ℕ → List ℕ → List ℕ
+after n h = replicate (padding n) 1 ++ drop 20 h
+
+-- a header with TCP-AO inserted is the head, the MAC, its padding and the old options
 module _ (k r : ℕ) (m h : List ℕ) (low : 20 ≤ length h) where
-  header-is : inserted (optionOf k r m) h ≡ headBytes (words (length m)) k r (length m) h ++ (m ++ drop 20 h)
+  header-is : inserted (optionOf k r m) h ≡ headBytes (words (length m)) k r (length m) h ++ (m ++ after (length m) h)
   unfolding inserted headBytes
   header-is =
       (λ i. sym (reads-is 12 0 h (omega arith)) i
       ++ ((getD h 12 0 + 16 * (length-option k r m i / 4)) ∷ sym (reads-is 3 13 h (omega arith)) i)
       ++ (0 ∷ 0 ∷ sym (reads-is 2 18 h (omega arith)) i) ++ optionOf k r m ++ drop 20 h)
-      ∙ append-assoc (headBytes (words (length m)) k r (length m) h) m (drop 20 h)
+      ∙ append-assoc (headBytes (words (length m)) k r (length m) h) (m ++ replicate (padding (length m)) 1) (drop 20 h)
+      ∙ ap (λ (l : List ℕ). headBytes (words (length m)) k r (length m) h ++ l)
+      (append-assoc m (replicate (padding (length m)) 1) (drop 20 h))
 
   length-inserted : length (inserted (optionOf k r m) h) ≡ length h + optionBytes (length m)
   unfolding headBytes
   length-inserted =
       let e = ap length header-is in
-      omega (arith, e, length-append m (drop 20 h), length-drop 20 h)
+      let p : length (replicate {A = ℕ} (padding (length m)) 1) ≡ padding (length m) = length-replicate (padding (length m)) 1 in
+      let a = length-append (replicate (padding (length m)) 1) (drop 20 h) in
+      omega (arith, e, p, a, length-append m (after (length m) h), length-drop 20 h)
 
 -- Parts laid one behind another.
 
@@ -79,23 +87,27 @@ module _ (k r : ℕ) (z m h pad : List ℕ) (low : 20 ≤ length h) (same : leng
   abbrev head : List ℕ
   head = headBytes (words (length m)) k r (length m) h
 
-  with-z : inserted (optionOf k r z) h ++ pad ≡ head ++ (z ++ (drop 20 h ++ pad))
-  with-z =
-      ap (λ (l : List ℕ). l ++ pad) (header-is k r z h low ∙ ap (λ (n : ℕ). headBytes (words n) k r n h ++ (z ++ drop 20 h)) same)
-      ∙ append-assoc head (z ++ drop 20 h) pad ∙ ap (λ (l : List ℕ). head ++ l) (append-assoc z (drop 20 h) pad)
+  abbrev tail : List ℕ
+  tail = after (length m) h
 
-  with-m : head ++ m ++ (drop 20 h ++ pad) ≡ inserted (optionOf k r m) h ++ pad
+  with-z : inserted (optionOf k r z) h ++ pad ≡ head ++ (z ++ (tail ++ pad))
+  with-z =
+      ap (λ (l : List ℕ). l ++ pad) (header-is k r z h low ∙ ap (λ (n : ℕ). headBytes (words n) k r n h ++ (z ++ after n h)) same)
+      ∙ append-assoc head (z ++ tail) pad ∙ ap (λ (l : List ℕ). head ++ l) (append-assoc z tail pad)
+
+  with-m : head ++ m ++ (tail ++ pad) ≡ inserted (optionOf k r m) h ++ pad
   with-m =
-      sym (append-assoc (head ++ m) (drop 20 h) pad)
-      ∙ ap (λ (l : List ℕ). l ++ pad) (append-assoc head m (drop 20 h) ∙ sym (header-is k r m h low))
+      sym (append-assoc (head ++ m) tail pad)
+      ∙ ap (λ (l : List ℕ). l ++ pad) (append-assoc head m tail ∙ sym (header-is k r m h low))
 
   put : paste (inserted (optionOf k r z) h ++ pad) 24 m (length m) ≡ inserted (optionOf k r m) h ++ pad
   unfolding headBytes
   put =
-      ap (λ (l : List ℕ). paste l 24 m (length m)) with-z ∙ behind head m (z ++ (drop 20 h ++ pad)) 24 refl
-      ∙ ap (λ (l : List ℕ). head ++ m ++ l) (drop-at z (drop 20 h ++ pad) (length m) same) ∙ with-m
+      ap (λ (l : List ℕ). paste l 24 m (length m)) with-z ∙ behind head m (z ++ (tail ++ pad)) 24 refl
+      ∙ ap (λ (l : List ℕ). head ++ m ++ l) (drop-at z (tail ++ pad) (length m) same) ∙ with-m
 
--- zeros, with the head and the old options in them
+-- Parts laid into zeros.
+
 abbrev zeros : ℕ → List ℕ
 zeros n = replicate n 0
 
@@ -104,45 +116,79 @@ drop-zeros zero m = ap zeros (sym (sub-zero m))
 drop-zeros (suc n) zero = ap zeros (let e : 0 ≡ 0 - suc n = omega arith in e)
 drop-zeros (suc n) (suc m) = drop-zeros n m ∙ ap zeros (let e : m - n ≡ suc m - suc n = omega arith in e)
 
-after-head : (h : List ℕ) (n : ℕ) → length h ≡ 24 → n ≤ 36 → drop (length h) (zeros 60) ≡ zeros n ++ zeros (36 - n)
-after-head h n k e =
-    drop-zeros (length h) 60 ∙ ap zeros (let w : 60 - length h ≡ n + (36 - n) = omega arith in w)
-    ∙ sym (replicate-append-replicate n (36 - n) 0)
+-- x, at the place i of an array of `room` bytes, k zeros behind what was laid before
+laid : (p x : List ℕ) (k i room : ℕ) {a b : List ℕ} → i ≡ length p + k → i + length x ≤ room → a ≡ padded room p → b ≡ paste a i x (length x)
+    → b ≡ padded room (p ++ (zeros k ++ x))
+laid p x k i room ei most ea eb =
+    let z : length (zeros k) ≡ k = length-replicate k 0 in
+    let o = room - length p - k in
+    let m : room - length p ≡ k + o = omega arith in
+    let split : padded room p ≡ p ++ zeros k ++ zeros o =
+    ap (λ (n : ℕ). p ++ zeros n) m ∙ ap (λ (l : List ℕ). p ++ l) (sym (replicate-append-replicate k o 0))
+    ∙ sym (append-assoc p (zeros k) (zeros o)) in
+    let j : length (p ++ (zeros k ++ x)) ≡ length p + (k + length x) =
+    length-append p (zeros k ++ x) ∙ omega (arith, length-append (zeros k) x) in
+    let v : o - length x ≡ room - length (p ++ (zeros k ++ x)) = omega arith in
+    eb ∙ ap (λ (l : List ℕ). paste l i x (length x)) (ea ∙ split)
+    ∙ behind (p ++ zeros k) x (zeros o) i (omega (arith, length-append p (zeros k)))
+    ∙ ap₂ (λ (l y : List ℕ). l ++ y) (append-assoc p (zeros k) x) (drop-zeros (length x) o ∙ ap zeros v)
 
-blanked : (g h a : List ℕ) (n : ℕ) {b : List ℕ} → 20 ≤ length g → length g + (4 + n) ≤ 60 → length h ≡ 24
-    → a ≡ paste (zeros 60) 0 h (length h)
-    → b ≡ paste a (24 + n) (take (length g - 20) (drop 20 g)) (length (take (length g - 20) (drop 20 g)))
-    → b ≡ padded 60 (h ++ (zeros n ++ drop 20 g))
-blanked g h a n low most k ea eb =
-    let x = drop 20 g in
-    let lx = length-drop 20 g in
-    let f : take (length g - 20) x ≡ x = take-all (length g - 20) x (omega arith) in
-    let z : length (zeros n) ≡ n = length-replicate n 0 in
-    let p : a ≡ h ++ zeros n ++ zeros (36 - n) =
-    ea ∙ behind [] h (zeros 60) 0 refl ∙ ap (λ (l : List ℕ). h ++ l) (after-head h n k (omega arith))
-    ∙ sym (append-assoc h (zeros n) (zeros (36 - n))) in
-    let j : length (h ++ (zeros n ++ x)) ≡ 24 + (n + length x) =
-    length-append h (zeros n ++ x) ∙ omega (arith, length-append (zeros n) x) in
-    let v : 36 - n - length x ≡ 60 - length (h ++ (zeros n ++ x)) = omega arith in
-    eb ∙ ap₂ (λ (l y : List ℕ). paste l (24 + n) y (length y)) p f
-    ∙ behind (h ++ zeros n) x (zeros (36 - n)) (24 + n) (omega (arith, length-append h (zeros n)))
-    ∙ ap₂ (λ (l y : List ℕ). l ++ y) (append-assoc h (zeros n) x) (drop-zeros (length x) (36 - n) ∙ ap zeros v)
+-- the first of three bytes of kind 1
+pub ones-are : (n : ℕ) → n ≤ 3 → take n (replicate {A = ℕ} 3 1) ≡ replicate n 1
+ones-are zero h = refl
+ones-are (suc zero) h = refl
+ones-are (suc (suc zero)) h = refl
+ones-are (suc (suc (suc zero))) h = refl
+ones-are (suc (suc (suc (suc n)))) h = absurd (omega arith)
 
--- the signed header with zeros for the MAC, as its two parts are laid into zeros
-pub blank-is : (g a : List ℕ) (k r added n : ℕ) {h b : List ℕ} → Room g added n → h ≡ headBytes (added / 4) k r n g
-    → a ≡ paste (zeros 60) 0 h (length h)
-    → b ≡ paste a (20 + added) (take (length g - 20) (drop 20 g)) (length (take (length g - 20) (drop 20 g)))
-    → b ≡ padded 60 (inserted (optionOf k r (zeros n)) g)
-unfolding headBytes
-blank-is g a k r added n {h = h} has eh ea eb =
-    let z : length (zeros n) ≡ n = length-replicate n 0 in
-    let e : h ≡ headBytes (words (length (zeros n))) k r (length (zeros n)) g =
-    eh ∙ (λ i. headBytes (has .is i / 4) k r n g) ∙ (λ i. headBytes (words (sym z i)) k r (sym z i) g) in
-    let j : 20 + added ≡ 24 + n = omega (arith, has .is) in
-    let y = drop 20 g in
-    blanked g h a n (has .low) (omega (arith, has .is, has .long)) (ap length eh) ea
-    (eb ∙ ap (λ (i : ℕ). paste a i (take (length g - 20) y) (length (take (length g - 20) y))) j)
-    ∙ ap (padded 60) (ap (λ (l : List ℕ). l ++ (zeros n ++ y)) e ∙ sym (header-is k r (zeros n) g (has .low)))
+-- the signed header with zeros for the MAC, as its three parts are laid into zeros
+module _ (g a c ones : List ℕ) (k r added n : ℕ) (has : Room g added n) where
+  abbrev rest : List ℕ
+  rest = drop 20 g
+
+  abbrev laid-head : List ℕ
+  laid-head = headBytes (added / 4) k r n g
+
+  abbrev with-padding : List ℕ
+  with-padding = laid-head ++ (zeros n ++ replicate (padding n) 1)
+
+  length-padding : length (replicate {A = ℕ} (padding n) 1) ≡ padding n
+  length-padding = length-replicate (padding n) 1
+
+  length-with-padding : length with-padding ≡ 20 + added
+  unfolding headBytes
+  length-with-padding =
+      let z : length (zeros n) ≡ n = length-replicate n 0 in
+      omega (arith, has .is, length-append (zeros n) (replicate (padding n) 1), length-padding)
+
+  whole : inserted (optionOf k r (zeros n)) g ≡ with-padding ++ rest
+  whole =
+      let z : length (zeros n) ≡ n = length-replicate n 0 in
+      header-is k r (zeros n) g (has .low)
+      ∙ (λ i. headBytes (words (z i)) k r (z i) g ++ (zeros n ++ after (z i) g))
+      ∙ (λ i. headBytes (sym (has .is) i / 4) k r n g ++ (zeros n ++ after n g))
+      ∙ ap (λ (l : List ℕ). laid-head ++ l) (sym (append-assoc (zeros n) (replicate (padding n) 1) rest))
+      ∙ sym (append-assoc laid-head (zeros n ++ replicate (padding n) 1) rest)
+
+  pub blank-is : {h b : List ℕ} → h ≡ laid-head → a ≡ paste (zeros 60) 0 h (length h)
+      → ones ≡ replicate (padding n) 1 → c ≡ paste a (20 + (4 + n)) ones (length ones)
+      → b ≡ paste c (20 + added) (take (length g - 20) rest) (length (take (length g - 20) rest))
+      → b ≡ padded 60 (inserted (optionOf k r (zeros n)) g)
+  unfolding headBytes
+  blank-is eh ea eo ec eb =
+      let lr : length rest ≡ length g - 20 = length-drop 20 g in
+      let all : take (length g - 20) rest ≡ rest = take-all (length g - 20) rest (omega arith) in
+      let w = has .is in
+      let s = has .short in
+      let l = has .long in
+      let first : a ≡ padded 60 laid-head =
+      laid [] laid-head 0 0 60 refl (omega arith) refl (ea ∙ ap (λ (x : List ℕ). paste (zeros 60) 0 x (length x)) eh) in
+      let second : c ≡ padded 60 with-padding =
+      laid laid-head (replicate (padding n) 1) n (20 + (4 + n)) 60 (omega arith) (omega (arith, length-padding)) first
+      (ec ∙ ap (λ (x : List ℕ). paste a (20 + (4 + n)) x (length x)) eo) in
+      laid with-padding rest 0 (20 + added) 60 (omega (arith, length-with-padding)) (omega (arith, lr)) second
+      (eb ∙ ap (λ (x : List ℕ). paste c (20 + added) x (length x)) all)
+      ∙ ap (padded 60) (sym whole)
 
 -- Signing, of a segment and a secret that the tests left.
 module _ (x : ℕ) (e : Secret) (q : State) (s : List ℕ) (can : Signable s e) where
@@ -177,11 +223,11 @@ module _ (x : ℕ) (e : Secret) (q : State) (s : List ℕ) (can : Signable s e) 
   pub has-room : {end added : ℕ} → end ≡ headerEnd s → added ≡ optionBytes n → Room (take end s) added n
   has-room {end = end} h is =
       let l = cut h in
-      let w = can .fits .words in
+      let w = whole-words n in
       let m = can .header in
       let o = can .low in
       let b : getD (take end s) 12 0 ≡ getD s 12 0 = getD-take end s 12 0 (omega arith) in
-      record { low = omega arith; long = omega arith; words = omega arith; short = can .fits .short; is = is }
+      record { low = omega arith; long = omega arith; words = omega arith; short = can .short; is = is }
 
   pub starts-is : {end added ext : ℕ} {f : Flow} (m : MacContext) (h : List ℕ) → end ≡ headerEnd s → added ≡ optionBytes n
       → f ≡ flow → ext ≡ extensionOf x → h ≡ padded 60 (inserted (optionOf (q .«send_id») (q .«ask_id») (zeros n)) (take end s))
@@ -212,7 +258,7 @@ module _ (x : ℕ) (e : Secret) (q : State) (s : List ℕ) (can : Signable s e) 
   mac = segmentMac e flow (extensionOf x) 20 (signedWith (q .«send_id») (q .«ask_id») (zeros n) s)
 
   length-of-mac : length mac ≡ n
-  length-of-mac = length-mac e flow (extensionOf x) 20 (signedWith (q .«send_id») (q .«ask_id») (zeros n) s) (can .fits .short)
+  length-of-mac = length-mac e flow (extensionOf x) 20 (signedWith (q .«send_id») (q .«ask_id») (zeros n) s) (can .short)
 
   tag-is : (tag : List ℕ) → tag ≡ tagOf e flow (extensionOf x) 20 (length s + optionBytes n) blank (drop (headerEnd s) s) → take n tag ≡ mac
   unfolding withOption headBytes
@@ -221,17 +267,17 @@ module _ (x : ℕ) (e : Secret) (q : State) (s : List ℕ) (can : Signable s e) 
       let r = q .«ask_id» in
       let d = drop (headerEnd s) s in
       let z = n-zeros in
-      let hdr = headBytes (words (length (zeros n))) k r (length (zeros n)) old ++ (zeros n ++ drop 20 old) in
+      let hdr = headBytes (words (length (zeros n))) k r (length (zeros n)) old ++ (zeros n ++ after (length (zeros n)) old) in
       let g : blank ≡ hdr = header-is k r (zeros n) old enough in
       let a : length hdr ≡ headerEnd s + optionBytes n = sym (ap length g) ∙ blank-long in
       let o : getD old 12 0 ≡ getD s 12 0 = getD-take (headerEnd s) s 12 0 (omega (arith, can .low)) in
-      let w = can .fits .words in
+      let w = whole-words n in
       let v = ap words z in
       let c : length d ≡ length s - headerEnd s = length-drop (headerEnd s) s in
       let i = can .inside in
       ap (take n) (t ∙ ap (λ (l : List ℕ). tagOf e flow (extensionOf x) 20 (length s + optionBytes n) l d) g)
       ∙ tag-mac-parts e flow (extensionOf x) 20 (length s + optionBytes n) hdr d (omega (arith, a, o, w, v)) (omega (arith, a, c, i))
-      (can .fits .short)
+      (can .short)
       ∙ ap (λ (l : List ℕ). segmentMac e flow (extensionOf x) 20 (l ++ d)) (sym g)
 
   module _ (b : SignBegun) (ready : Ready x e q s b) where
@@ -264,7 +310,7 @@ module _ (x : ℕ) (e : Secret) (q : State) (s : List ℕ) (can : Signable s e) 
     pub writable : (out : List ℕ) → length s + optionBytes n ≤ length out → Writable b s out
     writable out room =
         record {
-          short = omega (arith, ready .bytes, can .fits .short);
+          short = omega (arith, ready .bytes, can .short);
           inside = can .inside;
           header = omega (arith, ready .added, can .header);
           room = omega (arith, ready .added, room);

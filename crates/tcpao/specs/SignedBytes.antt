@@ -1,5 +1,4 @@
--- A signed header as the code writes it: the first 24 bytes, the MAC, and what stood behind byte 20. Document 01, "Signing puts TCP-AO
--- directly after byte 20, the old options behind it, raises the data offset by 4, and writes checksum zero." A reader need not believe
+-- A signed header as the code writes it: the first 24 bytes, the MAC, its padding, and what stood behind byte 20. A reader need not believe
 -- these: the calls cite the crate `rules` alone.
 use Prim.Native.Nat.{ℕ, _+_, _*_, _/_, _≤_, _<_}
 use mathlib.Core.Path.{_≡_}
@@ -7,7 +6,7 @@ use mathlib.Core.List.{List, [], _∷_}
 use lib.ListN.{length, getD}
 use Rattle.wire.specs.Header.{headerEnd}
 use Rattle.keys.specs.declared.entry.Secret.{Secret}
-use Rattle.rules.specs.Segment.{optionBytes, Fits}
+use Rattle.rules.specs.Segment.{optionBytes}
 
 -- the header's twenty bytes with w words more and the checksum zero, then the first four of a TCP-AO whose MAC has n bytes
 unfoldable pub headBytes : ℕ → ℕ → ℕ → ℕ → List ℕ → List ℕ
@@ -29,4 +28,4 @@ pub record Signable (s : List ℕ) (secret : Secret) : Type 0 where
   pub low : 20 ≤ headerEnd s
   pub inside : headerEnd s ≤ length s
   pub header : headerEnd s + optionBytes (secret .«mac_bytes») ≤ 60
-  pub fits : Fits (secret .«mac_bytes»)
+  pub short : secret .«mac_bytes» ≤ 16

@@ -13,10 +13,10 @@ use checks::check::check;
 use checks::check::check_syn;
 use keys::entry::Ids;
 use keys::entry::Pair;
-use rules::Checked;
 use rules::Judged;
 use rules::Outcome;
 use rules::State;
+use rules::SynJudged;
 use rules::Verdict;
 use states::position::extension_of;
 use states::writers::empty;
@@ -132,7 +132,7 @@ pub fn judge_syn(
     destination: &[u8],
     segment: &[u8],
     strict: bool,
-) -> Checked
+) -> SynJudged
     ensures answer { λ r. ⌜ r
         ≡ judgedSyn (now (table .entry)) (arrivalOf (now (source .entry)) (now (destination .entry)) (now (segment .entry))) strict ⌝ }
     ensures number { λ r. ⌜ verdictAnswer (r .verdict) (r .index)
@@ -141,7 +141,7 @@ pub fn judge_syn(
     let o = check_syn(table, source, destination, segment, strict);
     let verdict = verdict_of(o);
     let index = index_of(o);
-    Checked { verdict, index }
+    SynJudged { verdict, index }
 }
 
 // "only on accept, opens with the entry found, then applies the key rule": its IDs, which judging found.

@@ -33,13 +33,14 @@ pub fn begin(table: &[u8], segment: &[u8], room: usize, state: State) -> SignBeg
     };
     let header = header_of(segment, segment.len());
     let found = keys::table::find_send(table, conn.pair, state.send_id);
-    let added = added_bytes(found);
+    let entry = found.entry;
+    let secret = entry.secret;
+    let added = added_bytes(secret.mac_bytes);
     let outcome = sign_faults(room, added, found.there, state, header);
     let Outcome::Good(x, _) = outcome else {
         return nothing(outcome);
     };
-    let entry = found.entry;
-    ready(x, added, entry.secret, state, header.end, segment)
+    ready(x, added, secret, state, header.end, segment)
 }
 
 // The signed header, then the data: only these bytes of the output change.

@@ -23,7 +23,7 @@ use traffic::context::MacContext;
 use traffic::context::unused;
 use traffic::flow::Flow;
 
-// The outcome: a number, or the position with the asked RecvID. Where it is Good: how many bytes TCP-AO adds; the signed header with zeros
+// The outcome: a number, or the position with the asked RecvID. Where it is Good: how many bytes signing adds; the signed header with zeros
 // for the MAC, in an array that has room for the longest; and the MAC after its front, to be cut to so many bytes. Else these mean nothing.
 pub struct SignBegun {
     pub outcome: Outcome,
@@ -105,15 +105,18 @@ fn head_of(header: &[u8], words: u8, key_id: u8, rnext_key_id: u8, n: u8) -> [u8
     ]
 }
 
-// The signed header with zeros for the MAC's n bytes: the option of `added` bytes stands behind byte 20, the old options behind it.
+// The signed header with zeros for the MAC's n bytes: TCP-AO stands behind byte 20, its padding and then the old options behind it.
 fn blank_header(header: &[u8], added: usize, key_id: u8, rnext_key_id: u8, n: u8) -> [u8; 60]
     requires { ⌜ Room (now header) added n ⌝ }
     ensures { λ r. ⌜ r ≡ padded 60 (inserted (optionOf «key_id» «rnext_key_id» (replicate n 0)) (now (header .entry))) ⌝ }
 {
     let words = (added / 4) as u8;
     let head = head_of(header, words, key_id, rnext_key_id, n);
+    let padding = [1u8; 3];
+    let used = 4 + n as usize;
     let mut h = [0u8; 60];
     octets::copy_at(&mut h, 0, &head);
+    octets::copy_at(&mut h, 20 + used, &padding[..added - used]);
     octets::copy_at(&mut h, 20 + added, &header[20..]);
     h
 }

@@ -53,7 +53,7 @@ tagged s f a b ev eu er =
 abbrev pub tagOf : Secret → Flow → ℕ → ℕ → ℕ → List ℕ → List ℕ → List ℕ
 tagOf s f extension at len h d = padded digestRoom (applied (s .algorithm) (trafficKey s f) (front s f extension at len h ++ d))
 
--- "The leftmost 12 bytes are the MAC": as many as the entry has, where a tag has so many
+-- the leftmost bytes are the MAC: as many as the entry has, where a tag has so many
 pub tag-mac : (s : Secret) (f : Flow) (extension at : ℕ) (segment : List ℕ) → s .«mac_bytes» ≤ 16
     → take (s .«mac_bytes») (tagOf s f extension at (length segment) (take (headerEnd segment) segment) (drop (headerEnd segment) segment))
     ≡ segmentMac s f extension at segment

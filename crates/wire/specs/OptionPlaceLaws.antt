@@ -81,13 +81,13 @@ read-placed zero at (k ∷ r) =
     go false false false x y e a b = all-more (k ∷ r) at o y (here e) b
 
 -- What is known of the occurrences of kind k in the area s. Where there is none, `at` and `len` are 0.
-pub record Within (s : List ℕ) (k : ℕ) (o : Occurrence) : Type 0 where
+pub record Occurs (s : List ℕ) (k : ℕ) (o : Occurrence) : Type 0 where
   pub inside : o .at + o .len ≤ length s
   pub long : 0 < o .count → least k ≤ o .len
   pub kinds : 0 < o .count → getD s (o .at) 0 ≡ k
   pub lens : 0 < o .count → getD s (o .at + 1) 0 ≡ o .len
 
-first-within : (s : List ℕ) (k : ℕ) (o : Option) (n : ℕ) → o .kind ≡ k → Placed s 0 o → Within s k (record { count = n; at = o .at; len = o .len })
+first-within : (s : List ℕ) (k : ℕ) (o : Option) (n : ℕ) → o .kind ≡ k → Placed s 0 o → Occurs s k (record { count = n; at = o .at; len = o .len })
 first-within s k o n e p =
     let w = p .within in
     let z : o .at - 0 ≡ o .at = omega arith in
@@ -98,19 +98,19 @@ first-within s k o n e p =
       lens = λ h. ap (λ (j : ℕ). getD s (j + 1) 0) (sym z) ∙ p .lens;
     }
 
-of-kind : (s : List ℕ) (k : ℕ) (l : List Option) → Each (Placed s 0) l → Within s k (occurrences k l)
+of-kind : (s : List ℕ) (k : ℕ) (l : List Option) → Each (Placed s 0) l → Occurs s k (occurrences k l)
 of-kind s k [] h = record { inside = omega arith; long = λ z. absurd (omega arith); kinds = λ z. absurd (omega arith); lens = λ z. absurd (omega arith) }
 of-kind s k (o ∷ l) h = go (eqb (o .kind) k) refl (of-kind s k l (h .1)) where
-  go : (t : Bool) → eqb (o .kind) k ≡ t → Within s k (occurrences k l) → Within s k (occurrence (cond t (o ∷ ofKind k l) (ofKind k l)))
+  go : (t : Bool) → eqb (o .kind) k ≡ t → Occurs s k (occurrences k l) → Occurs s k (occurrence (cond t (o ∷ ofKind k l) (ofKind k l)))
   go true e w = first-within s k o (1 + length (ofKind k l)) (eqb-true (o .kind) k e) (h .0)
   go false e w = w
 
 -- what is found lies inside the area
-pub found-within : (s : List ℕ) (e : Seen) → optionsOf s ≡ Found e → Within s 19 (e .md5) × Within s 29 (e .ao)
+pub found-within : (s : List ℕ) (e : Seen) → optionsOf s ≡ Found e → Occurs s 19 (e .md5) × Occurs s 29 (e .ao)
 unfolding optionsOf
 found-within s e q = go (readFrom 0 0 s) (read-placed 0 0 s) q where
-  go : (x : Reading) → All s 0 x → seen x ≡ Found e → Within s 19 (e .md5) × Within s 29 (e .ao)
+  go : (x : Reading) → All s 0 x → seen x ≡ Found e → Occurs s 19 (e .md5) × Occurs s 29 (e .ao)
   go malformed h q = let z : _≡_ {A = ℕ} 0 1 = cc in absurd (omega arith)
   go (options l) h q =
       let u : record { md5 = occurrences 19 l; ao = occurrences 29 l } ≡ e = cc in
-      (subst (λ (y : Seen). Within s 19 (y .md5)) u (of-kind s 19 l h), subst (λ (y : Seen). Within s 29 (y .ao)) u (of-kind s 29 l h))
+      (subst (λ (y : Seen). Occurs s 19 (y .md5)) u (of-kind s 19 l h), subst (λ (y : Seen). Occurs s 29 (y .ao)) u (of-kind s 29 l h))

@@ -210,10 +210,12 @@ fn arriving(random: &mut Prng, function: Function, at: &At, arrival: Arrival, ai
         Some(key) if !aim.has(26) => key.recv_id,
         key => wrong_id(random, at.keys, key.as_ref()),
     };
+    // For 27 a length that the entry has not: often one byte off, or that of a 12-byte MAC.
+    let right = key.as_ref().map_or(16, Entry::ao_length);
     let length = if aim.has(27) {
-        random.pick(&[4, 8, 15, 17, 18, 20])
+        random.pick(&[4, 8, 16, 16, 20, 21, right - 1, right + 1, right + 1])
     } else {
-        16
+        right
     };
     let rnext_key_id = some_id(random, at.keys);
     let mut options = vec![];
@@ -224,7 +226,7 @@ fn arriving(random: &mut Prng, function: Function, at: &At, arrival: Arrival, ai
         let second = if random.one_in(2) {
             segments::md5(random)
         } else {
-            ao(random.pick(&[4, 16]), key_id, rnext_key_id)
+            ao(random.pick(&[4, 9, 16]), key_id, rnext_key_id)
         };
         options.insert(random.below(options.len() + 1), second);
     } else if aim.has(25) {
@@ -303,6 +305,16 @@ fn other_pair(random: &mut Prng, pair: &mut Pair) {
 pub fn sign(random: &mut Prng, at: &At, aim: &Aim) -> Call {
     let mut state = State::read(at.state).unwrap();
     let pair = state.pair();
+    let of_id = |id: u8| move |key: &&Entry| key.send_id == id;
+    let mut good = at.keys.iter().filter(|key| matches(key, &pair));
+    if aim.has(35) {
+        state.outgoing_send_id = some_id(random, at.keys);
+    } else if !good.clone().any(|key| of_id(state.outgoing_send_id)(&key)) {
+        let any = matching(random, at.keys, &pair);
+        state.outgoing_send_id = any.map_or(state.outgoing_send_id, |key| key.send_id);
+    }
+    let key = good.find(of_id(state.outgoing_send_id));
+    let added = key.map_or(16, Entry::added);
 
     let (sequence, flags) = if state.is_open() {
         let x = near(random, state.signing_reference, aim.has(36));
@@ -330,16 +342,21 @@ pub fn sign(random: &mut Prng, at: &At, aim: &Aim) -> Call {
             ao(random.pick(&[4, 16]), 1, 1)
         });
     }
-    let mut area = segments::area(random, &options, if aim.has(32) { 40 } else { 24 });
+    let free = 40 - added;
+    let mut area = segments::area(random, &options, if aim.has(32) { 40 } else { free });
     if aim.has(31) && options.is_empty() {
         segments::spoil_area(random, &mut area);
     }
-    let mut data = segments::data(random, 65_499 - area.len());
+    let most = 65_515 - added - area.len();
+    let mut data = segments::data(random, most);
     if aim.has(32) {
         if random.one_in(2) {
-            area.resize(28 + 4 * random.below(4), 1);
+            // The header has no room, by one word or by more.
+            let more = random.below(added / 4);
+            area.resize(free + random.pick(&[4, 4 + 4 * more]), 1);
         } else {
-            data.resize(65_500 - area.len() + random.pick(&[0, 1, 15]), 7);
+            // The result is too long, often by less than what pads TCP-AO.
+            data.resize(most + random.pick(&[1, 1, 2, 3, 16]), 7);
         }
     }
     let mut segment = Segment {
@@ -359,19 +376,12 @@ pub fn sign(random: &mut Prng, at: &At, aim: &Aim) -> Call {
         segments::spoil_length(random, &mut segment);
     }
 
-    if aim.has(35) {
-        state.outgoing_send_id = some_id(random, at.keys);
-    } else {
-        let outgoing = state.outgoing_send_id;
-        let has_it = |key: &Entry| key.send_id == outgoing && matches(key, &pair);
-        if let (false, Some(key)) = (at.keys.iter().any(has_it), matching(random, at.keys, &pair)) {
-            state.outgoing_send_id = key.send_id;
-        }
-    }
-    let signed = segment.len() + 16;
+    let signed = segment.len() + added;
     let room = if aim.has(37) {
+        // Often room for TCP-AO alone, and not for what pads it.
+        let unpadded = key.map_or(16, |key| key.ao_length().into());
         let any = random.below(signed);
-        random.pick(&[0, signed - 1, any])
+        random.pick(&[0, signed - 1, segment.len() + unpadded.min(added - 1), any])
     } else {
         signed + random.pick(&[0, 0, 1, 40])
     };

@@ -3,6 +3,9 @@
 use kit::pointers::{Buffer, Buffers, Calls};
 use kit::{calls_of, Call, Outcome};
 
+/// What the reference is compared with.
+pub const NAME: &str = "archive";
+
 const ARCHIVE: Calls = calls_of!(Calls, embankery::raw::c);
 
 /// What stands before, between and behind the buffers, and must stay.

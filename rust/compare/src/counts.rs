@@ -4,8 +4,8 @@ use crate::numbers::{possible, ALL};
 use crate::unknown::{Matched, Unknown};
 use kit::Function::{JudgeSyn, OpenPassive};
 use kit::{Call, Function, Outcome};
-use reference::segment::{read_options, Header};
-use reference::table::{self, by_recv_id, Algorithm};
+use reference::segment::{read_options, AoOption, Header};
+use reference::table::{self, by_recv_id, by_send_id, Algorithm, Entry};
 use reference::State;
 
 /// How often each number and each situation must be met.
@@ -39,6 +39,8 @@ struct Seen<'a> {
 
 struct Accepted {
     position: u64,
+    kind: u8,
+    mac_bytes: usize,
     algorithm: Algorithm,
     covers_options: bool,
     key_changed: bool,
@@ -55,7 +57,7 @@ enum Asked {
 
 type Situation = (&'static str, fn(&Seen) -> bool);
 
-const SITUATIONS: [Situation; 40] = [
+const SITUATIONS: [Situation; 77] = [
     ("accepted at the reference: repeated", |seen| {
         seen.open(|a, reference| a.position == reference)
     }),
@@ -194,7 +196,83 @@ const SITUATIONS: [Situation; 40] = [
             passed && seen.before != State::EMPTY
         },
     ),
+    ("accepted under an entry of kind 4", accepted_kind::<4>),
+    ("accepted under an entry of kind 5", accepted_kind::<5>),
+    ("accepted under an entry of kind 6", accepted_kind::<6>),
+    ("accepted under an entry of kind 7", accepted_kind::<7>),
+    ("accepted, a MAC of 4 bytes", accepted_mac::<4>),
+    ("accepted, a MAC of 5 bytes", accepted_mac::<5>),
+    ("accepted, a MAC of 6 bytes", accepted_mac::<6>),
+    ("accepted, a MAC of 7 bytes", accepted_mac::<7>),
+    ("accepted, a MAC of 8 bytes", accepted_mac::<8>),
+    ("accepted, a MAC of 9 bytes", accepted_mac::<9>),
+    ("accepted, a MAC of 10 bytes", accepted_mac::<10>),
+    ("accepted, a MAC of 11 bytes", accepted_mac::<11>),
+    ("accepted, a MAC of 12 bytes", accepted_mac::<12>),
+    ("accepted, a MAC of 13 bytes", accepted_mac::<13>),
+    ("accepted, a MAC of 14 bytes", accepted_mac::<14>),
+    ("accepted, a MAC of 15 bytes", accepted_mac::<15>),
+    ("accepted, a MAC of 16 bytes", accepted_mac::<16>),
+    ("signed, a MAC of 4 bytes", signed_mac::<4>),
+    ("signed, a MAC of 5 bytes", signed_mac::<5>),
+    ("signed, a MAC of 6 bytes", signed_mac::<6>),
+    ("signed, a MAC of 7 bytes", signed_mac::<7>),
+    ("signed, a MAC of 8 bytes", signed_mac::<8>),
+    ("signed, a MAC of 9 bytes", signed_mac::<9>),
+    ("signed, a MAC of 10 bytes", signed_mac::<10>),
+    ("signed, a MAC of 11 bytes", signed_mac::<11>),
+    ("signed, a MAC of 12 bytes", signed_mac::<12>),
+    ("signed, a MAC of 13 bytes", signed_mac::<13>),
+    ("signed, a MAC of 14 bytes", signed_mac::<14>),
+    ("signed, a MAC of 15 bytes", signed_mac::<15>),
+    ("signed, a MAC of 16 bytes", signed_mac::<16>),
+    ("27 of a 12-byte MAC under an entry of another", |seen| {
+        let twelve = |ao: &AoOption| ao.length == 16;
+        seen.drops(27) && seen.ao().as_ref().is_some_and(twelve)
+    }),
+    (
+        "32, the data offset at most 15 but for the padding",
+        |seen| seen.too_large(|header, key, _| header.data_offset + (4 + key.mac_bytes) / 4 <= 15),
+    ),
+    (
+        "32, the result at most 65,535 bytes but for the padding",
+        |seen| {
+            seen.too_large(|header, key, bytes| {
+                let fits = header.data_offset + (7 + key.mac_bytes) / 4 <= 15;
+                fits && bytes + 4 + key.mac_bytes <= 65_535
+            })
+        },
+    ),
+    ("35 of a segment too large for a 12-byte MAC", |seen| {
+        let large = |header: Header| header.data_offset > 11 || seen.call.segment.len() > 65_519;
+        let refused = seen.call.function == Function::Sign && seen.outcome.number() == 35;
+        refused && Header::read(&seen.call.segment).is_some_and(large)
+    }),
+    ("37, room for TCP-AO and not for its padding", |seen| {
+        let room = seen.call.out.len();
+        let short = |key: &Entry| room >= seen.call.segment.len() + 4 + key.mac_bytes;
+        seen.outcome.number() == 37 && seen.with_key(short)
+    }),
+    ("signed, padded, options behind", |seen| {
+        let options = Header::read(&seen.call.segment).is_some_and(|h| h.data_offset > 5);
+        seen.signed() && options && seen.with_key(|key| key.mac_bytes % 4 != 0)
+    }),
+    ("signed, padded, options left out of the MAC", |seen| {
+        seen.signed() && seen.with_key(|key| key.mac_bytes % 4 != 0 && !key.covers_options)
+    }),
 ];
+
+fn accepted_kind<const KIND: u8>(seen: &Seen) -> bool {
+    seen.accepts(|a| a.kind == KIND)
+}
+
+fn accepted_mac<const BYTES: usize>(seen: &Seen) -> bool {
+    seen.accepts(|a| a.mac_bytes == BYTES)
+}
+
+fn signed_mac<const BYTES: usize>(seen: &Seen) -> bool {
+    seen.signed() && seen.with_key(|key| key.mac_bytes == BYTES)
+}
 
 impl<'a> Seen<'a> {
     fn new(call: &'a Call, outcome: &'a Outcome) -> Seen<'a> {
@@ -234,6 +312,38 @@ impl<'a> Seen<'a> {
             && self.accepts(|a| a.algorithm == algorithm && a.covers_options == covers_options)
     }
 
+    fn signed(&self) -> bool {
+        self.call.function == Function::Sign && self.outcome.number() == 0
+    }
+
+    /// The segment's TCP-AO.
+    fn ao(&self) -> Option<AoOption> {
+        let header = Header::read(&self.call.segment)?;
+        read_options(&self.call.segment, &header)?.ao
+    }
+
+    /// Whether the entry of the outgoing key is one of these.
+    fn with_key(&self, which: impl Fn(&Entry) -> bool) -> bool {
+        let entries = table::read(&self.call.table).unwrap_or_default();
+        let id = self.before.outgoing_send_id;
+        let found = |pair| by_send_id(&entries, &pair, id);
+        self.before
+            .pair()
+            .and_then(found)
+            .as_ref()
+            .is_some_and(which)
+    }
+
+    /// Whether signing gave 32, of such a header, entry and length.
+    fn too_large(&self, which: impl Fn(&Header, &Entry, usize) -> bool) -> bool {
+        if self.call.function != Function::Sign || self.outcome.number() != 32 {
+            return false;
+        }
+        let bytes = self.call.segment.len();
+        let of_header = |header| self.with_key(|key| which(&header, key, bytes));
+        Header::read(&self.call.segment).is_some_and(of_header)
+    }
+
     /// Whether it was dropped with this number on an open connection.
     fn drops(&self, number: u8) -> bool {
         let judged = self.call.function == Function::Judge && self.before.is_open();
@@ -250,13 +360,7 @@ impl<'a> Seen<'a> {
 
 /// How many entries a table has that is not refused.
 fn entries(table: &[u8]) -> usize {
-    let mut count = 0;
-    let mut at = 0;
-    while at < table.len() {
-        at += if table[at] == 4 { 104 } else { 128 };
-        count += 1;
-    }
-    count
+    table::read(table).map_or(0, |entries| entries.len())
 }
 
 /// What an accepted segment was accepted by.
@@ -274,6 +378,8 @@ fn accepted(call: &Call, outcome: &Outcome, before: &State) -> Option<Accepted> 
     };
     Some(Accepted {
         position: (outcome.value() as u64) << 32 | header.sequence as u64,
+        kind: entry.kind,
+        mac_bytes: entry.mac_bytes,
         algorithm: entry.algorithm,
         covers_options: entry.covers_options,
         key_changed: outcome.state[2] != before.outgoing_send_id,

@@ -4,9 +4,16 @@
 //! Each is made on the archive ([`archive`]) and on the reference ([`against`]), and after each the
 //! answer, the state, the output and what stands around them are compared ([`compare`]). Which
 //! numbers and which situations were met is counted ([`counts`], [`numbers`], [`unknown`]).
+//!
+//! Without the feature `archive` the reference stands in the archive's place: what the calls meet, and
+//! which planted faults they find, is then seen where there is no archive.
 
 pub mod against;
 pub mod aim;
+#[cfg(feature = "archive")]
+pub mod archive;
+#[cfg(not(feature = "archive"))]
+#[path = "no_archive.rs"]
 pub mod archive;
 pub mod compare;
 pub mod counts;

@@ -150,7 +150,7 @@ pub fn seal(segment: &mut [u8], key: &Entry, ends: &Ends, extension: u32) {
     let Some(ao) = read_options(segment, &header).and_then(|options| options.ao) else {
         return;
     };
-    if ao.length < 16 {
+    if ao.length < 4 + entry.mac_bytes {
         return;
     }
     let carrier = WithAo {
@@ -159,5 +159,5 @@ pub fn seal(segment: &mut [u8], key: &Entry, ends: &Ends, extension: u32) {
         ao,
     };
     let mac = mac::mac(&entry, ends, extension, &carrier);
-    segment[ao.at + 4..ao.at + 16].copy_from_slice(&mac);
+    segment[ao.at + 4..ao.at + 4 + mac.len()].copy_from_slice(&mac);
 }

@@ -117,7 +117,17 @@ fn for_pair(random: &mut Prng, pair: &Pair) -> Entry {
         recv_id: id(random),
         local: side_around(random, &pair.local, pair.local_port),
         remote: side_around(random, &pair.remote, pair.remote_port),
+        mac_length: mac_length(random),
         key: random.bytes(length),
+    }
+}
+
+/// The MAC's length, unsaid in one entry of three: kinds 4 and 6.
+fn mac_length(random: &mut Prng) -> Option<u8> {
+    match random.below(6) {
+        0..=1 => None,
+        2 => Some(12),
+        _ => Some(4 + random.below(13) as u8),
     }
 }
 
@@ -153,6 +163,10 @@ fn relative(random: &mut Prng, this: &Entry) -> Entry {
     }
     if random.one_in(4) {
         entry.local = near(random, &this.local);
+    }
+    if random.one_in(2) {
+        // Often of the other kind of its family.
+        entry.mac_length = mac_length(random);
     }
     random.flip(&mut entry.key);
     entry
@@ -210,7 +224,8 @@ pub fn around(random: &mut Prng, pair: &Pair) -> Vec<Entry> {
     keys
 }
 
-/// The other end's table: mirrors, now and then one missing, or for another pair only.
+/// The other end's table: mirrors, now and then one missing, for another pair only, or with another MAC's
+/// length. A length of 12 is often said at one end and left unsaid at the other.
 pub fn other_end(random: &mut Prng, keys: &[Entry]) -> Vec<Entry> {
     let mut theirs = vec![];
     for key in keys {
@@ -218,6 +233,14 @@ pub fn other_end(random: &mut Prng, keys: &[Entry]) -> Vec<Entry> {
         match random.below(8) {
             0 => continue,
             1 => key.local = near(random, &key.local),
+            2 if random.one_in(3) => key.mac_length = mac_length(random),
+            _ if random.one_in(2) => {
+                key.mac_length = match key.mac_length {
+                    None => Some(12),
+                    Some(12) => None,
+                    other => other,
+                }
+            }
             _ => {}
         }
         theirs.push(key);
@@ -263,9 +286,9 @@ fn too_many(random: &mut Prng, entries: &mut Vec<Vec<u8>>) {
             key.bytes()
         })
         .collect();
-    let length = random.pick(&[1, 1, 20, 104, 128]);
+    let length = random.pick(&[1, 1, 20, 104, 105, 128, 129]);
     let mut behind = random.bytes(length);
-    behind[0] = random.pick(&[0, 4, 5, 6, 255]);
+    behind[0] = random.pick(&[0, 3, 4, 5, 6, 7, 8, 255]);
     entries.push(behind);
 }
 
@@ -286,18 +309,22 @@ fn cut(random: &mut Prng, entries: &mut [Vec<u8>]) {
     entries[at].truncate(left);
 }
 
-/// One of 11 and 13 to 16 in an entry of 104 or 128 bytes.
+/// One of 11 and 13 to 16 in a whole entry.
 fn spoil_entry(random: &mut Prng, entry: &mut [u8]) {
-    let address = match entry.len() {
-        104 => 4,
-        128 => 16,
+    // The address's bytes, and whether the MAC's length is said.
+    let (address, said) = match entry.len() {
+        104 => (4, 0),
+        105 => (4, 1),
+        128 => (16, 0),
+        129 => (16, 1),
         _ => return,
     };
-    let key_length = 15 + 2 * address;
+    let key_length = 15 + 2 * address + said;
     let prefixes = [13 + address, 14 + 2 * address];
-    match random.below(9) {
-        0 => entry[0] = random.pick(&[0, 1, 3, 4, 5, 6, 7, 255]),
+    match random.below(10) {
+        0 => entry[0] = random.pick(&[0, 1, 3, 4, 5, 6, 7, 8, 255]),
         1 => entry[1] = random.pick(&[2, 3, 128, 255]),
+        9 if said == 1 => entry[key_length - 1] = random.pick(&[0, 1, 2, 3, 17, 18, 255]),
         2 => entry[2] = random.pick(&[0, 3, 4, 255]),
         3 => {
             // Low just above high, or well above it.

@@ -248,7 +248,10 @@ impl End {
         let mut segment = sent[which].clone();
         match random.below(8) {
             0 => random.flip(&mut segment),
-            1 => random.flip(&mut segment[..36]),
+            1 => {
+                let header = 4 * usize::from(segment[12] >> 4);
+                random.flip(&mut segment[..header]);
+            }
             2 => random.flip(&mut segment[16..18]),
             3 => segment.truncate(random.below(segment.len() + 1)),
             4 | 5 => {

@@ -2,13 +2,14 @@
 //! same answer, the same state and the same output. Every number of every call is met.
 
 use compare::against::Against;
+use compare::archive::NAME;
 use compare::compare::{Run, CALLS, SEED};
 use compare::report;
 use std::time::Instant;
 
 fn main() {
     let begin = Instant::now();
-    println!("archive and reference, {CALLS} calls from seed {SEED}");
+    println!("{NAME} and reference, {CALLS} calls from seed {SEED}");
     let run = Run::new(SEED, CALLS, &[Against::Reference]).made();
     run.counts.print();
     let agree = run.difference().is_none();
@@ -19,7 +20,7 @@ fn main() {
         missed.iter().for_each(|missed| println!("{missed}"));
     }
     println!(
-        "archive and reference: {} calls from seed {SEED} in {:.1} s, {}, {}",
+        "{NAME} and reference: {} calls from seed {SEED} in {:.1} s, {}, {}",
         run.calls,
         begin.elapsed().as_secs_f64(),
         if agree {

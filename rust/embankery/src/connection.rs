@@ -147,7 +147,7 @@ pub struct Connection {
 const FAMILY: usize = 0;
 const STAGE: usize = 1;
 const SEND_ID: usize = 2;
-const ASKED_ID: usize = 3;
+const ASK_ID: usize = 3;
 const LOCAL_PORT: usize = 4;
 const REMOTE_PORT: usize = 6;
 const ISN: usize = 8;
@@ -179,7 +179,7 @@ impl Connection {
     /// let table = KeyTable::new([&Entry::ipv4().send_id(1).recv_id(2).key(b"key").build()?])?;
     /// let (here, there) = (([10, 0, 0, 1], 40_000), ([10, 0, 0, 2], 179));
     /// let connection = Connection::open_active(&table, here, there, 1_000, 1)?;
-    /// assert_eq!(connection.asked_id(), 2);
+    /// assert_eq!(connection.ask_id(), 2);
     /// assert_eq!(Connection::open_active(&table, here, there, 1_000, 7), Err(Refusal::NoEntry));
     /// # Ok::<(), embankery::Refusal>(())
     /// ```
@@ -260,8 +260,9 @@ impl Connection {
         .verdict()
     }
 
-    /// Signs a segment that has neither TCP-AO nor TCP MD5. The result's checksum is zero: the sum
-    /// is the caller's to fill in.
+    /// Signs a segment that has neither TCP-AO nor TCP MD5. It gets longer by TCP-AO: 4 bytes and the MAC
+    /// of the outgoing key's entry, filled up to whole words. The result's checksum is zero: the sum is
+    /// the caller's to fill in.
     pub fn sign(&mut self, table: &KeyTable, segment: &[u8]) -> Result<Vec<u8>, Refusal> {
         // Longer segments are refused before the output's length matters.
         let longest = segment.len().min(usize::from(u16::MAX));
@@ -369,8 +370,8 @@ impl Connection {
     }
 
     /// The RecvID asked of the peer (RFC 5925's rnext_key).
-    pub fn asked_id(&self) -> u8 {
-        self.bytes[ASKED_ID]
+    pub fn ask_id(&self) -> u8 {
+        self.bytes[ASK_ID]
     }
 
     /// Our initial sequence number.
@@ -423,7 +424,7 @@ impl fmt::Debug for Connection {
             .field("remote", &self.remote())
             .field("is_open", &self.is_open())
             .field("send_id", &self.send_id())
-            .field("asked_id", &self.asked_id())
+            .field("ask_id", &self.ask_id())
             .field("isn", &self.isn())
             .field("peer_isn", &self.peer_isn())
             .field("sent_reference", &self.sent_reference())

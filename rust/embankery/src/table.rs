@@ -45,7 +45,7 @@ impl KeyTable {
     /// let entry = Entry::ipv6().send_id(7).recv_id(9).key(b"key").build()?;
     /// let table = KeyTable::from_bytes(entry.as_bytes())?;
     /// assert_eq!(table, KeyTable::new([&entry])?);
-    /// assert_eq!(KeyTable::from_bytes([5]).unwrap_err().number(), 11);
+    /// assert_eq!(KeyTable::from_bytes([8]).unwrap_err().number(), 11);
     /// # Ok::<(), embankery::Refusal>(())
     /// ```
     pub fn from_bytes(bytes: impl Into<Vec<u8>>) -> Result<KeyTable, Refusal> {
@@ -79,7 +79,8 @@ impl fmt::Debug for KeyTable {
     }
 }
 
-/// The MAC algorithm of an entry, with its key derivation (RFC 5926).
+/// The MAC algorithm of an entry, with its key derivation (RFC 5926). Its MAC has 96 bits, 12 bytes,
+/// unless the entry says otherwise: [`EntryBuilder::mac_length`].
 #[derive(Clone, Copy, Debug, PartialEq, Eq, Hash)]
 #[non_exhaustive]
 pub enum Algorithm {
@@ -127,8 +128,8 @@ const RECV_ID: usize = 4;
 
 impl Entry {
     /// An entry for IPv4. Until the builder is told otherwise it matches every address and port,
-    /// has SendID and RecvID 0, HMAC-SHA-1-96, all options covered, and no key, which [`build`]
-    /// refuses.
+    /// has SendID and RecvID 0, HMAC-SHA-1-96, a MAC of 12 bytes, all options covered, and no key,
+    /// which [`build`] refuses.
     ///
     /// [`build`]: EntryBuilder::build
     pub fn ipv4() -> EntryBuilder {
@@ -175,6 +176,7 @@ pub struct EntryBuilder {
     recv_id: u8,
     algorithm: Algorithm,
     covered: Covered,
+    mac_length: Option<u8>,
     key: Vec<u8>,
 }
 
@@ -193,6 +195,7 @@ impl EntryBuilder {
             recv_id: 0,
             algorithm: Algorithm::HmacSha1_96,
             covered: Covered::AllOptions,
+            mac_length: None,
             key: Vec::new(),
         }
     }
@@ -247,15 +250,35 @@ impl EntryBuilder {
         self
     }
 
+    /// How many bytes the MAC has, 4 to 16, the same at both ends; 12 where it is not said. Said or not,
+    /// 12 is the same MAC: the entry is of another kind, 5 (IPv4) or 7 (IPv6) where it is said and 4 or
+    /// 6 where it is not.
+    ///
+    /// Signing adds 4 bytes and the MAC to a segment, and fills up to whole words: a MAC of 4 bytes costs
+    /// 8, one of 5 to 8 bytes 12, one of 9 to 12 bytes 16, one of 13 to 16 bytes 20.
+    ///
+    /// ```
+    /// use embankery::{Entry, Refusal};
+    ///
+    /// let entry = |bytes| Entry::ipv4().mac_length(bytes).key(b"key").build();
+    /// assert_eq!(entry(16)?.as_bytes().len(), 105);
+    /// assert_eq!(entry(17), Err(Refusal::NotListed { entry: 0 }));
+    /// # Ok::<(), Refusal>(())
+    /// ```
+    pub fn mac_length(mut self, bytes: u8) -> EntryBuilder {
+        self.mac_length = Some(bytes);
+        self
+    }
+
     /// The master key, 1 to 80 bytes, the same at both ends.
     pub fn key(mut self, key: impl AsRef<[u8]>) -> EntryBuilder {
         self.key = key.as_ref().to_vec();
         self
     }
 
-    /// The entry, if the archive allows it: a bad port range is refused with 14, a bad prefix with
-    /// 15, a key without bytes or with more than 80 with 16. An address of the other family is
-    /// refused with 19, which is this builder's own rule: no table could hold it.
+    /// The entry, if the archive allows it: a bad length of the MAC is refused with 13, a bad port range
+    /// with 14, a bad prefix with 15, a key without bytes or with more than 80 with 16. An address of the
+    /// other family is refused with 19, which is this builder's own rule: no table could hold it.
     ///
     /// ```
     /// use embankery::{Entry, Refusal};
@@ -276,11 +299,13 @@ impl EntryBuilder {
         Ok(Entry { bytes })
     }
 
-    /// The bytes, in document 01's order. A key that does not fit is cut to 80 bytes, with a length
-    /// above 80 beside it that the archive refuses.
+    /// The bytes, in document 01's order, with the MAC's length, if it is said, before the key's (document
+    /// 02, Ticket 4). A key that does not fit is cut to 80 bytes, with a length above 80 beside it that the
+    /// archive refuses.
     fn bytes(&self) -> Vec<u8> {
         const KEY_BYTES: usize = 80;
-        let kind = if self.any.is_ipv4() { 4 } else { 6 };
+        let family = if self.any.is_ipv4() { 4 } else { 6 };
+        let kind = family + u8::from(self.mac_length.is_some());
         let flags = match self.covered {
             Covered::OnlyTcpAo => 0,
             Covered::AllOptions => 1,
@@ -301,6 +326,7 @@ impl EntryBuilder {
             }
             bytes.push(side.prefix);
         }
+        bytes.extend(self.mac_length);
         bytes.push(self.key.len().min(255) as u8);
         let end = bytes.len() + KEY_BYTES;
         bytes.extend(self.key.iter().take(KEY_BYTES));

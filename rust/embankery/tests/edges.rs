@@ -58,7 +58,7 @@ struct Given {
     syn: Vec<u8>,
     /// A segment that the peer signed later.
     arriving: Vec<u8>,
-    /// A segment to be signed: it gets 16 bytes longer.
+    /// A segment to be signed: it gets 16 bytes longer, by a MAC of 12 bytes.
     leaving: Vec<u8>,
     out: Vec<u8>,
     state: Vec<u8>,
@@ -434,8 +434,10 @@ fn sign_into(g: &Given, room: usize, signed: &[u8]) {
 
 #[test]
 fn outputs_just_long_enough() {
-    let options: [&[u8]; 3] = [&[], &[1, 3, 3, 7], &[1; 24]];
     for kind in kinds() {
+        let added = kind.added();
+        let full = vec![1; 40 - added];
+        let options: [&[u8]; 3] = [&[], &[1, 3, 3, 7], &full];
         for options in options {
             for data in [0, 1, 23, 24, 1_400] {
                 let mut ends = Ends::open(kind);
@@ -446,10 +448,10 @@ fn outputs_just_long_enough() {
                     ..Given::good()
                 };
                 let signed = ends.sign(&g.leaving).unwrap();
-                assert_eq!(signed.len(), g.leaving.len() + 16);
+                assert_eq!(signed.len(), g.leaving.len() + added);
                 assert_eq!(ends.judge(&signed), Verdict::Accept { extension: 0 });
                 let need = signed.len();
-                for room in [0, 1, need - 16, need - 1, need, need + 1, need + 100] {
+                for room in [0, 1, need - added, need - 1, need, need + 1, need + 100] {
                     sign_into(&g, room, &signed);
                 }
             }
@@ -507,9 +509,10 @@ fn longest_segments() {
     for kind in kinds() {
         let mut ends = Ends::open(kind);
         let plain = |len: usize| segment(PORTS, ISNS[0] + 1, ACK, &[], &vec![3; len - 20]);
+        let most = 65_535 - kind.added();
         let g = Given {
             table: ends.tables[0].as_bytes().to_vec(),
-            leaving: plain(65_519),
+            leaving: plain(most),
             state: ends.ends[0].as_bytes().to_vec(),
             ..Given::good()
         };
@@ -518,10 +521,10 @@ fn longest_segments() {
         for room in [65_534, 65_535, 65_536] {
             sign_into(&g, room, &longest);
         }
-        for (len, number) in [(65_520, 32), (65_535, 32), (65_536, 30), (1_000_000, 30)] {
+        for (len, number) in [(most + 1, 32), (65_535, 32), (65_536, 30), (1_000_000, 30)] {
             let g = Given {
                 leaving: plain(len),
-                out: vec![0xAA; len + 16],
+                out: vec![0xAA; len + kind.added()],
                 ..g.clone()
             };
             assert_eq!(g.unchanged(Sign), word(number, 0), "{len} bytes");
@@ -544,7 +547,8 @@ fn longest_segments() {
 fn longest_syn() {
     for kind in kinds() {
         let ends = Ends::open(kind);
-        let plain = segment(PORTS, ISNS[0], SYN, &[], &vec![3; 65_499]);
+        let most = 65_515 - kind.added();
+        let plain = segment(PORTS, ISNS[0], SYN, &[], &vec![3; most]);
         let mut opening = ends.opening.clone();
         let syn = opening.sign(&ends.tables[0], &plain).unwrap();
         let g = Given {
@@ -686,7 +690,8 @@ mod last_byte {
     #[test]
     fn of_good_input() {
         for kind in kinds() {
-            for data in [0, 1, 15, 16, 27, 28, 43, 44, 63, 64, 1_400, 65_499] {
+            let most = 65_515 - kind.added();
+            for data in [0, 1, 15, 16, 27, 28, 43, 44, 63, 64, 1_400, most] {
                 let mut ends = Ends::open(kind);
                 let data = vec![5; data];
                 let arriving = segment(PORTS, ISNS[0] + 1, ACK, &[], &data);
@@ -697,7 +702,7 @@ mod last_byte {
                     destination: octets(ends.addresses[1]),
                     syn: ends.syn.clone(),
                     arriving: ends.sign(&arriving).unwrap(),
-                    out: vec![0; leaving.len() + 16],
+                    out: vec![0; leaving.len() + kind.added()],
                     leaving,
                     state: ends.ends[1].as_bytes().to_vec(),
                     ..Given::good()

@@ -3,7 +3,7 @@
 
 mod common;
 
-use common::{kinds, segment, Ends, FIRST_KIND, IDS, ISNS, PORTS};
+use common::{kinds, segment, Ends, Kind, FIRST_KIND, IDS, ISNS, PORTS};
 use embankery::{
     judge_syn, Algorithm, Connection, Covered, Entry, EntryBuilder, KeyTable, Refusal,
     UnknownKeyId, Verdict,
@@ -54,6 +54,23 @@ fn bytes_of_an_ipv6_entry() {
     assert_eq!(entry.as_bytes(), expected);
 }
 
+/// With the MAC's length said, the entry is of kind 5 or 7 and has that byte before the key's length.
+#[test]
+fn bytes_of_entries_with_a_mac_length() {
+    for bytes in 4..=16 {
+        for (entry, kind, key_length) in [(Entry::ipv4(), 4, 23), (Entry::ipv6(), 6, 47)] {
+            let entry = entry.key([7; 80]);
+            let unsaid = entry.clone().build().unwrap();
+            let said = entry.mac_length(bytes).build().unwrap();
+            let mut expected = unsaid.as_bytes().to_vec();
+            assert_eq!((expected[0], expected[key_length]), (kind, 80));
+            expected[0] = kind + 1;
+            expected.insert(key_length, bytes);
+            assert_eq!(said.as_bytes(), expected);
+        }
+    }
+}
+
 #[test]
 fn entries_refused() {
     let v4 = || Entry::ipv4().key(b"key");
@@ -78,8 +95,13 @@ fn entries_refused() {
     assert_eq!(number(v6().remote_ports(low..=high)), 14);
     assert_eq!(number(v4().local([0u16; 8], 0)), 19);
     assert_eq!(number(v6().remote([0; 4], 0)), 19);
+    for bytes in [0, 3, 17, 255] {
+        assert_eq!(number(v4().mac_length(bytes)), 13);
+        assert_eq!(number(v6().mac_length(bytes)), 13);
+    }
     // The first that applies.
     assert_eq!(number(v4().local([0; 4], 40).key([1; 99])), 15);
+    assert_eq!(number(v4().mac_length(3).local([0; 4], 40)), 13);
 }
 
 #[test]
@@ -87,9 +109,11 @@ fn numbers_of_the_table() {
     let good = Entry::ipv4().key(b"key").build().unwrap();
     let good = good.as_bytes();
     // What is changed in a second entry, like the first but for its IDs.
-    let cases: [(u8, &[(usize, u8)]); 8] = [
+    let cases: [(u8, &[(usize, u8)]); 10] = [
         (10, &[(0, 6)]),
+        (10, &[(0, 5)]),
         (11, &[(0, 3)]),
+        (11, &[(0, 8)]),
         (13, &[(1, 2)]),
         (13, &[(2, 3)]),
         (14, &[(5, 255), (7, 254)]),
@@ -112,6 +136,22 @@ fn numbers_of_the_table() {
         assert!(shown.starts_with(&format!("{number} at entry 1: ")));
     }
     assert!(KeyTable::new([]).unwrap().is_empty());
+}
+
+/// Entries of all kinds are one table, and clash whatever their kinds.
+#[test]
+fn all_kinds_in_a_table() {
+    let entry =
+        |entry: EntryBuilder, id| entry.send_id(id).recv_id(id).key(b"key").build().unwrap();
+    let four = entry(Entry::ipv4(), 1);
+    let five = entry(Entry::ipv4().mac_length(5), 2);
+    let six = entry(Entry::ipv6(), 1);
+    let seven = entry(Entry::ipv6().mac_length(16), 2);
+    let table = KeyTable::new([&four, &five, &six, &seven]).unwrap();
+    assert_eq!(table.len(), 4);
+    let clash = entry(Entry::ipv4().mac_length(12), 1);
+    let refusal = KeyTable::new([&four, &clash]).unwrap_err();
+    assert_eq!(refusal, Refusal::IdClash { entry: 1 });
 }
 
 /// 64 entries are a table, a 65th is refused with 12.
@@ -176,9 +216,9 @@ fn numbers_of_signing() {
         (31, plain(ACK, &[2, 9, 0, 0])),
         (31, plain(ACK, &[19, 4, 0, 0])),
         (31, plain(ACK, &[29, 4, 0, 0])),
-        (32, plain(ACK, &[1; 28])),
-        (33, segment([1, 2], ISNS[0] + 1, ACK, &[], &[])),
+        (33, segment([1, 2], ISNS[0] + 1, ACK, &[1; 28], &[])),
         (34, plain(SYN, &[])),
+        (32, plain(ACK, &[1; 28])),
         (36, plain(SYN | ACK, &[])),
         (36, numbered(ISNS[0] + (1 << 31))),
     ];
@@ -200,6 +240,52 @@ fn numbers_of_signing() {
     assert_eq!((&*end, out), (&before, [0xAA; 64]));
     let length = end.sign_into(&ends.tables[0], &segment, &mut out);
     assert_eq!(length, Ok(64));
+}
+
+/// What signing adds by the MAC's length, and where it has no room for it.
+#[test]
+fn what_signing_adds() {
+    for kind in kinds() {
+        let added = kind.added();
+        let mut ends = Ends::open(kind);
+        let plain = |options: usize| segment(PORTS, ISNS[0] + 1, ACK, &vec![1; options], b"data");
+        let signed = ends.sign(&plain(8)).unwrap();
+        assert_eq!(signed.len(), plain(8).len() + added);
+        let length = 4 + kind.mac_length.unwrap_or(12);
+        assert_eq!(signed[20..24], [29, length, IDS[0], IDS[1]]);
+        assert_eq!(signed[20 + added..], plain(8)[20..]);
+        assert!(signed[20 + usize::from(length)..20 + added]
+            .iter()
+            .all(|byte| *byte == 1));
+        assert_eq!(ends.judge(&signed), Verdict::Accept { extension: 0 });
+        assert!(ends.sign(&plain(40 - added)).is_ok());
+        assert_eq!(ends.sign(&plain(44 - added)), Err(Refusal::SignRoom));
+        let none = KeyTable::new([]).unwrap();
+        let refused = ends.ends[0].sign(&none, &plain(44 - added));
+        assert_eq!(refused, Err(Refusal::NoEntry));
+    }
+}
+
+/// Ends whose MACs differ in length get 27; 12, said at one end and not at the other, is the same.
+#[test]
+fn lengths_agree() {
+    for (ours, theirs, verdict) in [
+        (None, Some(12), Verdict::Accept { extension: 0 }),
+        (Some(12), None, Verdict::Accept { extension: 0 }),
+        (None, Some(16), Verdict::Drop(Refusal::MacLength)),
+        (Some(8), Some(9), Verdict::Drop(Refusal::MacLength)),
+    ] {
+        let with = |mac_length| {
+            Ends::open(Kind {
+                mac_length,
+                ..FIRST_KIND
+            })
+        };
+        let (mut ends, other) = (with(ours), with(theirs));
+        let signed = ends.sign(&segment(PORTS, ISNS[0] + 1, ACK, &[], b"data"));
+        ends.tables = other.tables;
+        assert_eq!(ends.judge(&signed.unwrap()), verdict);
+    }
 }
 
 #[test]
@@ -266,7 +352,7 @@ fn fields_of_a_state() {
         assert_eq!(state.local(), local.parse::<SocketAddr>().unwrap());
         assert_eq!(state.remote(), remote.parse::<SocketAddr>().unwrap());
         assert!(state.is_open());
-        assert_eq!((state.send_id(), state.asked_id()), (2, 3));
+        assert_eq!((state.send_id(), state.ask_id()), (2, 3));
         assert_eq!((state.isn(), state.peer_isn()), (0x08090A0B, 0x0C0D0E0F));
         assert_eq!(state.sent_reference(), 0x3031323334353637);
         assert_eq!(state.seen_reference(), 0x38393A3B3C3D3E3F);
@@ -304,7 +390,7 @@ fn key_change() {
             ends.tables[end] = KeyTable::from_bytes(both).unwrap();
         }
         ends.ends[0].ask(&ends.tables[0], 51).unwrap();
-        assert_eq!(ends.ends[0].asked_id(), 51);
+        assert_eq!(ends.ends[0].ask_id(), 51);
         let signed = segment(PORTS, ISNS[0] + 1, ACK, &[], b"");
         let signed = ends.sign(&signed).unwrap();
         assert_eq!(ends.ends[1].send_id(), IDS[1]);

@@ -13,7 +13,7 @@ pub const FAULTS: &[Planted] = &[
         function: "fn read(",
         edits: &[Before(
             "// 12: \"a 65th entry begins\".",
-            "if rest[0] != 4 && rest[0] != 6 { return Err(refused(11)); }",
+            "if !(4..=7).contains(&rest[0]) { return Err(refused(11)); }",
         )],
     },
     Planted {
@@ -127,7 +127,7 @@ pub const FAULTS: &[Planted] = &[
         function: "fn read_options(",
         edits: &[
             Instead("kind == 0", "false"),
-            Instead("kind == 1", "kind <= 1"),
+            Instead("kind == KIND_NO_OPERATION", "kind <= 1"),
         ],
     },
     Planted {
@@ -251,7 +251,7 @@ pub const FAULTS: &[Planted] = &[
             };
             let key = mac::traffic_key(entry.algorithm, entry.key, &from_us);
             let covered = mac::message(entry.covers_options, ends, extension, carrier);
-            mac::leftmost(entry.algorithm, &key, &covered)",
+            mac::leftmost(entry, &key, &covered)",
         )],
     },
     Planted {
@@ -274,7 +274,7 @@ pub const FAULTS: &[Planted] = &[
         function: "fn message(",
         edits: &[Before(
             "let covered",
-            "if !covers_options { zeroed[12] = (zeroed[12] & 0x0f) | (9 << 4); }",
+            "if !covers_options { zeroed[12] = (zeroed[12] & 0x0f) | ((20 + ao.length) as u8 / 4) << 4; }",
         )],
     },
     Planted {
@@ -333,13 +333,13 @@ pub const FAULTS: &[Planted] = &[
     },
     Planted {
         name: "MacLengthBeforeEntry",
-        does: "26 after 27, on a connection.",
+        does: "27 before 26, on a connection, for a length that no entry could have.",
         breaks: "\"The first that applies, in this order, is given\"",
         file: "calls.rs",
         function: "fn take_arrival(",
         edits: &[Before(
             "// 26: \"no entry for its KeyID\".",
-            "if ao.length != AO_BYTES { return Err(Refusal::of(27)); }",
+            "if !(8..=20).contains(&ao.length) { return Err(Refusal::of(27)); }",
         )],
     },
     Planted {
@@ -366,16 +366,39 @@ pub const FAULTS: &[Planted] = &[
         )],
     },
     Planted {
-        name: "PortsBeforeSize",
-        does: "33 before 32.",
-        breaks: "\"The first that applies, in this order, is given\"",
+        name: "SizeBeforePorts",
+        does: "32 before 33, as before Ticket 4: for a MAC of 12 bytes, whatever the entry says.",
+        breaks: "Ticket 4: \"32, tested now after 35\"",
         file: "calls.rs",
         function: "fn sign(",
         edits: &[Before(
-            "// 32: \"data offset above 11, or result above 65,535 bytes\".",
-            "if header.source_port != pair.local_port || header.destination_port != pair.remote_port {
-                return Err(Refusal::of(33));
+            "// 33: \"ports not the state's\".",
+            "if header.data_offset > 11 || segment.len() + 16 > 65_535 { return Err(Refusal::of(32)); }",
+        )],
+    },
+    Planted {
+        name: "SizeBeforeKey",
+        does: "32 before 35: where there is no entry, by a MAC of 12 bytes.",
+        breaks: "Ticket 4: \"32, tested now after 35\"",
+        file: "calls.rs",
+        function: "fn sign(",
+        edits: &[Before(
+            "// 35: \"no entry matching the pair",
+            "if by_send_id(&entries, &pair, state.outgoing_send_id).is_none()
+                && (header.data_offset > 11 || segment.len() + 16 > 65_535) {
+                return Err(Refusal::of(32));
             }",
+        )],
+    },
+    Planted {
+        name: "PositionBeforeSize",
+        does: "36 before 32.",
+        breaks: "\"The first that applies, in this order, is given\"; Ticket 4: \"32, tested now after 35\"",
+        file: "calls.rs",
+        function: "fn sign(",
+        edits: &[Before(
+            "// 32: \"tested now after 35,",
+            "if state.is_open() { position(state.signing_reference, header.sequence).ok_or(Refusal::of(36))?; }",
         )],
     },
     Planted {
@@ -613,9 +636,235 @@ pub const FAULTS: &[Planted] = &[
         file: "calls.rs",
         function: "fn mac_length(",
         edits: &[Instead(
-            "ao.length == 4 + entry.algorithm.mac_bytes()",
-            "ao.length >= 4 + entry.algorithm.mac_bytes()",
+            "ao.length == AoOption::FRONT + entry.mac_bytes",
+            "ao.length >= AoOption::FRONT + entry.mac_bytes",
         )],
+    },
+    // The MAC's length: Ticket 4.
+    Planted {
+        name: "MacLengthTwelve",
+        does: "27 compares with 12, whatever the entry says.",
+        breaks: "\"27 compares with the entry's length\"",
+        file: "calls.rs",
+        function: "fn mac_length(",
+        edits: &[Instead(
+            "ao.length == AoOption::FRONT + entry.mac_bytes",
+            "ao.length == 16",
+        )],
+    },
+    Planted {
+        name: "MacLengthNotRead",
+        does: "Kinds 5 and 7 have 12 MAC bytes, too.",
+        breaks: "\"one more byte, 4 to 16, before the key length\"",
+        file: "table.rs",
+        function: "fn read_body(",
+        edits: &[Before(
+            "Ok(Entry {",
+            "let mac_bytes = MAC_BYTES;
+            return Ok(Entry {
+                kind, covers_options, algorithm, send_id: body[2], recv_id: body[3], local, remote, mac_bytes, key,
+            });",
+        )],
+    },
+    Planted {
+        name: "MacOfThreeTaken",
+        does: "A MAC of fewer than 4 bytes is not refused.",
+        breaks: "\"one more byte, 4 to 16\"; \"Refusal 13 also covers the new byte\"",
+        file: "table.rs",
+        function: "fn read_body(",
+        edits: &[Instead("!(4..=16).contains(&mac_bytes)", "mac_bytes > 16")],
+    },
+    Planted {
+        name: "MacOfSeventeenTaken",
+        does: "A MAC of more than 16 bytes is not refused, and has 16.",
+        breaks: "\"one more byte, 4 to 16\"; \"Refusal 13 also covers the new byte\"",
+        file: "table.rs",
+        function: "fn read_body(",
+        edits: &[
+            Instead("(rest[0] as usize, &rest[1..])", "(rest[0].min(16) as usize, &rest[1..])"),
+        ],
+    },
+    Planted {
+        name: "MacLengthBehindKey",
+        does: "The new byte is looked at behind 14 to 16.",
+        breaks: "\"The first that applies, in this order, is given\"",
+        file: "table.rs",
+        function: "fn read_body(",
+        edits: &[
+            Instead("!(4..=16).contains(&mac_bytes)", "false"),
+            Before("Ok(Entry {", "if !(4..=16).contains(&mac_bytes) { return Err(13); }"),
+        ],
+    },
+    Planted {
+        name: "MacLengthBehindKeyLength",
+        does: "The new byte is read behind the key length.",
+        breaks: "\"one more byte, 4 to 16, before the key length\"",
+        file: "table.rs",
+        function: "fn read_body(",
+        edits: &[
+            Instead("(rest[0] as usize, &rest[1..])", "(rest[1] as usize, rest)"),
+            Instead(
+                "key_part[1..].split_at(key_bytes)",
+                "(if key_part.len() > 81 { &key_part[2..] } else { &key_part[1..] }).split_at(key_bytes)",
+            ),
+        ],
+    },
+    Planted {
+        name: "KindsDoNotClash",
+        does: "17 only for entries of one kind: kind 4 does not clash with kind 5.",
+        breaks: "\"a socket pair exists that two entries both match while they share SendID or share RecvID\"",
+        file: "table.rs",
+        function: "fn clashes(",
+        edits: &[Instead(
+            "self.local.address.len() == other.local.address.len()",
+            "self.kind == other.kind",
+        )],
+    },
+    Planted {
+        name: "KindFiveMatchesNothing",
+        does: "The family of kind 5 is taken as 5, of kind 7 as 7: no pair is of it.",
+        breaks: "\"An entry matches a socket pair of its family\"; \"kinds 5 and 7, like 4 and 6\"",
+        file: "table.rs",
+        function: "fn matches(&self, pair",
+        edits: &[Instead(
+            "self.local.address.len()",
+            "if self.kind % 2 == 1 { self.kind as usize } else { self.local.address.len() }",
+        )],
+    },
+    Planted {
+        name: "FamilyOfEntryKind",
+        does: "An active opening writes the entry's kind as the state's family.",
+        breaks: "18: \"state's family is neither IPv4 nor IPv6\"",
+        file: "calls.rs",
+        function: "fn opening_state(",
+        edits: &[Before("Ok(state)", "state.family = entry.kind;")],
+    },
+    Planted {
+        name: "FamilyFiveTaken",
+        does: "18 takes family 5 for IPv4 and 7 for IPv6.",
+        breaks: "18: \"state's family is neither IPv4 nor IPv6\"",
+        file: "state.rs",
+        function: "fn pair(",
+        edits: &[Instead(
+            "self.family",
+            "match self.family { 5 => 4, 7 => 6, family => family }",
+        )],
+    },
+    Planted {
+        name: "MacRightmost",
+        does: "The MAC is the rightmost n bytes.",
+        breaks: "\"the leftmost n\"",
+        file: "mac.rs",
+        function: "fn leftmost(",
+        edits: &[Instead(
+            "all[..entry.mac_bytes].to_vec()",
+            "all[all.len() - entry.mac_bytes..].to_vec()",
+        )],
+    },
+    Planted {
+        name: "PaddingUnderMac",
+        does: "With flag 0 the kind 1 bytes that pad TCP-AO are under the MAC, too.",
+        breaks: "\"With flag 0 only the header's first 20 bytes, data offset as sent, and TCP-AO remain.\"",
+        file: "mac.rs",
+        function: "fn message(",
+        edits: &[Instead(
+            "&zeroed[ao.at..ao.at + ao.length]",
+            "&zeroed[ao.at..zeroed.len().min(ao.at + ao.length.next_multiple_of(4))]",
+        )],
+    },
+    Planted {
+        name: "PaddingBeforeOption",
+        does: "The kind 1 bytes stand before TCP-AO.",
+        breaks: "\"The signer pads the option, directly behind it\"",
+        file: "calls.rs",
+        function: "fn sign(",
+        edits: &[
+            Instead("OPTIONS_AT", "OPTIONS_AT + padded_bytes - ao_bytes"),
+            Behind(
+                "signed.extend_from_slice(&segment[..20]);",
+                "signed.resize(20 + padded_bytes - ao_bytes, KIND_NO_OPERATION);",
+            ),
+            Instead("signed.resize(20 + ao_bytes, 0)", "signed.resize(20 + padded_bytes, 0)"),
+        ],
+    },
+    Planted {
+        name: "PaddingBehindOptions",
+        does: "The kind 1 bytes stand behind the old options.",
+        breaks: "\"The signer pads the option, directly behind it\"",
+        file: "calls.rs",
+        function: "fn sign(",
+        edits: &[
+            Instead("signed.resize(20 + padded_bytes, KIND_NO_OPERATION)", ""),
+            Instead(
+                "signed.extend_from_slice(&segment[20..])",
+                "signed.extend_from_slice(&segment[20..header.bytes()]);
+                signed.resize(header.bytes() + padded_bytes, KIND_NO_OPERATION);
+                signed.extend_from_slice(&segment[header.bytes()..])",
+            ),
+        ],
+    },
+    Planted {
+        name: "PaddingOfKindZero",
+        does: "TCP-AO is padded with kind 0, which ends the reading.",
+        breaks: "\"with kind 1 bytes\"",
+        file: "calls.rs",
+        function: "fn sign(",
+        edits: &[Instead(
+            "signed.resize(20 + padded_bytes, KIND_NO_OPERATION)",
+            "signed.resize(20 + padded_bytes, 0)",
+        )],
+    },
+    Planted {
+        name: "PaddingInLengthByte",
+        does: "TCP-AO's length byte counts the padding.",
+        breaks: "\"TCP-AO is kind 29, length, KeyID, RNextKeyID, MAC\"; \"pads the option, directly behind it\"",
+        file: "calls.rs",
+        function: "fn sign(",
+        edits: &[Instead("ao_bytes as u8", "padded_bytes as u8")],
+    },
+    Planted {
+        name: "OffsetRaisedByFour",
+        does: "The data offset rises by 4, whatever the option has.",
+        breaks: "\"the data offset rises by the words of the padded option\"",
+        file: "calls.rs",
+        function: "fn sign(",
+        edits: &[Instead(
+            "(signed_offset as u8) << 4",
+            "((header.data_offset + 4) as u8) << 4",
+        )],
+    },
+    Planted {
+        name: "PaddingNotInOffset",
+        does: "32 does not count the padding in the data offset.",
+        breaks: "\"the data offset rises by the words of the padded option, and 32 ... when it would pass 15\"",
+        file: "calls.rs",
+        function: "fn sign(",
+        edits: &[Instead(
+            "signed_offset > 15",
+            "header.data_offset + ao_bytes / 4 > 15",
+        )],
+    },
+    Planted {
+        name: "PaddingNotInSize",
+        does: "32 does not count the padding in the result's bytes.",
+        breaks: "\"32 ... is given when it would pass 15 or the result 65,535 bytes\"",
+        file: "calls.rs",
+        function: "fn sign(",
+        edits: &[Instead(
+            "signed_bytes > 65_535",
+            "segment.len() + ao_bytes > 65_535",
+        )],
+    },
+    Planted {
+        name: "PaddingNotInRoom",
+        does: "37 does not count the padding; what has no room is not written.",
+        breaks: "37: \"output too short\"",
+        file: "calls.rs",
+        function: "fn sign(",
+        edits: &[
+            Instead("room < signed_bytes", "room < segment.len() + ao_bytes"),
+            Before("Ok(Signed {", "signed.truncate(room);"),
+        ],
     },
     // Opening.
     Planted {
@@ -797,16 +1046,16 @@ pub const FAULTS: &[Planted] = &[
         edits: &[Instead("if bare { 0 } else { state.peer_isn }", "state.peer_isn")],
     },
     Planted {
-        name: "OffsetElevenRefused",
-        does: "32 for a data offset of 11.",
-        breaks: "32: \"data offset above 11\"",
+        name: "OffsetFifteenRefused",
+        does: "32 where the data offset would become 15.",
+        breaks: "32: \"is given when it would pass 15\"",
         file: "calls.rs",
         function: "fn sign(",
-        edits: &[Instead("header.data_offset > 11", "header.data_offset > 10")],
+        edits: &[Instead("signed_offset > 15", "signed_offset > 14")],
     },
     Planted {
         name: "LongestRefused",
-        does: "32 for 65,519 bytes.",
+        does: "32 where the result would have 65,535 bytes.",
         breaks: "32: \"result above 65,535 bytes\"",
         file: "calls.rs",
         function: "fn sign(",
@@ -829,7 +1078,7 @@ pub const FAULTS: &[Planted] = &[
         breaks: "\"raises the data offset by 4\", and of the rest of byte 12 nothing is said",
         file: "calls.rs",
         function: "fn sign(",
-        edits: &[Behind("signed[12] += 4 << 4;", "signed[12] &= 0xf0;")],
+        edits: &[Instead("segment[12] & 0x0f", "0")],
     },
     Planted {
         name: "ChecksumKept",

@@ -109,15 +109,21 @@ impl End {
         (self.boundary.sign)(&self.table, segment, out, &mut self.state)
     }
 
-    /// Signs into a buffer that is just long enough, which must stay if signing is refused.
+    /// Signs into a buffer that is long enough, of which only the signed length's bytes may change,
+    /// and none if signing is refused.
     pub fn try_sign(&mut self, segment: &[u8]) -> Result<Vec<u8>, u64> {
-        let mut out = vec![0xee; segment.len() + 16];
+        let mut out = vec![0xee; segment.len() + 40];
         let word = self.sign_into(segment, &mut out);
+        let signed = if number(word) == 0 {
+            value(word) as usize
+        } else {
+            0
+        };
+        let behind = out.split_off(signed);
+        assert!(behind.iter().all(|byte| *byte == 0xee));
         if number(word) == 0 {
-            assert_eq!(value(word) as usize, out.len());
             Ok(out)
         } else {
-            assert!(out.iter().all(|byte| *byte == 0xee));
             Err(word)
         }
     }

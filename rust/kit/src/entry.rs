@@ -1,4 +1,4 @@
-//! Entries of a key table: document 01, "Key table (house bytes)".
+//! Entries of a key table: document 01, "Key table (house bytes)", and document 02, Ticket 4.
 
 /// One side of whom an entry is for: a range of ports, its ends included, and a prefix of addresses.
 #[derive(Clone, Debug, PartialEq, Eq)]
@@ -55,12 +55,14 @@ pub struct Entry {
     pub recv_id: u8,
     pub local: Side,
     pub remote: Side,
+    /// How many bytes the MAC has, in kinds 5 and 7; nothing in kinds 4 and 6, where it has 12.
+    pub mac_length: Option<u8>,
     /// At most 80 bytes; zeros are put behind it.
     pub key: Vec<u8>,
 }
 
 impl Default for Entry {
-    /// For any IPv4 pair: all options covered, HMAC-SHA-1-96, both IDs 0.
+    /// For any IPv4 pair: kind 4, all options covered, HMAC-SHA-1, both IDs 0.
     fn default() -> Entry {
         Entry {
             flags: 1,
@@ -69,6 +71,7 @@ impl Default for Entry {
             recv_id: 0,
             local: Side::any(4),
             remote: Side::any(4),
+            mac_length: None,
             key: b"a master key".to_vec(),
         }
     }
@@ -103,13 +106,32 @@ impl Entry {
         }
     }
 
-    /// The kind that its addresses have.
-    pub fn kind(&self) -> u8 {
-        if self.local.address.len() == 4 {
-            4
-        } else {
-            6
+    /// With a MAC of so many bytes: kind 5 or 7.
+    pub fn mac_length(self, bytes: u8) -> Entry {
+        Entry {
+            mac_length: Some(bytes),
+            ..self
         }
+    }
+
+    /// The kind by its addresses, and by whether the MAC's length is said.
+    pub fn kind(&self) -> u8 {
+        match (self.local.address.len(), self.mac_length) {
+            (4, None) => 4,
+            (4, Some(_)) => 5,
+            (_, None) => 6,
+            (_, Some(_)) => 7,
+        }
+    }
+
+    /// The length of the TCP-AO that is signed under it.
+    pub fn ao_length(&self) -> u8 {
+        self.mac_length.unwrap_or(12).saturating_add(4)
+    }
+
+    /// What signing under it adds to a segment: TCP-AO, and kind 1 bytes to a multiple of four.
+    pub fn added(&self) -> usize {
+        usize::from(self.ao_length()).next_multiple_of(4)
     }
 
     pub fn bytes(&self) -> Vec<u8> {
@@ -128,6 +150,7 @@ impl Entry {
             bytes.extend(&side.address);
             bytes.push(side.prefix);
         }
+        bytes.extend(self.mac_length);
         bytes.push(self.key.len() as u8);
         bytes.extend(&self.key);
         bytes.resize(bytes.len() + 80 - self.key.len(), 0);

@@ -9,6 +9,7 @@ pub mod bytes;
 pub mod calls;
 pub mod ends;
 pub mod entry;
+pub mod linux;
 pub mod pointers;
 pub mod segment;
 pub mod state;

@@ -1,17 +1,16 @@
 //! The calls, with values in and out.
 //!
 //! In each call the numbers are looked for in the order of document 01's table, one after another:
-//! "The first that applies, in this order, is given".
+//! "The first that applies, in this order, is given". 32 is "tested now after 35" (Ticket 4).
 
 use crate::answer::{Refusal, Verdict};
 use crate::mac::{self, Ends};
 use crate::position::{extension, moved, position};
-use crate::segment::{read_options, AoOption, Header, Options, WithAo, KIND_TCP_AO};
+use crate::segment::{
+    read_options, AoOption, Header, Options, WithAo, KIND_NO_OPERATION, KIND_TCP_AO, OPTIONS_AT,
+};
 use crate::state::{State, STAGE_OPEN};
 use crate::table::{self, any_matches, by_recv_id, by_send_id, Entry, Pair};
-
-/// How many bytes signing adds: "With a 12-byte MAC the length is 16."
-const AO_BYTES: usize = 16;
 
 /// Checks a table (10 to 17) and says how many entries it has.
 pub fn check_table(table: &[u8]) -> Result<u32, Refusal> {
@@ -349,7 +348,9 @@ pub struct Signed {
 /// Signs a segment (18, 10 to 17, 30 to 37); `room` is how many bytes the output has.
 ///
 /// "Signing puts TCP-AO directly after byte 20, the old options behind it, raises the data offset
-/// by 4, and writes checksum zero. KeyID is the outgoing SendID, RNextKeyID the asked RecvID."
+/// by 4, and writes checksum zero. KeyID is the outgoing SendID, RNextKeyID the asked RecvID." Ticket 4:
+/// "The signer pads the option, directly behind it, with kind 1 bytes to the next multiple of four", "the
+/// data offset rises by the words of the padded option".
 pub fn sign(table: &[u8], segment: &[u8], room: usize, state: &State) -> Result<Signed, Refusal> {
     // 18: "state's family is neither IPv4 nor IPv6".
     let pair = state.pair().ok_or(Refusal::of(18))?;
@@ -364,12 +365,6 @@ pub fn sign(table: &[u8], segment: &[u8], room: usize, state: &State) -> Result<
     let options = read_options(segment, &header).ok_or(Refusal::of(31))?;
     if options.ao_count > 0 || options.md5_count > 0 {
         return Err(Refusal::of(31));
-    }
-
-    // 32: "data offset above 11, or result above 65,535 bytes".
-    let signed_bytes = segment.len() + AO_BYTES;
-    if header.data_offset > 11 || signed_bytes > 65_535 {
-        return Err(Refusal::of(32));
     }
 
     // 33: "ports not the state's".
@@ -392,6 +387,16 @@ pub fn sign(table: &[u8], segment: &[u8], room: usize, state: &State) -> Result<
     let key_id = state.outgoing_send_id;
     let entry = by_send_id(&entries, &pair, key_id).ok_or(Refusal::of(35))?;
 
+    // 32: "tested now after 35, is given when it [the data offset] would pass 15 or the result 65,535
+    // bytes". "TCP-AO is kind 29, length, KeyID, RNextKeyID, MAC."
+    let ao_bytes = AoOption::FRONT + entry.mac_bytes;
+    let padded_bytes = ao_bytes.next_multiple_of(4);
+    let signed_bytes = segment.len() + padded_bytes;
+    let signed_offset = header.data_offset + padded_bytes / 4;
+    if signed_offset > 15 || signed_bytes > 65_535 {
+        return Err(Refusal::of(32));
+    }
+
     // 36: "no position, or a SYN (bare or with ACK) whose position is not our ISN". "A bare SYN and
     // the SYN+ACK that opens have extension 0 and their own number as position; once open, every
     // segment goes by its position."
@@ -410,13 +415,19 @@ pub fn sign(table: &[u8], segment: &[u8], room: usize, state: &State) -> Result<
     }
 
     // The signed segment, first with a MAC of zeros.
-    let rnext_key_id = state.asked_recv_id;
+    let ao = AoOption {
+        at: OPTIONS_AT,
+        length: ao_bytes,
+        key_id,
+        rnext_key_id: state.asked_recv_id,
+    };
     let mut signed = Vec::with_capacity(signed_bytes);
     signed.extend_from_slice(&segment[..20]);
-    signed.extend_from_slice(&[KIND_TCP_AO, AO_BYTES as u8, key_id, rnext_key_id]);
-    signed.extend_from_slice(&[0; 12]);
+    signed.extend_from_slice(&[KIND_TCP_AO, ao_bytes as u8, ao.key_id, ao.rnext_key_id]);
+    signed.resize(20 + ao_bytes, 0);
+    signed.resize(20 + padded_bytes, KIND_NO_OPERATION);
     signed.extend_from_slice(&segment[20..]);
-    signed[12] += 4 << 4;
+    signed[12] = (signed_offset as u8) << 4 | segment[12] & 0x0f;
     signed[16..18].fill(0);
 
     // "Open: ... signed with both ISNs." "For a bare SYN (SYN set, ACK clear) the destination ISN
@@ -433,18 +444,14 @@ pub fn sign(table: &[u8], segment: &[u8], room: usize, state: &State) -> Result<
     let carrier = WithAo {
         segment: &signed,
         header: Header {
-            data_offset: header.data_offset + 4,
+            data_offset: signed_offset,
             ..header
         },
-        ao: AoOption {
-            at: 20,
-            length: AO_BYTES,
-            key_id,
-            rnext_key_id,
-        },
+        ao,
     };
     let mac = mac::mac(&entry, &ends, extension(x), &carrier);
-    signed[24..36].copy_from_slice(&mac);
+    let mac_at = ao.at + AoOption::FRONT;
+    signed[mac_at..mac_at + mac.len()].copy_from_slice(&mac);
 
     // "An accepted or signed segment sets its direction's reference to the larger of the old one
     // and X."
@@ -521,9 +528,10 @@ fn arriving_pair<'a>(source: &'a [u8], destination: &'a [u8], header: &Header) -
     }
 }
 
-/// 27: "MAC length wrong". "TCP-AO is kind 29, length, KeyID, RNextKeyID, MAC."
+/// 27: "MAC length wrong". "TCP-AO is kind 29, length, KeyID, RNextKeyID, MAC." Ticket 4: "27 compares
+/// with the entry's length".
 fn mac_length(entry: &Entry, ao: &AoOption) -> Result<(), Refusal> {
-    if ao.length == 4 + entry.algorithm.mac_bytes() {
+    if ao.length == AoOption::FRONT + entry.mac_bytes {
         Ok(())
     } else {
         Err(Refusal::of(27))
@@ -533,8 +541,7 @@ fn mac_length(entry: &Entry, ao: &AoOption) -> Result<(), Refusal> {
 /// 29: "MAC differs".
 fn mac_agrees(entry: &Entry, ends: &Ends, extension: u32, carrier: &WithAo) -> Result<(), Refusal> {
     let mac = mac::mac(entry, ends, extension, carrier);
-    let at = carrier.ao.at + 4;
-    if carrier.segment[at..at + mac.len()] == mac {
+    if carrier.mac() == mac {
         Ok(())
     } else {
         Err(Refusal::of(29))

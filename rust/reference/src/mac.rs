@@ -1,7 +1,7 @@
 //! "Traffic keys" and "What the MAC covers".
 
 use crate::crypto;
-use crate::segment::WithAo;
+use crate::segment::{AoOption, WithAo};
 use crate::table::{Algorithm, Entry};
 
 /// The two ends of a segment. "'source' is whoever sent the segment."
@@ -66,7 +66,7 @@ pub fn traffic_key(algorithm: Algorithm, master_key: &[u8], ends: &Ends) -> Vec<
 /// The bytes that the MAC is made of. "In this order: the extension (4 bytes); the IP pseudo-header
 /// as for the checksum, with the whole segment's length; the TCP header with checksum and MAC bytes
 /// zero; the data. With flag 0 only the header's first 20 bytes, data offset as sent, and TCP-AO
-/// remain."
+/// remain." What pads a TCP-AO is no part of it: it stands in the header, and with flag 0 it is left out.
 pub fn message(covers_options: bool, ends: &Ends, extension: u32, carrier: &WithAo) -> Vec<u8> {
     let WithAo {
         segment,
@@ -78,7 +78,7 @@ pub fn message(covers_options: bool, ends: &Ends, extension: u32, carrier: &With
     // "the TCP header with checksum and MAC bytes zero".
     let mut zeroed = header_part.to_vec();
     zeroed[16..18].fill(0);
-    zeroed[ao.at + 4..ao.at + ao.length].fill(0);
+    zeroed[ao.at + AoOption::FRONT..ao.at + ao.length].fill(0);
 
     let covered = if covers_options {
         zeroed
@@ -112,25 +112,28 @@ pub fn pseudo_header(ends: &Ends, length: usize) -> Vec<u8> {
     bytes
 }
 
-/// "The leftmost 12 bytes are the MAC."
-pub fn leftmost(algorithm: Algorithm, traffic_key: &[u8], message: &[u8]) -> [u8; 12] {
-    let mut mac = [0; 12];
+/// All that the algorithm gives of a message under a traffic key.
+pub fn applied(algorithm: Algorithm, traffic_key: &[u8], message: &[u8]) -> Vec<u8> {
     match algorithm {
-        Algorithm::HmacSha1 => {
-            mac.copy_from_slice(&crypto::hmac_sha1(traffic_key, message)[..12]);
-        }
+        Algorithm::HmacSha1 => crypto::hmac_sha1(traffic_key, message).to_vec(),
         Algorithm::AesCmac => {
             let mut key = [0; 16];
             key.copy_from_slice(traffic_key);
-            mac.copy_from_slice(&crypto::aes128_cmac(&key, message)[..12]);
+            crypto::aes128_cmac(&key, message).to_vec()
         }
     }
-    mac
+}
+
+/// "The leftmost 12 bytes are the MAC." Ticket 4: "The MAC routine no longer promises twelve bytes but
+/// the leftmost n."
+pub fn leftmost(entry: &Entry, traffic_key: &[u8], message: &[u8]) -> Vec<u8> {
+    let all = applied(entry.algorithm, traffic_key, message);
+    all[..entry.mac_bytes].to_vec()
 }
 
 /// The MAC that a segment must have under an entry.
-pub fn mac(entry: &Entry, ends: &Ends, extension: u32, carrier: &WithAo) -> [u8; 12] {
+pub fn mac(entry: &Entry, ends: &Ends, extension: u32, carrier: &WithAo) -> Vec<u8> {
     let key = traffic_key(entry.algorithm, entry.key, ends);
     let covered = message(entry.covers_options, ends, extension, carrier);
-    leftmost(entry.algorithm, &key, &covered)
+    leftmost(entry, &key, &covered)
 }

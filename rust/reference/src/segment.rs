@@ -1,9 +1,14 @@
 //! "The option in a segment": the header's fields and the options.
 
+/// The kind of one byte that says nothing, with which a TCP-AO is padded.
+pub const KIND_NO_OPERATION: u8 = 1;
 /// The kind of TCP MD5.
 pub const KIND_MD5: u8 = 19;
 /// The kind of TCP-AO.
 pub const KIND_TCP_AO: u8 = 29;
+
+/// "The option area is read as the part from byte 20 to the header's end."
+pub const OPTIONS_AT: usize = 20;
 
 /// What these rules read of a TCP header.
 #[derive(Clone, Copy, Debug, PartialEq, Eq)]
@@ -81,6 +86,11 @@ pub struct AoOption {
     pub rnext_key_id: u8,
 }
 
+impl AoOption {
+    /// How many bytes of it stand before the MAC.
+    pub const FRONT: usize = 4;
+}
+
 /// A segment with what was read of it.
 #[derive(Clone, Copy, Debug, PartialEq, Eq)]
 pub struct WithAo<'a> {
@@ -90,6 +100,13 @@ pub struct WithAo<'a> {
     pub header: Header,
     /// Its TCP-AO.
     pub ao: AoOption,
+}
+
+impl WithAo<'_> {
+    /// The MAC bytes that it carries.
+    pub fn mac(&self) -> &[u8] {
+        &self.segment[self.ao.at + AoOption::FRONT..self.ao.at + self.ao.length]
+    }
 }
 
 /// What stands in an option area that is not malformed.
@@ -117,13 +134,13 @@ pub fn read_options(segment: &[u8], header: &Header) -> Option<Options> {
         md5_count: 0,
     };
     let end = header.bytes();
-    let mut at = 20;
+    let mut at = OPTIONS_AT;
     while at < end {
         let kind = segment[at];
         if kind == 0 {
             break;
         }
-        if kind == 1 {
+        if kind == KIND_NO_OPERATION {
             at += 1;
             continue;
         }

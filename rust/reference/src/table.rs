@@ -5,6 +5,9 @@ use crate::answer::Refusal;
 /// "At most 64 entries; none is allowed."
 pub const MOST_ENTRIES: usize = 64;
 
+/// "MAC bytes (12 and 12)": of entries that do not choose their MAC's length, kinds 4 and 6.
+pub const MAC_BYTES: usize = 12;
+
 /// A socket pair as our own end holds it. Addresses have 4 or 16 bytes.
 #[derive(Clone, Copy, Debug, PartialEq, Eq)]
 pub struct Pair<'a> {
@@ -33,14 +36,6 @@ impl Algorithm {
         match self {
             Algorithm::HmacSha1 => 20,
             Algorithm::AesCmac => 16,
-        }
-    }
-
-    /// "MAC bytes (12 and 12)".
-    pub fn mac_bytes(self) -> usize {
-        match self {
-            Algorithm::HmacSha1 => 12,
-            Algorithm::AesCmac => 12,
         }
     }
 }
@@ -82,6 +77,8 @@ impl Side<'_> {
 /// An entry of a table that was found well formed.
 #[derive(Clone, Copy, Debug, PartialEq, Eq)]
 pub struct Entry<'a> {
+    /// 4 to 7. Its family is that of the addresses: IPv4 for 4 and 5, IPv6 for 6 and 7.
+    pub kind: u8,
     /// "flags (1: all options covered by the MAC; 0: only TCP-AO)".
     pub covers_options: bool,
     /// The algorithm.
@@ -94,6 +91,9 @@ pub struct Entry<'a> {
     pub local: Side<'a>,
     /// The peer's side.
     pub remote: Side<'a>,
+    /// How many bytes its MACs have. Ticket 4: "Add entry kinds 5 and 7, like 4 and 6 with one more
+    /// byte, 4 to 16, before the key length."
+    pub mac_bytes: usize,
     /// The master key, 1 to 80 bytes.
     pub key: &'a [u8],
 }
@@ -153,10 +153,13 @@ pub fn read(table: &[u8]) -> Result<Vec<Entry<'_>>, Refusal> {
         }
 
         // 11: "unknown kind". "One byte of kind, then a body whose length the kind fixes: kind 4
-        // (IPv4) has 103 bytes, kind 6 (IPv6) 127."
-        let (address_bytes, body_bytes) = match rest[0] {
+        // (IPv4) has 103 bytes, kind 6 (IPv6) 127." Kinds 5 and 7: "one more byte".
+        let kind = rest[0];
+        let (address_bytes, body_bytes) = match kind {
             4 => (4, 103),
+            5 => (4, 104),
             6 => (16, 127),
+            7 => (16, 128),
             _ => return Err(refused(11)),
         };
 
@@ -167,7 +170,7 @@ pub fn read(table: &[u8]) -> Result<Vec<Entry<'_>>, Refusal> {
 
         // 13 to 16.
         let body = &rest[1..1 + body_bytes];
-        let entry = read_body(address_bytes, body).map_err(refused)?;
+        let entry = read_body(kind, address_bytes, body).map_err(refused)?;
 
         // 17: "ID clash, at the later entry".
         if entries.iter().any(|before| before.clashes(&entry)) {
@@ -180,16 +183,22 @@ pub fn read(table: &[u8]) -> Result<Vec<Entry<'_>>, Refusal> {
     Ok(entries)
 }
 
-/// Reads one body of 103 or 127 bytes with addresses of 4 or 16, or gives 13, 14, 15 or 16.
+/// Reads one body, of the length that its kind has, with addresses of 4 or 16 bytes, or gives 13, 14, 15
+/// or 16.
 ///
 /// "The body is: flags (1: all options covered by the MAC; 0: only TCP-AO), algorithm (1
 /// HMAC-SHA-1-96, 2 AES-128-CMAC-96), SendID, RecvID; local port low and high, remote port low and
 /// high (two bytes each, big-endian, ends included); local address, its prefix length; remote
-/// address, its prefix length; key length 1 to 80; the key, padded with zeros to 80."
-fn read_body(address_bytes: usize, body: &[u8]) -> Result<Entry<'_>, u8> {
+/// address, its prefix length; key length 1 to 80; the key, padded with zeros to 80." Kinds 5 and 7 have
+/// "one more byte, 4 to 16, before the key length": the MAC's length.
+fn read_body(kind: u8, address_bytes: usize, body: &[u8]) -> Result<Entry<'_>, u8> {
     let port = |at: usize| u16::from_be_bytes([body[at], body[at + 1]]);
     let (local_part, rest) = body[12..].split_at(address_bytes + 1);
-    let (remote_part, key_part) = rest.split_at(address_bytes + 1);
+    let (remote_part, rest) = rest.split_at(address_bytes + 1);
+    let (mac_bytes, key_part) = match kind {
+        5 | 7 => (rest[0] as usize, &rest[1..]),
+        _ => (MAC_BYTES, rest),
+    };
     let local = Side {
         low: port(4),
         high: port(6),
@@ -214,6 +223,10 @@ fn read_body(address_bytes: usize, body: &[u8]) -> Result<Entry<'_>, u8> {
         2 => Algorithm::AesCmac,
         _ => return Err(13),
     };
+    // "Refusal 13 also covers the new byte".
+    if !(4..=16).contains(&mac_bytes) {
+        return Err(13);
+    }
 
     // 14: "low port above high".
     let bad = |side: &Side| side.low > side.high;
@@ -242,12 +255,14 @@ fn read_body(address_bytes: usize, body: &[u8]) -> Result<Entry<'_>, u8> {
     }
 
     Ok(Entry {
+        kind,
         covers_options,
         algorithm,
         send_id: body[2],
         recv_id: body[3],
         local,
         remote,
+        mac_bytes,
         key,
     })
 }

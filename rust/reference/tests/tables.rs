@@ -49,19 +49,21 @@ fn cut_anywhere() {
     let keys = [
         Entry::between(&A4, &B4).ids(1, 2),
         Entry::between(&A6, &B6).ids(1, 2),
+        Entry::between(&A4, &B4).ids(3, 4).mac_length(9),
+        Entry::between(&A6, &B6).ids(3, 4).mac_length(16),
     ];
     let bytes = table(&keys);
-    assert_eq!(bytes.len(), 104 + 128);
+    let ends = [0, 104, 104 + 128, 104 + 128 + 105, 104 + 128 + 105 + 129];
+    assert_eq!(bytes.len(), ends[4]);
     for length in 0..=bytes.len() {
         let result = table::read(&bytes[..length]).map(|entries| entries.len());
-        match length {
-            0 => assert_eq!(result, Ok(0)),
-            104 => assert_eq!(result, Ok(1)),
-            232 => assert_eq!(result, Ok(2)),
-            _ => {
+        match ends.iter().position(|end| *end == length) {
+            Some(entries) => assert_eq!(result, Ok(entries)),
+            None => {
                 let refusal = result.unwrap_err();
                 assert_eq!(refusal.number, 10);
-                assert_eq!(refusal.index, (length > 104) as u32);
+                let whole = ends[1..].iter().filter(|end| **end < length).count();
+                assert_eq!(refusal.index, whole as u32);
             }
         }
     }
@@ -69,26 +71,30 @@ fn cut_anywhere() {
 
 #[test]
 fn fields_stand_in_their_places() {
-    let key = Entry {
-        flags: 0,
-        algorithm: 2,
-        send_id: 0x11,
-        recv_id: 0x22,
-        local: Side::host(&A6).ports(0x0102, 0x0304),
-        remote: Side::any(16).prefix(&[0xfc; 16], 126).ports(0x0506, 0x0708),
-        key: (1..=80).collect(),
-    };
-    let bytes = key.bytes();
-    let entry = table::read(&bytes).unwrap()[0];
-    assert!(!entry.covers_options);
-    assert_eq!(entry.algorithm, Algorithm::AesCmac);
-    assert_eq!((entry.send_id, entry.recv_id), (0x11, 0x22));
-    assert_eq!((entry.local.low, entry.local.high), (0x0102, 0x0304));
-    assert_eq!((entry.remote.low, entry.remote.high), (0x0506, 0x0708));
-    assert_eq!((entry.local.address, entry.local.prefix), (&A6[..], 128));
-    assert_eq!(entry.remote.address, [0xfc; 16]);
-    assert_eq!(entry.remote.prefix, 126);
-    assert_eq!(entry.key, key.key);
+    for (mac_length, kind, mac_bytes) in [(None, 6, 12), (Some(5), 7, 5), (Some(16), 7, 16)] {
+        let key = Entry {
+            flags: 0,
+            algorithm: 2,
+            send_id: 0x11,
+            recv_id: 0x22,
+            local: Side::host(&A6).ports(0x0102, 0x0304),
+            remote: Side::any(16).prefix(&[0xfc; 16], 126).ports(0x0506, 0x0708),
+            mac_length,
+            key: (1..=80).collect(),
+        };
+        let bytes = key.bytes();
+        let entry = table::read(&bytes).unwrap()[0];
+        assert_eq!((entry.kind, entry.mac_bytes), (kind, mac_bytes));
+        assert!(!entry.covers_options);
+        assert_eq!(entry.algorithm, Algorithm::AesCmac);
+        assert_eq!((entry.send_id, entry.recv_id), (0x11, 0x22));
+        assert_eq!((entry.local.low, entry.local.high), (0x0102, 0x0304));
+        assert_eq!((entry.remote.low, entry.remote.high), (0x0506, 0x0708));
+        assert_eq!((entry.local.address, entry.local.prefix), (&A6[..], 128));
+        assert_eq!(entry.remote.address, [0xfc; 16]);
+        assert_eq!(entry.remote.prefix, 126);
+        assert_eq!(entry.key, key.key);
+    }
 }
 
 #[test]
@@ -188,6 +194,9 @@ fn the_clash_is_exact() {
                 } else {
                     key.remote = around;
                 }
+            }
+            if random(2) == 0 {
+                key.mac_length = Some(4 + random(13) as u8);
             }
             keys.push(key);
         }

@@ -33,28 +33,42 @@ pub struct Kind {
     pub ipv6: bool,
     pub algorithm: Algorithm,
     pub covered: Covered,
+    /// The MAC's length, if it is said; it is 12 otherwise.
+    pub mac_length: Option<u8>,
 }
 
 pub const FIRST_KIND: Kind = Kind {
     ipv6: false,
     algorithm: Algorithm::HmacSha1_96,
     covered: Covered::AllOptions,
+    mac_length: None,
 };
 
+/// Both families, all algorithms and flags, and MACs of 4, 9, 12 (unsaid and said) and 16 bytes.
 pub fn kinds() -> Vec<Kind> {
     let mut kinds = Vec::new();
     for ipv6 in [false, true] {
         for algorithm in [Algorithm::HmacSha1_96, Algorithm::Aes128Cmac96] {
             for covered in [Covered::OnlyTcpAo, Covered::AllOptions] {
-                kinds.push(Kind {
-                    ipv6,
-                    algorithm,
-                    covered,
-                });
+                for mac_length in [None, Some(4), Some(9), Some(12), Some(16)] {
+                    kinds.push(Kind {
+                        ipv6,
+                        algorithm,
+                        covered,
+                        mac_length,
+                    });
+                }
             }
         }
     }
     kinds
+}
+
+impl Kind {
+    /// What signing adds: 4 bytes, the MAC, and what fills up to whole words.
+    pub fn added(self) -> usize {
+        (4 + usize::from(self.mac_length.unwrap_or(12))).next_multiple_of(4)
+    }
 }
 
 /// The two ends of a connection, of which end 0 opened actively. Both are open.
@@ -81,6 +95,10 @@ impl Ends {
                 Entry::ipv6()
             } else {
                 Entry::ipv4()
+            };
+            let entry = match kind.mac_length {
+                Some(bytes) => entry.mac_length(bytes),
+                None => entry,
             };
             let entry = entry
                 .local(addresses[end], bits)

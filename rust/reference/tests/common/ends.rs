@@ -86,6 +86,6 @@ pub fn seal(key: &Entry, ends: &Ends, extension: u32, mut segment: Vec<u8>) -> V
         };
         mac::mac(&entry, ends, extension, &carrier)
     };
-    segment[ao.at + 4..ao.at + 16].copy_from_slice(&mac);
+    segment[ao.at + 4..ao.at + 4 + mac.len()].copy_from_slice(&mac);
     segment
 }

@@ -2,8 +2,8 @@
 use Prim.Native.Nat.{_<_, _^_}
 use mathlib.Core.Path.{sym, ap, _∙_, subst}
 use borrow.Author.Needs.{needs}
-use Rattle.rules.specs.declared.Checked.{Checked}
-use Rattle.boundary.specs.Word.{word, ofChecked}
+use Rattle.rules.specs.declared.SynJudged.{SynJudged}
+use Rattle.boundary.specs.Word.{word, ofSynJudged}
 use Rattle.boundary.specs.Exports.{judgeSynExport, answers}
 use Rattle.boundary.specs.NumberLaws.{judgedSyn-fits}
 use Rattle.boundary.proofs.calls.judge_syn.Statement.{statement}
@@ -11,12 +11,12 @@ use Rattle.boundary.proofs.calls.judge_syn.Tie as tie
 
 of-verdict-requires : tie.Need-of-verdict-requires
 of-verdict-requires c κs =
-    subst (λ (j : Checked). j .index < 2 ^ 32) (sym (c .judge-syn .ensures .0))
+    subst (λ (j : SynJudged). j .index < 2 ^ 32) (sym (c .judge-syn .ensures .0))
     (judgedSyn-fits _ _ _ .index)
 
 returns : tie.Need-returns
 unfolding judgeSynExport
-returns c = ap answers (c .of-verdict .ensures ∙ ap (λ (j : Checked). word (ofChecked j)) (c .before .judge-syn .ensures .0))
+returns c = ap answers (c .of-verdict .ensures ∙ ap (λ (j : SynJudged). word (ofSynJudged j)) (c .before .judge-syn .ensures .0))
 
 pub judge-syn-spec : {M : Type 1} → statement M
 judge-syn-spec = tie.close (tie.spec (λ c κs. search needs) of-verdict-requires returns)

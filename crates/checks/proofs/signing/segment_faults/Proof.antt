@@ -1,7 +1,7 @@
 -- Group after group: the first that gives a number decides.
 use borrow.Author.Needs.{needs}
 use mathlib.Core.Path.{refl}
-use Rattle.checks.specs.SignGroups.{growthLines, portLines}
+use Rattle.checks.specs.SignGroups.{portLines}
 use Rattle.checks.specs.GroupLaws.{stop, pass}
 use Rattle.checks.proofs.signing.segment_faults.Statement.{statement}
 use Rattle.checks.proofs.signing.segment_faults.Tie as tie
@@ -9,32 +9,14 @@ use Rattle.checks.proofs.signing.segment_faults.Tie as tie
 returns : tie.Need-returns
 returns c =
     let a = c .before .before .args in
-    stop (growthLines (a .added) (a .header .end) (a .header .len)) _ (c .before .growth-faults .ensures) (c .match .keys2)
+    stop (portLines (a .conn .pair) (a .header)) _ (c .before .port-faults .ensures) (c .match .keys2)
 
 returns-2 : tie.Need-returns-2
 returns-2 c =
-    let a = c .before .before .before .before .before .args in
-    pass (growthLines (a .added) (a .header .end) (a .header .len)) refl (c .before .before .before .before .growth-faults .ensures)
-    (c .before .before .enum-told .given .1)
-    (stop (portLines (a .conn .pair) (a .header)) _ (c .before .port-faults .ensures) (c .match2 .keys2))
-
-returns-3 : tie.Need-returns-3
-returns-3 c =
-    let a = c .before .before .before .before .before .before .before .args in
-    pass (growthLines (a .added) (a .header .end) (a .header .len)) refl
-    (c .before .before .before .before .before .before .growth-faults .ensures) (c .before .before .before .before .enum-told .given .1)
-    (pass (portLines (a .conn .pair) (a .header)) refl (c .before .before .before .port-faults .ensures) (c .before .enum-told2 .given .1)
-    (c .stage-faults .ensures))
+    let a = c .before .before .before .before .args in
+    pass (portLines (a .conn .pair) (a .header)) refl (c .before .before .before .port-faults .ensures) (c .before .enum-told .given .1)
+    (c .stage-faults .ensures)
 
 pub segment-faults-spec : {M : Type 1} → statement M
 segment-faults-spec =
-    tie.close
-    (tie.spec
-    (λ c κs. search needs)
-    (λ c. search needs)
-    returns
-    (λ c κs. search needs)
-    (λ c. search needs)
-    returns-2
-    (λ c κs. search needs)
-    returns-3)
+    tie.close (tie.spec (λ c κs. search needs) (λ c. search needs) returns (λ c κs. search needs) returns-2)

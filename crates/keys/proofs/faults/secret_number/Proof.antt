@@ -18,7 +18,21 @@ returns-3 c = simp (le-ltb _ _ (c .before .before .before .before .if1 .left), l
 
 returns-4 : tie.Need-returns-4
 unfolding numberOf
-returns-4 c = simp (le-ltb _ _ (c .before .before .before .before .if1 .left), le-ltb _ _ (c .before .before .if2 .left), le-ltb _ _ (c .if3 .left))
+returns-4 c =
+    let d = c .before .before in
+    simp (le-ltb _ _ (d .before .before .before .before .if1 .left), le-ltb _ _ (d .before .before .if2 .left), le-ltb _ _ (d .if3 .left), lt-ltb _ _ (c .if4 .taken))
+
+returns-5 : tie.Need-returns-5
+unfolding numberOf
+returns-5 c =
+    let d = c .before .before .before .before in
+    simp (le-ltb _ _ (d .before .before .before .before .if1 .left), le-ltb _ _ (d .before .before .if2 .left), le-ltb _ _ (d .if3 .left), le-ltb _ _ (c .before .before .if4 .left), lt-ltb _ _ (c .if5 .taken))
+
+returns-6 : tie.Need-returns-6
+unfolding numberOf
+returns-6 c =
+    let d = c .before .before .before .before in
+    simp (le-ltb _ _ (d .before .before .before .before .if1 .left), le-ltb _ _ (d .before .before .if2 .left), le-ltb _ _ (d .if3 .left), le-ltb _ _ (c .before .before .if4 .left), le-ltb _ _ (c .if5 .left))
 
 pub secret-number-spec : {M : Type 1} → statement M
-secret-number-spec = tie.close (tie.spec returns returns-2 returns-3 returns-4)
+secret-number-spec = tie.close (tie.spec returns returns-2 returns-3 returns-4 returns-5 returns-6)

@@ -1,6 +1,5 @@
 -- Both are read from the part of the table that begins there.
 use borrow.Author.Needs.{needs}
-use mathlib.Core.Path.{_∙_, ap}
 use Rattle.keys.proofs.Walk.{ids-at}
 use Rattle.keys.specs.Entry.{idsOf}
 use Rattle.keys.proofs.table.ids_at.Statement.{statement}

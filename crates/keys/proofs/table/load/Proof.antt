@@ -2,7 +2,7 @@
 use borrow.Author.Needs.{needs}
 use Prim.Native.Nat.{_-_}
 use lib.ListN.{length}
-use Rattle.keys.proofs.Marks.{Loading, load-start, load-refused, load-sound, load-next}
+use Rattle.keys.proofs.Marks.{Loading, load-start, load-refused, load-step, load-next}
 use Rattle.keys.proofs.Walk.{walk-full, walk-done}
 use native.Mathlib.Omega.{arith}
 use Rattle.keys.proofs.table.load.Statement.{statement}
@@ -31,27 +31,27 @@ array-write-recvs c = search needs
 
 add-at : tie.Need-add-at Inv-loop μ-loop
 add-at c =
-    let d = c .before .before .before .before in
+    let d = c .before .before .before in
     let b = d .before .before .before .before .before in
-    omega (arith, load-sound (b .before .before .before .loop .inv) _ (b .ids-at .ensures) _ (d .before .before .to-compare .ensures) _ (d .before .number-at .ensures) (d .if2 .left), c .size-of .ensures)
+    omega (arith, load-step (b .before .before .before .loop .inv) _ (b .ids-at .ensures) _ (d .before .before .to-compare .ensures) _ (d .before .number-at .ensures) _ (d .if2 .left) (c .size-at .ensures))
 
 add-i : tie.Need-add-i Inv-loop μ-loop
 add-i c =
-    let l = c .before .before .before .before .before .before .before .before .before .before .before .before .loop in
+    let l = c .before .before .before .before .before .before .before .before .before .before .before .loop in
     omega (arith, l .inv .walking .counted)
 
 loop-less : tie.Need-loop-less Inv-loop μ-loop
 loop-less c =
-    let d = c .before .before .before .before in
+    let d = c .before .before .before in
     let b = d .before .before .before .before .before in
-    omega (arith, load-sound (b .before .before .before .loop .inv) _ (b .ids-at .ensures) _ (d .before .before .to-compare .ensures) _ (d .before .number-at .ensures) (d .if2 .left), c .size-of .ensures)
+    omega (arith, load-step (b .before .before .before .loop .inv) _ (b .ids-at .ensures) _ (d .before .before .to-compare .ensures) _ (d .before .number-at .ensures) _ (d .if2 .left) (c .size-at .ensures))
 
 loop-again : tie.Need-loop-again Inv-loop μ-loop
 loop-again c =
-    let d = c .before .before .before .before in
+    let d = c .before .before .before in
     let b = d .before .before .before .before .before in
     load-next (b .before .before .before .loop .inv) _ (b .ids-at .ensures) _ (d .before .before .to-compare .ensures) _ (d .before .number-at .ensures)
-    _ (b .before .before .loop-test .taken) (b .before .if1 .left) (d .if2 .left) (c .size-of .ensures) (array-write-sends (c .before .before .before)) (array-write-recvs (c .before .before))
+    _ (b .before .before .loop-test .taken) (b .before .if1 .left) (d .if2 .left) (c .size-at .ensures) (array-write-sends (c .before .before)) (array-write-recvs (c .before))
 
 returns-3 : tie.Need-returns-3 Inv-loop μ-loop
 returns-3 c = walk-done (c .before .loop .inv .walking) (c .loop-test .left)
@@ -72,7 +72,6 @@ load-spec =
     array-write-sends
     (λ c. search needs)
     array-write-recvs
-    (λ c. search needs)
     (λ c κs. search needs)
     add-at
     add-i

@@ -1,6 +1,7 @@
 -- The tests, in their order.
 use borrow.Author.Needs.{needs}
 use mathlib.Core.Bool.{true, false}
+use mathlib.Core.Path.{sym, _∙_}
 use borrow.Author.Tests.{not-true, not-false}
 use Rattle.keys.proofs.Walk.{tail-whole, number-unknown, number-cut, number-wrong, number-last}
 use native.Mathlib.Omega.{arith}
@@ -14,39 +15,34 @@ returns c =
 
 returns-2 : tie.Need-returns-2
 returns-2 c =
-    let a = c .before .before .before .before .before .before .before .args in
-    number-cut (a .table .now) (a .at) _ _ _ (c .before .before .before .before .known-kind .ensures) (not-false _ (c .before .before .before .if1 .left)) (c .before .size-of .ensures)
-    (c .before .before .before .before .before .before .before .pre) (c .if2 .taken)
+    let a = c .before .before .before .before .before .before .args in
+    number-cut (a .table .now) (a .at) _ _ _ (c .before .before .before .known-kind .ensures) (not-false _ (c .before .before .if1 .left)) (c .before .size-of .ensures) (c .before .before .before .before .before .before .pre) (c .if2 .taken)
 
 entry-of-requires : tie.Need-entry-of-requires
 entry-of-requires c κs =
-    let a = c .before .before .before .before .before .before .before .before .args in
+    let a = c .before .before .before .before .before .before .before .args in
     tail-whole (a .table .now) (a .at) (omega (arith, c .before .before .size-of .ensures))
 
 returns-3 : tie.Need-returns-3
 returns-3 c =
-    let p = c .before .before .before .before .before .before .before .before .before .before .before .pre in
-    let a = c .before .before .before .before .before .before .before .before .before .before .before .args in
-    number-wrong (a .table .now) (a .at) _ _ _ _ (c .before .before .before .before .before .before .before .before .known-kind .ensures) (not-false _ (c .before .before .before .before .before .before .before .if1 .left)) (c .before .before .before .before .before .size-of .ensures)
-    p (c .before .before .before .before .if2 .left) (c .before .before .entry-of .ensures) _ (c .before .entry-number .ensures) (c .if3 .taken)
+    let d = c .before .before .before .before in
+    let s = d .before .before .before .before .before .before in
+    number-wrong (s .args .table .now) (s .args .at) _ _ _ _ (d .before .before .before .known-kind .ensures) (not-false _ (d .before .before .if1 .left)) (d .before .size-of .ensures)
+    (s .pre) (d .if2 .left) (c .before .before .entry-of .ensures) _ (c .before .entry-number .ensures) (c .if3 .taken)
 
 returns-4 : tie.Need-returns-4
 returns-4 c =
-    let p = c .before .before .before .before .before .before .before .before .before .before .before .before .before .pre in
-    let i = c .before .before .before .before .before .before .before .before .before in
-    let a = c .before .before .before .before .before .before .before .before .before .before .before .before .before .args in
-    number-last (a .table .now) (a .at) _ _ _ _ (i .before .known-kind .ensures) (not-false _ (i .if1 .left)) (c .before .before .before .before .before .before .before .size-of .ensures)
-    p (c .before .before .before .before .before .before .if2 .left) (c .before .before .before .before .entry-of .ensures) _ (c .before .before .before .entry-number .ensures)
-    _ true (c .before .before .if3 .left) (c .before .clashes-before .ensures) (c .if4 .taken)
+    let d = c .before .before .before .before .before .before in
+    let s = d .before .before .before .before .before .before in
+    number-last (s .args .table .now) (s .args .at) _ _ _ _ (d .before .before .before .known-kind .ensures) (not-false _ (d .before .before .if1 .left)) (d .before .size-of .ensures)
+    (s .pre) (d .if2 .left) (c .before .before .before .before .entry-of .ensures) _ (c .before .before .before .entry-number .ensures) _ true (c .before .before .if3 .left) (c .before .clashes-before .ensures) (c .if4 .taken)
 
 returns-5 : tie.Need-returns-5
 returns-5 c =
-    let p = c .before .before .before .before .before .before .before .before .before .before .before .before .before .pre in
-    let i = c .before .before .before .before .before .before .before .before .before in
-    let a = c .before .before .before .before .before .before .before .before .before .before .before .before .before .args in
-    number-last (a .table .now) (a .at) _ _ _ _ (i .before .known-kind .ensures) (not-false _ (i .if1 .left)) (c .before .before .before .before .before .before .before .size-of .ensures)
-    p (c .before .before .before .before .before .before .if2 .left) (c .before .before .before .before .entry-of .ensures) _ (c .before .before .before .entry-number .ensures)
-    _ false (c .before .before .if3 .left) (c .before .clashes-before .ensures) (c .if4 .left)
+    let d = c .before .before .before .before .before .before in
+    let s = d .before .before .before .before .before .before in
+    number-last (s .args .table .now) (s .args .at) _ _ _ _ (d .before .before .before .known-kind .ensures) (not-false _ (d .before .before .if1 .left)) (d .before .size-of .ensures)
+    (s .pre) (d .if2 .left) (c .before .before .before .before .entry-of .ensures) _ (c .before .before .before .entry-number .ensures) _ false (c .before .before .if3 .left) (c .before .clashes-before .ensures) (c .if4 .left)
 
 pub number-at-spec : {M : Type 1} → statement M
 number-at-spec =
@@ -56,8 +52,7 @@ number-at-spec =
     (λ c κs. search needs)
     returns
     (λ c. search needs)
-    (λ c. search needs)
-    (λ c κs. search needs)
+    (λ c κs. sym (c .before .known-kind .ensures) ∙ not-false _ (c .if1 .left))
     returns-2
     (λ c. search needs)
     (λ c. search needs)

@@ -15,37 +15,37 @@ returns c =
 returns-2 : tie.Need-returns-2
 returns-2 c =
     let p = c .before .before in
-    let i = p .before .before .before .before .before .before in
+    let f = p .before .before .before .before in
+    let i = f .before .before .before .before in
     let a = i .before .before .before .before .args in
     let gave =
-    at-signing (a .table .now) (a .segment .now) (a .room) (a .state) (i .input-faults .ensures)
-    (p .before .before .before .before .enum-told .given .1) (p .before .before .find-send .ensures)
-    (p .before .added-bytes .ensures) (p .before .before .before .header-of .ensures) (p .sign-faults .ensures) in
+    at-signing (a .table .now) (a .segment .now) (a .room) (a .state) (i .input-faults .ensures) (f .before .before .enum-told .given .1)
+    (f .find-send .ensures) (p .before .added-bytes .ensures) (f .before .header-of .ensures) (p .sign-faults .ensures) in
     nothing-begins (a .table .now) (a .segment .now) (a .room) (a .state) (c .nothing2 .ensures) gave (c .before .match2 .keys2)
 
 ready-requires : tie.Need-ready-requires
 ready-requires c κs =
-    let p = c .before .before .before .before in
-    let i = p .before .before .before .before .before .before in
+    let p = c .before .before .before in
+    let f = p .before .before .before .before in
+    let i = f .before .before .before .before in
     let a = i .before .before .before .before .args in
     let gave =
-    at-signing (a .table .now) (a .segment .now) (a .room) (a .state) (i .input-faults .ensures)
-    (p .before .before .before .before .enum-told .given .1) (p .before .before .find-send .ensures)
-    (p .before .added-bytes .ensures) (p .before .before .before .header-of .ensures) (p .sign-faults .ensures) in
-    may-start (a .table .now) (a .segment .now) (a .room) (a .state) (p .before .before .find-send .ensures) gave
-    (c .before .before .outcome .given .1) (p .before .added-bytes .ensures) (p .before .before .before .header-of .ensures)
+    at-signing (a .table .now) (a .segment .now) (a .room) (a .state) (i .input-faults .ensures) (f .before .before .enum-told .given .1)
+    (f .find-send .ensures) (p .before .added-bytes .ensures) (f .before .header-of .ensures) (p .sign-faults .ensures) in
+    may-start (a .table .now) (a .segment .now) (a .room) (a .state) (f .find-send .ensures) gave (c .before .outcome .given .1)
+    (p .before .added-bytes .ensures) (f .before .header-of .ensures)
 
 returns-3 : tie.Need-returns-3
 returns-3 c =
-    let p = c .before .before .before .before .before in
-    let i = p .before .before .before .before .before .before in
+    let p = c .before .before .before .before in
+    let f = p .before .before .before .before in
+    let i = f .before .before .before .before in
     let a = i .before .before .before .before .args in
     let gave =
-    at-signing (a .table .now) (a .segment .now) (a .room) (a .state) (i .input-faults .ensures)
-    (p .before .before .before .before .enum-told .given .1) (p .before .before .find-send .ensures)
-    (p .before .added-bytes .ensures) (p .before .before .before .header-of .ensures) (p .sign-faults .ensures) in
-    begins (a .table .now) (a .segment .now) (a .room) (a .state) (p .before .before .find-send .ensures) gave
-    (c .before .before .before .outcome .given .1) (c .ready .ensures)
+    at-signing (a .table .now) (a .segment .now) (a .room) (a .state) (i .input-faults .ensures) (f .before .before .enum-told .given .1)
+    (f .find-send .ensures) (p .before .added-bytes .ensures) (f .before .header-of .ensures) (p .sign-faults .ensures) in
+    begins (a .table .now) (a .segment .now) (a .room) (a .state) (f .find-send .ensures) gave (c .before .before .outcome .given .1)
+    (c .ready .ensures)
 
 pub begin-spec : {M : Type 1} → statement M
 begin-spec =

@@ -197,6 +197,7 @@ pub fn open(scene: &Scene, list: &mut List) {
     };
     let no_position = B_ISN + (1 << 31);
     add("unknown KeyID, short MAC", &with_ao(1, 8, 99), 26);
+    add("unknown KeyID, no MAC", &with_ao(1, 4, 99), 26);
     add("short MAC, no position", &with_ao(no_position, 4, 2), 27);
     add("long MAC", &with_ao(B_ISN, 20, 2), 27);
     add("no position, MAC differs", &with_ao(no_position, 16, 2), 28);

@@ -4,6 +4,7 @@ pub mod ask;
 pub mod inputs;
 pub mod judge;
 pub mod key_ids;
+pub mod mac_lengths;
 pub mod open;
 pub mod sign;
 pub mod table;
@@ -32,6 +33,11 @@ pub fn cases() -> Vec<Case> {
     judge::other_pairs(&scene, &mut list);
     sign::segments(&scene, &mut list);
     sign::rooms(&scene, &mut list);
+    mac_lengths::taken(&scene, &mut list);
+    mac_lengths::families(&scene, &mut list);
+    mac_lengths::arriving(&scene, &mut list);
+    mac_lengths::signing(&scene, &mut list);
+    mac_lengths::largest(&scene, &mut list);
     ask::ids(&scene, &mut list);
     list.0
 }

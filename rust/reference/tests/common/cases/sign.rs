@@ -61,10 +61,14 @@ pub fn segments(scene: &Scene, list: &mut List) {
     let offset_12 = b.segment(A_ISN, ACK, b"").options(&options_of(7)).bytes();
     let long = |bytes: usize| a.segment(A_ISN, ACK, &vec![7; bytes - 20]).bytes();
     add("offset 11", &a.state, &offset_11, (0, 60));
-    add("offset 12, wrong ports", &a.state, &offset_12, (32, 0));
+    let lost_offset_12 = a.segment(A_ISN, ACK, b"").options(&options_of(7)).bytes();
+    add("offset 12, wrong ports", &a.state, &offset_12, (33, 0));
+    add("offset 12, no key", &lost, &lost_offset_12, (35, 0));
+    add("offset 12", &a.state, &lost_offset_12, (32, 0));
     add("65,519 bytes", &a.state, &long(65_519), (0, 65_535));
     add("65,520 bytes", &a.state, &long(65_520), (32, 0));
     add("65,535 bytes", &a.state, &long(65_535), (32, 0));
+    add("65,535 bytes, no key", &lost, &long(65_535), (35, 0));
 
     let other_ports = b.segment(A_ISN, SYN, b"").bytes();
     add("wrong ports, bare SYN", &a.state, &other_ports, (33, 0));
@@ -76,6 +80,14 @@ pub fn segments(scene: &Scene, list: &mut List) {
     let half = 1 << 31;
     let late_syn_ack = a.segment(A_ISN + 9, SYN | ACK, b"").bytes();
     let another_number = plain_syn.clone().sequence(A_ISN + 1).bytes();
+    let nowhere_offset_12 = a.segment(A_ISN + 1 + half, ACK, b"");
+    let nowhere_offset_12 = nowhere_offset_12.options(&options_of(7)).bytes();
+    add(
+        "offset 12, no position",
+        &a.state,
+        &nowhere_offset_12,
+        (32, 0),
+    );
     add("no key, no position", &lost, &ack(A_ISN + half), (35, 0));
     add("no position", &a.state, &ack(A_ISN + 1 + half), (36, 0));
     add("SYN+ACK elsewhere", &a.state, &late_syn_ack, (36, 0));

@@ -24,7 +24,9 @@ pub fn bad_tables() -> Vec<(String, Vec<u8>, Answer)> {
     let of_kind = |kind: u8| [vec![kind], good.bytes()[1..].to_vec()].concat();
     let cut6 = good6.bytes()[..127].to_vec();
     add("kind 0", vec![0], 11, 0);
-    add("kind 5, whole", after_one(of_kind(5)), 11, 1);
+    add("kind 3, whole", after_one(of_kind(3)), 11, 1);
+    add("kind 8, whole", after_one(of_kind(8)), 11, 1);
+    add("kind 4's bytes under kind 5", after_one(of_kind(5)), 10, 1);
     add("kind alone", vec![4], 10, 0);
     add("one byte missing", good.bytes()[..103].to_vec(), 10, 0);
     add("one byte missing, IPv6", after_one(cut6), 10, 1);
@@ -97,6 +99,7 @@ pub fn bad_tables() -> Vec<(String, Vec<u8>, Answer)> {
         ..good.clone()
     };
     add("a clash of nested prefixes", after_one(wide.bytes()), 17, 1);
+    list.extend(mac_lengths::bad_tables());
     list
 }
 
