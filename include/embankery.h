@@ -101,7 +101,7 @@ extern "C" {
  *   bytes  field
  *   1      kind: 4 or 5 (IPv4, w = 4), 6 or 7 (IPv6, w = 16)
  *   1      flags: 1, the MAC covers all options; 0, only TCP-AO
- *   1      algorithm: 1, HMAC-SHA-1; 2, AES-128-CMAC
+ *   1      algorithm: 1, HMAC-SHA-1; 2, AES-128-CMAC; 3, HMAC-SHA-256
  *   1      SendID: the KeyID of segments that we sign
  *   1      RecvID: the KeyID of segments that we receive
  *   2, 2   local port, low and high, both included
@@ -281,6 +281,19 @@ uint64_t mac_sha1(const uint8_t *message, size_t message_len, uint8_t *out, size
  */
 uint64_t mac_hmac_sha1(const uint8_t *key, size_t key_len, const uint8_t *message, size_t message_len,
                        uint8_t *out, size_t out_len);
+
+/* SHA-256 (FIPS 180-4) of the message: writes 32 bytes.
+ *
+ * C needs: pointers good for their lengths; out does not overlap message.
+ */
+uint64_t mac_sha256(const uint8_t *message, size_t message_len, uint8_t *out, size_t out_len);
+
+/* HMAC-SHA-256 (RFC 2104) of the message under a key of any length, also none: writes 32 bytes.
+ *
+ * C needs: pointers good for their lengths; out overlaps neither key nor message.
+ */
+uint64_t mac_hmac_sha256(const uint8_t *key, size_t key_len, const uint8_t *message, size_t message_len,
+                         uint8_t *out, size_t out_len);
 
 /* One block encrypted by AES-128 (FIPS 197). key_len and block_len must be 16: writes 16 bytes.
  *

@@ -6,7 +6,8 @@ use mathlib.Core.List.{List, _++_}
 use lib.ListN.{length, drop}
 use lib.Dec.{leb, eqb}
 use Rattle.mac.specs.Sha1.{sha1}
-use Rattle.mac.specs.Hmac.{hmacSha1}
+use Rattle.mac.specs.Sha256.{sha256}
+use Rattle.mac.specs.Hmac.{hmacSha1, hmacSha256}
 use Rattle.mac.specs.Aes.{keyExpansion, cipher}
 use Rattle.mac.specs.Cmac.{cmac}
 
@@ -44,6 +45,12 @@ sha1Into message out = into (room 20 out) 20 (sha1 message) out
 
 unfoldable pub hmacSha1Into : (key message out : List ℕ) → Given
 hmacSha1Into key message out = into (room 20 out) 20 (hmacSha1 key message) out
+
+unfoldable pub sha256Into : (message out : List ℕ) → Given
+sha256Into message out = into (room 32 out) 32 (sha256 message) out
+
+unfoldable pub hmacSha256Into : (key message out : List ℕ) → Given
+hmacSha256Into key message out = into (room 32 out) 32 (hmacSha256 key message) out
 
 unfoldable pub aes128Into : (key block out : List ℕ) → Given
 aes128Into key block out = into (canEncrypt key block out) 16 (cipher (keyExpansion key) block) out

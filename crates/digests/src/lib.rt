@@ -1,11 +1,11 @@
 // The MAC library on lent bytes: docs/BOUNDARY.md, "The calls on one connection", its end. Each call gives how many bytes it wrote at the
-// front of out: 20, 20, 16, 16. Where out is shorter, or an AES key or block has not 16 bytes, it gives 0 and writes nothing. Assumes
-// nothing.
+// front of out: 20, 20, 32, 32, 16, 16. Where out is shorter, or an AES key or block has not 16 bytes, it gives 0 and writes nothing.
+// Assumes nothing.
 ghost use mathlib.Core.Path.{_≡_};
 ghost use Prim.Native.Nat.{_≤_};
 ghost use mathlib.Core.List.{_++_};
 ghost use lib.ListN.{length, drop};
-ghost use Rattle.digests.specs.Digests.{gives, sha1Into, hmacSha1Into, aes128Into, cmacInto};
+ghost use Rattle.digests.specs.Digests.{gives, sha1Into, hmacSha1Into, sha256Into, hmacSha256Into, aes128Into, cmacInto};
 
 // SHA-1 of the message.
 pub fn sha1(message: &[u8], out: &mut [u8]) -> u64
@@ -29,6 +29,30 @@ pub fn hmac_sha1(key: &[u8], message: &[u8], out: &mut [u8]) -> u64
     let d = mac::hmac::hmac_sha1(key, message);
     front(out, &d);
     20
+}
+
+// SHA-256 of the message.
+pub fn sha256(message: &[u8], out: &mut [u8]) -> u64
+    ensures { λ r. ⌜ gives r (now (out .exit)) ≡ sha256Into (now (message .entry)) (now (out .entry)) ⌝ }
+{
+    if out.len() < 32 {
+        return 0;
+    }
+    let d = mac::sha256::sha256(message);
+    front(out, &d);
+    32
+}
+
+// HMAC-SHA-256 of the message under a key of any length.
+pub fn hmac_sha256(key: &[u8], message: &[u8], out: &mut [u8]) -> u64
+    ensures { λ r. ⌜ gives r (now (out .exit)) ≡ hmacSha256Into (now (key .entry)) (now (message .entry)) (now (out .entry)) ⌝ }
+{
+    if out.len() < 32 {
+        return 0;
+    }
+    let d = mac::hmac::hmac_sha256(key, message);
+    front(out, &d);
+    32
 }
 
 // One block encrypted by AES-128.

@@ -1,7 +1,7 @@
 // The MAC library for C: docs/BOUNDARY.md, "The calls on one connection", its end. The calls are those of the crate `digests`. Assumes
 // nothing.
 ghost use mathlib.Core.Path.{_≡_};
-ghost use Rattle.digests.specs.Digests.{gives, sha1Into, hmacSha1Into, aes128Into, cmacInto};
+ghost use Rattle.digests.specs.Digests.{gives, sha1Into, hmacSha1Into, sha256Into, hmacSha256Into, aes128Into, cmacInto};
 
 // SHA-1 of the message.
 #[no_mangle]
@@ -17,6 +17,22 @@ pub extern "C" fn mac_hmac_sha1(key: &[u8], message: &[u8], out: &mut [u8]) -> u
     ensures { λ r. ⌜ gives r (now (out .exit)) ≡ hmacSha1Into (now (key .entry)) (now (message .entry)) (now (out .entry)) ⌝ }
 {
     digests::hmac_sha1(key, message, out)
+}
+
+// SHA-256 of the message.
+#[no_mangle]
+pub extern "C" fn mac_sha256(message: &[u8], out: &mut [u8]) -> u64
+    ensures { λ r. ⌜ gives r (now (out .exit)) ≡ sha256Into (now (message .entry)) (now (out .entry)) ⌝ }
+{
+    digests::sha256(message, out)
+}
+
+// HMAC-SHA-256 of the message under a key of any length.
+#[no_mangle]
+pub extern "C" fn mac_hmac_sha256(key: &[u8], message: &[u8], out: &mut [u8]) -> u64
+    ensures { λ r. ⌜ gives r (now (out .exit)) ≡ hmacSha256Into (now (key .entry)) (now (message .entry)) (now (out .entry)) ⌝ }
+{
+    digests::hmac_sha256(key, message, out)
 }
 
 // One block encrypted by AES-128.

@@ -1,15 +1,15 @@
 -- What a search of a valid table finds: at most one entry answers a pair and an ID, and where one does, the search gives it.
 -- Also what every entry of a valid table has. Of any bytes, with no assumption beside those written.
-use Prim.Native.Nat.{ℕ, suc, _+_, _*_, _≤_, _<_}
+use Prim.Native.Nat.{ℕ, suc, _+_, _*_, _≤_}
 use mathlib.Core.Bool.{Bool, true, false, _||_}
 use mathlib.Core.Path.{_≡_, refl, sym, ap, _∙_, subst}
 use mathlib.Core.List.{List, [], _∷_}
-use mathlib.Core.Logic.{_⊎_, inl, inr, ⊎-elim}
+use mathlib.Core.Logic.{_⊎_, inl, inr}
 use native.Mathlib.Omega.{arith}
-use native.Mathlib.Nat.{add-zero, eq-or-lt-of-le}
+use native.Mathlib.Nat.{add-zero}
 use lib.ListN.{length, drop}
-use lib.Dec.{ltb}
-use borrow.Author.Tests.{eq-eqb, eqb-true, ltb-true, ltb-false, not-false}
+use lib.Dec.{eqb, ltb}
+use borrow.Author.Tests.{eq-eqb, eqb-true, eqb-false, ltb-true, ltb-false, not-false}
 use Rattle.wire.specs.Prefix.{clearPast}
 use Rattle.keys.specs.Entry.{width, entries}
 use Rattle.keys.specs.EntryLaws.{Shape, entries-shape}
@@ -186,7 +186,7 @@ any-holder t p h =
 pub record Proper (e : Entry) : Type 0 where
   pub family : Family (e .selector .family)
   pub flags : e .secret .flags ≤ 1
-  pub algorithm : (e .secret .algorithm ≡ 1) ⊎ (e .secret .algorithm ≡ 2)
+  pub algorithm : (e .secret .algorithm ≡ 1) ⊎ ((e .secret .algorithm ≡ 2) ⊎ (e .secret .algorithm ≡ 3))
   pub mac-low : 4 ≤ e .secret .«mac_bytes»
   pub mac-high : e .secret .«mac_bytes» ≤ 16
   pub key-low : 1 ≤ e .secret .«key_len»
@@ -200,8 +200,13 @@ pub record Proper (e : Entry) : Type 0 where
   pub local-clear : clearPast (e .selector .local .bits) (e .selector .local .address) ≡ true
   pub remote-clear : clearPast (e .selector .remote .bits) (e .selector .remote .address) ≡ true
 
-listed : (a : ℕ) → 1 ≤ a → a ≤ 2 → (a ≡ 1) ⊎ (a ≡ 2)
-listed a h k = ⊎-elim inr (λ (l : a < 2). inl (omega arith)) (eq-or-lt-of-le k)
+listed : (a : ℕ) → 1 ≤ a → a ≤ 3 → (a ≡ 1) ⊎ ((a ≡ 2) ⊎ (a ≡ 3))
+listed a h k = go (eqb a 1) (eqb a 2) refl refl
+  where
+    go : (x y : Bool) → eqb a 1 ≡ x → eqb a 2 ≡ y → (a ≡ 1) ⊎ ((a ≡ 2) ⊎ (a ≡ 3))
+    go true y p q = inl (eqb-true a 1 p)
+    go false true p q = inr (inl (eqb-true a 2 q))
+    go false false p q = let u = eqb-false a 1 p in let v = eqb-false a 2 q in inr (inr (omega arith))
 
 proper-of : (e : Entry) → Shape e → Formed e → Proper e
 proper-of e s f =
@@ -213,7 +218,7 @@ proper-of e s f =
     record {
       family = s .family;
       flags = ltb-false 1 (e .secret .flags) (f .0);
-      algorithm = listed (e .secret .algorithm) (ltb-false (e .secret .algorithm) 1 (f .1 .0)) (ltb-false 2 (e .secret .algorithm) (f .1 .1 .0));
+      algorithm = listed (e .secret .algorithm) (ltb-false (e .secret .algorithm) 1 (f .1 .0)) (ltb-false 3 (e .secret .algorithm) (f .1 .1 .0));
       mac-low = ltb-false (e .secret .«mac_bytes») 4 (m .0);
       mac-high = ltb-false 16 (e .secret .«mac_bytes») (m .1 .0);
       key-low = ltb-false (e .secret .«key_len») 1 (k .0);

@@ -27,12 +27,13 @@ use Rattle.keys.specs.declared.table.Found.{Found}
 unfoldable pub numberOf : List (Test ℕ) → ℕ
 numberOf l = first l 0
 
--- 13: "flags or algorithm not listed"; document 02, Ticket 4: "Refusal 13 also covers the new byte", "4 to 16"
+-- 13: "flags or algorithm not listed"; document 02, Ticket 4: "Refusal 13 also covers the new byte", "4 to 16"; Ticket 13: "Refusal 13
+-- admits 3"
 abbrev pub secretTests : Secret → List (Test ℕ)
 secretTests s =
     test 13 (ltb 1 (s .flags))
     ∷ test 13 (ltb (s .algorithm) 1)
-    ∷ test 13 (ltb 2 (s .algorithm))
+    ∷ test 13 (ltb 3 (s .algorithm))
     ∷ test 13 (ltb (s .«mac_bytes») 4)
     ∷ test 13 (ltb 16 (s .«mac_bytes»)) ∷ []
 

@@ -18,7 +18,7 @@ fn secret_number(s: Secret) -> u8
     if s.algorithm < 1 {
         return 13;
     }
-    if 2 < s.algorithm {
+    if 3 < s.algorithm {
         return 13;
     }
     if s.mac_bytes < 4 {

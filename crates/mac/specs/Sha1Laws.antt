@@ -4,7 +4,8 @@ use mathlib.Core.List.{List}
 use Prim.Native.Nat.{ℕ}
 use lib.ListN.{length}
 use Rattle.mac.specs.BlocksLaws.{digest-all}
-use Rattle.mac.specs.Sha1.{digest, parts, sha1}
+use Rattle.compression.specs.Sha1Block.{digest}
+use Rattle.mac.specs.Sha1.{parts, sha1}
 
 pub length-digest : (h : List ℕ) → length (digest h) ≡ 20
 unfolding digest

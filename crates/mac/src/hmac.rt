@@ -1,21 +1,22 @@
-// HMAC-SHA-1, RFC 2104: of a message that comes in pieces, and of a whole one. The definition is specs/Hmac.
-// A key of any length works. Assumes nothing: every value of the context may come.
+// HMAC, RFC 2104, over a hash of FIPS 180-4: of a message that comes in pieces, and of a whole one. The definition is specs/Hmac.
+// The same code serves every HashAlgorithm, as in hash.rt. A key of any length works. Assumes nothing: every value of the context may come.
 ghost use mathlib.Core.Path.{_≡_};
 ghost use Prim.Native.Nat.{_≤_};
-ghost use lib.ListN.{length};
-ghost use Rattle.mac.specs.Sha1.{compress, initial, parts, sha1 as sha1Of};
-ghost use Rattle.mac.specs.Hmac.{filled as filledOf, keyBlock, xored as xoredOf, hmacSha1, hmacStart, hmacAbsorb, hmacFinished};
-ghost use Rattle.mac.specs.HashContexts.{sha1View, hmacView};
-use crate::block;
-use crate::sha1::Sha1Context;
+ghost use lib.ListN.{length, take};
+ghost use Rattle.mac.specs.Blocks.{hash as hashOf};
+ghost use Rattle.mac.specs.Hmac.{filled as filledOf, keyBlock, xored as xoredOf, hmac as hmacOf, hmacSha1, hmacSha256};
+ghost use Rattle.mac.specs.Hmac.{hmacStart, hmacAbsorb, hmacFinished};
+ghost use Rattle.mac.specs.HashContexts.{partsOf, wordsOf, digestRoom, hmacView};
+use crate::hash::HashContext;
+use crate::hash_algorithm::DIGEST_ROOM;
+use crate::hash_algorithm::HashAlgorithm;
+use crate::hash_algorithm::first_twenty;
 
-// The outer hash's chaining value after the block of its pad, and the inner hash as Sha1Context has it. Of the block only the bytes held
-// mean anything: what stands behind them is no part of the view, and is the one result that the contracts leave free.
-pub struct HmacSha1Context {
-    pub outer: [u32; 5],
-    pub chain: [u32; 5],
-    pub block: [u8; 64],
-    pub count: u64,
+// The outer hash's chaining value after the block of its pad, and the inner hash. What HashContext leaves free is left free here too, and
+// so are the words of `outer` behind those that the hash uses.
+pub struct HmacContext {
+    pub outer: [u32; 8],
+    pub inner: HashContext,
 }
 
 // Zeros behind a key of at most 64 bytes.
@@ -29,13 +30,13 @@ fn filled(key: &[u8]) -> [u8; 64]
 }
 
 // A key of more than 64 bytes is hashed first.
-fn key_block(key: &[u8]) -> [u8; 64]
-    ensures { λ r. ⌜ r ≡ keyBlock sha1Of 64 (now (key .entry)) ⌝ }
+fn key_block(hash: HashAlgorithm, key: &[u8]) -> [u8; 64]
+    ensures { λ r. ⌜ r ≡ keyBlock (hashOf (partsOf hash)) 64 (now (key .entry)) ⌝ }
 {
     if key.len() <= 64 {
         return filled(key);
     }
-    let d = crate::sha1::sha1(key);
+    let d = crate::hash::hash(hash, key);
     filled(&d)
 }
 
@@ -51,74 +52,74 @@ fn xored(k: [u8; 64], x: u8) -> [u8; 64]
 }
 
 // The chaining value after the block of a pad.
-fn pad(k: [u8; 64], x: u8) -> [u32; 5]
-    ensures { λ r. ⌜ r ≡ compress initial (xoredOf x k) ⌝ }
+fn pad(hash: HashAlgorithm, k: [u8; 64], x: u8) -> [u32; 8]
+    ensures { λ r. ⌜ take (wordsOf hash) r ≡ partsOf hash .compress (partsOf hash .initial) (xoredOf x k) ⌝ }
 {
     let p = xored(k, x);
-    block::compress(block::initial(), &p)
+    hash.compress(hash.initial(), &p)
 }
 
-impl HmacSha1Context {
-    pub fn new(key: &[u8]) -> Self
-        ensures { λ r. ⌜ hmacView r ≡ hmacStart parts (now (key .entry)) ⌝ }
+impl HmacContext {
+    pub fn new(hash: HashAlgorithm, key: &[u8]) -> Self
+        ensures { λ r. ⌜ hmacView hash r ≡ hmacStart (partsOf hash) (now (key .entry)) ⌝ }
     {
-        let k = key_block(key);
-        let inner = pad(k, 0x36);
-        let outer = pad(k, 0x5c);
-        HmacSha1Context {
+        let k = key_block(hash, key);
+        let inner = pad(hash, k, 0x36);
+        let outer = pad(hash, k, 0x5c);
+        HmacContext {
             outer,
-            chain: inner,
-            block: [0u8; 64],
-            count: 64,
+            inner: HashContext {
+                chain: inner,
+                block: [0u8; 64],
+                count: 64,
+            },
         }
     }
 
-    // The inner hash.
-    fn inner(self) -> Sha1Context
-        ensures { λ r. ⌜ sha1View r ≡ hmacView self .inner ⌝ }
-    {
-        let chain = self.chain;
-        let block = self.block;
-        Sha1Context {
-            chain,
-            block,
-            count: self.count,
-        }
-    }
-
-    // Decides the view of the result, for every context and all bytes. Left free: the bytes of the result's block behind those held.
-    pub fn update(self, data: &[u8]) -> Self
-        ensures { λ r. ⌜ hmacView r ≡ hmacAbsorb parts (hmacView self) (now («data» .entry)) ⌝ }
+    // Decides the view of the result, for every context and all bytes.
+    pub fn update(self, hash: HashAlgorithm, data: &[u8]) -> Self
+        ensures { λ r. ⌜ hmacView hash r ≡ hmacAbsorb (partsOf hash) (hmacView hash self) (now («data» .entry)) ⌝ }
     {
         let outer = self.outer;
-        let inner = self.inner().update(data);
-        let chain = inner.chain;
-        let block = inner.block;
-        HmacSha1Context {
+        let inner = self.inner;
+        HmacContext {
             outer,
-            chain,
-            block,
-            count: inner.count,
+            inner: inner.update(hash, data),
         }
     }
 
-    pub fn finish(self) -> [u8; 20]
-        ensures { λ r. ⌜ r ≡ hmacFinished parts (hmacView self) ⌝ }
+    // The MAC, with zeros behind it where the room is longer.
+    pub fn finish(self, hash: HashAlgorithm) -> [u8; DIGEST_ROOM]
+        ensures { λ r. ⌜ r ≡ filledOf digestRoom (hmacFinished (partsOf hash) (hmacView hash self)) ⌝ }
     {
         let chain = self.outer;
-        let d = self.inner().finish();
-        let outer = Sha1Context {
+        let inner = self.inner;
+        let d = inner.finish(hash);
+        let n = hash.digest_bytes();
+        let outer = HashContext {
             chain,
             block: [0u8; 64],
             count: 64,
         };
-        outer.update(&d).finish()
+        outer.update(hash, &d[..n]).finish(hash)
     }
 }
 
-// HMAC-SHA-1 of a whole message.
+// HMAC of a whole message.
+pub fn hmac(hash: HashAlgorithm, key: &[u8], data: &[u8]) -> [u8; DIGEST_ROOM]
+    ensures { λ r. ⌜ r ≡ filledOf digestRoom (hmacOf (hashOf (partsOf hash)) 64 (now (key .entry)) (now («data» .entry))) ⌝ }
+{
+    HmacContext::new(hash, key).update(hash, data).finish(hash)
+}
+
 pub fn hmac_sha1(key: &[u8], data: &[u8]) -> [u8; 20]
     ensures { λ r. ⌜ r ≡ hmacSha1 (now (key .entry)) (now («data» .entry)) ⌝ }
 {
-    HmacSha1Context::new(key).update(data).finish()
+    first_twenty(hmac(HashAlgorithm::Sha1, key, data))
+}
+
+pub fn hmac_sha256(key: &[u8], data: &[u8]) -> [u8; 32]
+    ensures { λ r. ⌜ r ≡ hmacSha256 (now (key .entry)) (now («data» .entry)) ⌝ }
+{
+    hmac(HashAlgorithm::Sha256, key, data)
 }

@@ -1,12 +1,12 @@
--- Document 01, "Traffic keys" and "What the MAC covers": RFC 5925 §5.1 and §5.2, RFC 5926 §3.1 and §3.2.
--- Of HMAC-SHA-1 and AES-CMAC nothing is used but their names and the lengths of what they give.
+-- Document 01, "Traffic keys" and "What the MAC covers": RFC 5925 §5.1 and §5.2, RFC 5926 §3.1 and §3.2; document 02, Ticket 13.
+-- Of HMAC and AES-CMAC nothing is used but their names and the lengths of what they give.
 use Prim.Native.Nat.{ℕ, _+_}
-use mathlib.Core.Bool.{Bool, cond}
+use mathlib.Core.Bool.{Bool, cond, _||_}
 use mathlib.Core.List.{List, [], _∷_, _++_}
 use lib.ListN.{length, take, drop, replicate}
 use lib.Dec.{eqb}
 use Rattle.octets.specs.Octets.{bytes16, bytes32}
-use Rattle.mac.specs.Hmac.{hmacSha1}
+use Rattle.mac.specs.Hmac.{hmacSha1, hmacSha256}
 use Rattle.mac.specs.Cmac.{cmac}
 use Rattle.wire.specs.Header.{headerEnd}
 use Rattle.keys.specs.declared.entry.Secret.{Secret}
@@ -37,12 +37,18 @@ derivationInput bits f = (1 ∷ 0x54 ∷ 0x43 ∷ 0x50 ∷ 0x2d ∷ 0x41 ∷ 0x4
 unfoldable pub aesKey : List ℕ → List ℕ
 aesKey k = cond (eqb (length k) 16) k (cmac (replicate 16 0) k)
 
--- the key under which an algorithm derives, and the MAC that it applies: 1 HMAC-SHA-1, 2 AES-128-CMAC (13 leaves no other)
+-- the algorithms that apply an HMAC: 1, and Ticket 13's 3
+abbrev pub isHmac : ℕ → Bool
+isHmac algorithm = eqb algorithm 1 || eqb algorithm 3
+
+-- The key under which an algorithm derives, and the MAC that it applies: 1 HMAC-SHA-1, 2 AES-128-CMAC, 3 HMAC-SHA-256 (13 leaves no
+-- other). Ticket 13: "HMAC-SHA-256, also in place of HMAC-SHA-1 in algorithm 1's key derivation, .. without an extraction step": under the
+-- master key itself.
 abbrev pub derivationKey : ℕ → List ℕ → List ℕ
-derivationKey algorithm k = cond (eqb algorithm 1) k (aesKey k)
+derivationKey algorithm k = cond (isHmac algorithm) k (aesKey k)
 
 unfoldable pub applied : ℕ → List ℕ → List ℕ → List ℕ
-applied algorithm k m = cond (eqb algorithm 1) (hmacSha1 k m) (cmac k m)
+applied algorithm k m = cond (eqb algorithm 1) (hmacSha1 k m) (cond (eqb algorithm 3) (hmacSha256 k m) (cmac k m))
 
 unfoldable pub trafficKey : Secret → Flow → List ℕ
 trafficKey s f = applied (s .algorithm) (derivationKey (s .algorithm) (keyOf s)) (derivationInput (outputBits (s .algorithm)) f)

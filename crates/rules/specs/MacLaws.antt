@@ -3,31 +3,31 @@ use Prim.Native.Nat.{ℕ, _+_, _%_, _≤_}
 use mathlib.Core.Path.{_≡_, refl}
 use mathlib.Core.Bool.{Bool, true, false, cond}
 use mathlib.Core.List.{List, _++_}
-use mathlib.Core.Logic.{_⊎_, ⊎-elim}
 use native.Mathlib.Omega.{arith}
 use lib.ListN.{length, take, drop, length-append}
 use lib.Seq.{length-take-le}
 use lib.Dec.{eqb}
 use Rattle.octets.specs.Octets.{bytes32}
-use Rattle.mac.specs.Hmac.{hmacSha1}
+use Rattle.mac.specs.Hmac.{hmacSha1, hmacSha256}
 use Rattle.mac.specs.Cmac.{cmac}
-use Rattle.mac.specs.HmacLaws.{length-hmacSha1}
+use Rattle.mac.specs.HmacLaws.{length-hmacSha1, length-hmacSha256}
 use Rattle.mac.specs.CmacLaws.{length-cmac}
 use Rattle.wire.specs.Header.{headerEnd}
 use Rattle.keys.specs.declared.entry.Secret.{Secret}
-use Rattle.keys.specs.Algorithm.{trafficKeyBytes, outputBits}
+use Rattle.keys.specs.Algorithm.{outputBits}
 use Rattle.keys.specs.Entry.{keyOf}
 use Rattle.rules.specs.Mac.{Flow, context, derivationInput, aesKey, derivationKey, applied, trafficKey, pseudoHeader, coveredHeader}
 use Rattle.rules.specs.Mac.{front, message, segmentMac}
 
--- both algorithms give at least 16 bytes
+-- every algorithm gives at least 16 bytes
 pub applied-long : (algorithm : ℕ) (k m : List ℕ) → 16 ≤ length (applied algorithm k m)
 unfolding applied
-applied-long algorithm k m = go (eqb algorithm 1) refl
+applied-long algorithm k m = go (eqb algorithm 1) (eqb algorithm 3)
   where
-    go : (b : Bool) → eqb algorithm 1 ≡ b → 16 ≤ length (cond (eqb algorithm 1) (hmacSha1 k m) (cmac k m))
-    go true e = rw e (omega (arith, length-hmacSha1 k m))
-    go false e = rw e (omega (arith, length-cmac k m))
+    go : (a b : Bool) → 16 ≤ length (cond a (hmacSha1 k m) (cond b (hmacSha256 k m) (cmac k m)))
+    go true b = omega (arith, length-hmacSha1 k m)
+    go false true = omega (arith, length-hmacSha256 k m)
+    go false false = omega (arith, length-cmac k m)
 
 pub length-mac : (s : Secret) (f : Flow) (extension at : ℕ) (segment : List ℕ) → s .«mac_bytes» ≤ 16
     → length (segmentMac s f extension at segment) ≡ s .«mac_bytes»
@@ -36,12 +36,18 @@ length-mac s f extension at segment h =
     length-take-le (s .«mac_bytes») (applied (s .algorithm) (trafficKey s f) (message s f extension at segment))
     (omega (arith, applied-long (s .algorithm) (trafficKey s f) (message s f extension at segment)))
 
--- "traffic key bytes (20 and 16)"
-pub length-traffic-key : (s : Secret) (f : Flow) → (s .algorithm ≡ 1) ⊎ (s .algorithm ≡ 2) → length (trafficKey s f) ≡ trafficKeyBytes (s .algorithm)
-unfolding trafficKey applied trafficKeyBytes
-length-traffic-key s f a =
-    ⊎-elim (λ (e : s .algorithm ≡ 1). rw e (length-hmacSha1 (keyOf s) (derivationInput (outputBits 1) f)))
-    (λ (e : s .algorithm ≡ 2). rw e (length-cmac (aesKey (keyOf s)) (derivationInput (outputBits 2) f))) a
+-- "traffic key bytes (20 and 16)", and 32 of algorithm 3
+pub length-key-1 : (s : Secret) (f : Flow) → s .algorithm ≡ 1 → length (trafficKey s f) ≡ 20
+unfolding trafficKey applied
+length-key-1 s f e = rw e (length-hmacSha1 (keyOf s) (derivationInput (outputBits 1) f))
+
+pub length-key-2 : (s : Secret) (f : Flow) → s .algorithm ≡ 2 → length (trafficKey s f) ≡ 16
+unfolding trafficKey applied
+length-key-2 s f e = rw e (length-cmac (aesKey (keyOf s)) (derivationInput (outputBits 2) f))
+
+pub length-key-3 : (s : Secret) (f : Flow) → s .algorithm ≡ 3 → length (trafficKey s f) ≡ 32
+unfolding trafficKey applied
+length-key-3 s f e = rw e (length-hmacSha256 (keyOf s) (derivationInput (outputBits 3) f))
 
 -- "It has 20 bytes for IPv4, 44 for IPv6", and the input "29 or 53 bytes in all"
 pub length-context : (f : Flow) → length (context f) ≡ length (f .source) + length (f .destination) + 12

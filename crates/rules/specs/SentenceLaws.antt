@@ -5,13 +5,12 @@ use mathlib.Core.Bool.{Bool, true, false, cond, not, _&&_}
 use mathlib.Core.List.{List, [], _∷_, _++_}
 use native.Mathlib.Omega.{arith}
 use lib.ListN.{length, length-append}
-use mathlib.Core.Logic.{inl, inr}
 use lib.Dec.{eqb, ltb}
 use borrow.Author.Tests.{lt-ltb, eq-eqb, eqb-true}
 use Rattle.octets.specs.Tests.{any}
 use Rattle.wire.specs.Header.{sourcePort, destinationPort, sequence, dataOffset, headerEnd, syn}
 use Rattle.mac.specs.Cmac.{cmac}
-use Rattle.keys.specs.Algorithm.{trafficKeyBytes, outputBits}
+use Rattle.keys.specs.Algorithm.{outputBits}
 use Rattle.keys.specs.declared.entry.Pair.{Pair}
 use Rattle.keys.specs.Entry.{isFamily, width, keyOf}
 use Rattle.keys.specs.Table as K
@@ -27,7 +26,7 @@ use Rattle.rules.specs.Segment.{malformed, ao, md5, keyId, rnextKeyId, i
 use Rattle.rules.specs.Connection.{sized, arrivalPair, isOpen, placeOn, located, value}
 use Rattle.rules.specs.Calls.{check, synUnknown, checkSyn, unrefused, checkSign, outgoing}
 use Rattle.rules.specs.Answers.{verdictAnswer}
-use Rattle.rules.specs.MacLaws.{length-context, length-traffic-key}
+use Rattle.rules.specs.MacLaws.{length-context, length-key-1, length-key-2, length-key-3}
 use Rattle.rules.specs.RoundTripLaws.{whole-words}
 use Rattle.rules.specs.GrowthLaws.{above-15}
 use Rattle.rules.specs.Sentences.{NumberRow, row, firstOf, badSize, judgeRows, synRows, signRows, entriesRow, JudgeTable, SynTable, SignTable}
@@ -155,18 +154,19 @@ traffic-keys =
       hmac = λ s f e. rw e;
       cmac-16 = λ s f e l. rw (e, eq-eqb (length (keyOf s)) 16 l);
       cmac-other = λ s f e l. rw (e, not-16 (length (keyOf s)) l);
+      hmac-256 = λ s f e. rw e;
     }
 
 pub lengths : Lengths
-unfolding trafficKeyBytes
 lengths =
     record {
       context-ipv4 = λ f a b. omega (arith, length-context f);
       context-ipv6 = λ f a b. omega (arith, length-context f);
-      input-ipv4 = λ f bits a b. omega (arith, length-append (context f) (0 ∷ bits ∷ []), length-context f);
-      input-ipv6 = λ f bits a b. omega (arith, length-append (context f) (0 ∷ bits ∷ []), length-context f);
-      key-hmac = λ s f e. length-traffic-key s f (inl e) ∙ rw e;
-      key-cmac = λ s f e. length-traffic-key s f (inr e) ∙ rw e;
+      input-ipv4 = λ f high low a b. omega (arith, length-append (context f) (high ∷ low ∷ []), length-context f);
+      input-ipv6 = λ f high low a b. omega (arith, length-append (context f) (high ∷ low ∷ []), length-context f);
+      key-hmac = length-key-1;
+      key-cmac = length-key-2;
+      key-256 = length-key-3;
     }
 
 -- What the MAC covers.
@@ -181,7 +181,12 @@ message-order s f e at segment = refl
 
 pub segment-macs : SegmentMacs
 unfolding segmentMac applied
-segment-macs = record { hmac = λ s f e at n segment a m. rw (a, m); cmac = λ s f e at n segment a m. rw (a, m) }
+segment-macs =
+    record {
+      hmac = λ s f e at n segment a m. rw (a, m);
+      cmac = λ s f e at n segment a m. rw (a, m);
+      hmac-256 = λ s f e at n segment a m. rw (a, m);
+    }
 
 pub padded-example : PaddedExample
 unfolding withOption inserted

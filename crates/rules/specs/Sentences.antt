@@ -10,7 +10,7 @@ use lib.Dec.{eqb, ltb}
 use Rattle.octets.specs.Tests.{Test, any}
 use Rattle.wire.specs.Bytes.{sameBytes}
 use Rattle.wire.specs.Header.{sourcePort, destinationPort, sequence, dataOffset, headerEnd, syn, ack}
-use Rattle.mac.specs.Hmac.{hmacSha1}
+use Rattle.mac.specs.Hmac.{hmacSha1, hmacSha256}
 use Rattle.mac.specs.Cmac.{cmac}
 use Rattle.keys.specs.declared.entry.Pair.{Pair}
 use Rattle.keys.specs.declared.entry.Entry.{Entry}
@@ -217,25 +217,30 @@ pub record Contexts : Type 0 where
       ≡ 10 ∷ 11 ∷ 12 ∷ 13 ∷ 172 ∷ 27 ∷ 28 ∷ 29 ∷ 233 ∷ 215 ∷ 0 ∷ 179 ∷ 0 ∷ 0 ∷ 0 ∷ 100 ∷ 0 ∷ 0 ∷ 0 ∷ 0 ∷ []
 
 -- "The input is one byte 1, the six bytes "TCP-AO", the context, and the output length in bits as two bytes (160 or 128)"
-abbrev pub input : Flow → ℕ → List ℕ
-input f bits = 1 ∷ 84 ∷ 67 ∷ 80 ∷ 45 ∷ 65 ∷ 79 ∷ (context f ++ (0 ∷ bits ∷ []))
+abbrev pub input : Flow → ℕ → ℕ → List ℕ
+input f high low = 1 ∷ 84 ∷ 67 ∷ 80 ∷ 45 ∷ 65 ∷ 79 ∷ (context f ++ (high ∷ low ∷ []))
 
 -- "Algorithm 1 applies HMAC-SHA-1 under the master key. Algorithm 2 applies AES-CMAC under the master key if that has 16 bytes; otherwise
 -- under AES-CMAC of the master key with an all-zero key."
 pub record TrafficKeys : Type 0 where
-  pub hmac : (s : Secret) (f : Flow) → s .algorithm ≡ 1 → trafficKey s f ≡ hmacSha1 (keyOf s) (input f 160)
-  pub cmac-16 : (s : Secret) (f : Flow) → s .algorithm ≡ 2 → length (keyOf s) ≡ 16 → trafficKey s f ≡ cmac (keyOf s) (input f 128)
+  pub hmac : (s : Secret) (f : Flow) → s .algorithm ≡ 1 → trafficKey s f ≡ hmacSha1 (keyOf s) (input f 0 160)
+  pub cmac-16 : (s : Secret) (f : Flow) → s .algorithm ≡ 2 → length (keyOf s) ≡ 16 → trafficKey s f ≡ cmac (keyOf s) (input f 0 128)
   pub cmac-other : (s : Secret) (f : Flow) → s .algorithm ≡ 2 → (length (keyOf s) ≡ 16 → ⊥)
-      → trafficKey s f ≡ cmac (cmac (replicate 16 0) (keyOf s)) (input f 128)
+      → trafficKey s f ≡ cmac (cmac (replicate 16 0) (keyOf s)) (input f 0 128)
+  -- Ticket 13: "HMAC-SHA-256, also in place of HMAC-SHA-1 in algorithm 1's key derivation, with output length 256, without an extraction
+  -- step"
+  pub hmac-256 : (s : Secret) (f : Flow) → s .algorithm ≡ 3 → trafficKey s f ≡ hmacSha256 (keyOf s) (input f 1 0)
 
--- "It has 20 bytes for IPv4, 44 for IPv6"; the input has "29 or 53 bytes in all"; "traffic key bytes (20 and 16)"
+-- "It has 20 bytes for IPv4, 44 for IPv6"; the input has "29 or 53 bytes in all"; "traffic key bytes (20 and 16)", of
+-- algorithm 3 as many as SHA-256 gives
 pub record Lengths : Type 0 where
   pub context-ipv4 : (f : Flow) → length (f .source) ≡ 4 → length (f .destination) ≡ 4 → length (context f) ≡ 20
   pub context-ipv6 : (f : Flow) → length (f .source) ≡ 16 → length (f .destination) ≡ 16 → length (context f) ≡ 44
-  pub input-ipv4 : (f : Flow) (bits : ℕ) → length (f .source) ≡ 4 → length (f .destination) ≡ 4 → length (input f bits) ≡ 29
-  pub input-ipv6 : (f : Flow) (bits : ℕ) → length (f .source) ≡ 16 → length (f .destination) ≡ 16 → length (input f bits) ≡ 53
+  pub input-ipv4 : (f : Flow) (a b : ℕ) → length (f .source) ≡ 4 → length (f .destination) ≡ 4 → length (input f a b) ≡ 29
+  pub input-ipv6 : (f : Flow) (a b : ℕ) → length (f .source) ≡ 16 → length (f .destination) ≡ 16 → length (input f a b) ≡ 53
   pub key-hmac : (s : Secret) (f : Flow) → s .algorithm ≡ 1 → length (trafficKey s f) ≡ 20
   pub key-cmac : (s : Secret) (f : Flow) → s .algorithm ≡ 2 → length (trafficKey s f) ≡ 16
+  pub key-256 : (s : Secret) (f : Flow) → s .algorithm ≡ 3 → length (trafficKey s f) ≡ 32
 
 -- What the MAC covers.
 
@@ -260,6 +265,8 @@ pub record SegmentMacs : Type 0 where
       → segmentMac s f e at segment ≡ take n (hmacSha1 (trafficKey s f) (message s f e at segment))
   pub cmac : (s : Secret) (f : Flow) (e at n : ℕ) (segment : List ℕ) → s .algorithm ≡ 2 → s .«mac_bytes» ≡ n
       → segmentMac s f e at segment ≡ take n (cmac (trafficKey s f) (message s f e at segment))
+  pub hmac-256 : (s : Secret) (f : Flow) (e at n : ℕ) (segment : List ℕ) → s .algorithm ≡ 3 → s .«mac_bytes» ≡ n
+      → segmentMac s f e at segment ≡ take n (hmacSha256 (trafficKey s f) (message s f e at segment))
 
 -- A segment that arrives on the open connection, 27 bytes: four options of kind 1, three bytes of data.
 abbrev pub unsigned : List ℕ

@@ -1,15 +1,17 @@
 -- Laws of the MAC in pieces: a ++ b is a and then b; what is finished from the start on is the MAC of the whole. None has a hypothesis. Assumes nothing.
 use Prim.Native.Nat.{ℕ, _-_}
 use mathlib.Core.Path.{_≡_, refl, sym, ap, _∙_}
-use mathlib.Core.Bool.{Bool, true, false, cond}
+use mathlib.Core.Bool.{Bool, true, false, cond, _||_}
 use mathlib.Core.List.{List, _++_, append-nil}
 use lib.ListN.{length, take, replicate}
 use lib.Seq.{take-at}
 use native.Mathlib.Omega.{arith}
 use lib.Dec.{eqb}
-use Rattle.mac.specs.Sha1.{parts}
-use Rattle.mac.specs.Hmac.{hmacSha1, hmacStart}
-use Rattle.mac.specs.HmacLaws.{hmacAbsorb-append, hmacSha1-message, length-hmacSha1}
+use Rattle.mac.specs.Hmac.{hmacSha1, hmacSha256, hmacStart}
+use Rattle.mac.specs.HmacLaws.{hmacAbsorb-append, hmacSha1-message, length-hmacSha1, hmacSha256-message, length-hmacSha256}
+use Rattle.mac.specs.HashContexts.{partsOf, digestBytes}
+use Rattle.mac.specs.declared.hash_algorithm.HashAlgorithm.{HashAlgorithm}
+use Rattle.mac.specs.declared.hash_algorithm.HashAlgorithm.the-variants.{Sha1, Sha256}
 use Rattle.mac.specs.Cmac.{cmac, start}
 use Rattle.mac.specs.CmacLaws.{absorb-append, finished-absorb, length-cmac}
 use Rattle.rules.specs.Mac.{applied}
@@ -24,27 +26,40 @@ padded-full n l e =
 
 pub macAbsorb-append : (v : MacView) (a b : List ℕ) → macAbsorb v (a ++ b) ≡ macAbsorb (macAbsorb v a) b
 unfolding macAbsorb
-macAbsorb-append (Hmac v) a b = ap Hmac (hmacAbsorb-append parts v a b)
+macAbsorb-append (Hmac h v) a b = ap (Hmac h) (hmacAbsorb-append (partsOf h) v a b)
 macAbsorb-append (Cmac v) a b = ap Cmac (absorb-append v a b)
+
+-- the hash, and the key's length, by which algorithm it is: 1, 3, or neither
+abbrev hashBy : Bool → HashAlgorithm
+hashBy one = cond one Sha1 Sha256
+
+abbrev keyBy : Bool → Bool → List ℕ → List ℕ
+keyBy one three key = take (cond (one || three) (digestBytes (hashBy one)) 16) key
+
+abbrev appliedBy : Bool → Bool → List ℕ → List ℕ → List ℕ
+appliedBy one three k m = cond one (hmacSha1 k m) (cond three (hmacSha256 k m) (cmac k m))
 
 pub macFinished-absorb : (algorithm : ℕ) (key m : List ℕ)
     → macFinished (macAbsorb (macStart algorithm key) m) ≡ padded digestRoom (applied algorithm (keyFor algorithm key) m)
 unfolding macStart macAbsorb macFinished applied
-macFinished-absorb algorithm key m = go (eqb algorithm 1)
+macFinished-absorb algorithm key m = go (eqb algorithm 1) (eqb algorithm 3)
   where
-    go : (b : Bool)
-        → macFinished (macAbsorb (cond b (Hmac (hmacStart parts key)) (Cmac (start (take 16 key)))) m)
-        ≡ padded digestRoom (cond b (hmacSha1 (cond b key (take 16 key)) m) (cmac (cond b key (take 16 key)) m))
-    go true = hmacSha1-message key m refl refl refl ∙ sym (padded-full digestRoom (hmacSha1 key m) (length-hmacSha1 key m))
-    go false = ap (padded digestRoom) (finished-absorb (take 16 key) m)
+    go : (one three : Bool)
+        → macFinished
+        (macAbsorb
+        (cond (one || three) (Hmac (hashBy one) (hmacStart (partsOf (hashBy one)) (keyBy one three key))) (Cmac (start (keyBy one three key))))
+        m)
+        ≡ padded digestRoom (appliedBy one three (keyBy one three key) m)
+    go true three = ap (padded digestRoom) (hmacSha1-message (take 20 key) m refl refl refl)
+    go false true = ap (padded digestRoom) (hmacSha256-message (take 32 key) m refl refl refl)
+    go false false = ap (padded digestRoom) (finished-absorb (take 16 key) m)
 
--- a key that has the algorithm's bytes comes back out of the twenty
+-- a key that has the algorithm's bytes comes back out of its room
 pub keyFor-applied : (algorithm : ℕ) (k m : List ℕ) → keyFor algorithm (padded digestRoom (applied algorithm k m)) ≡ applied algorithm k m
 unfolding applied
-keyFor-applied algorithm k m = go (eqb algorithm 1)
+keyFor-applied algorithm k m = go (eqb algorithm 1) (eqb algorithm 3)
   where
-    go : (b : Bool)
-        → cond b (padded digestRoom (cond b (hmacSha1 k m) (cmac k m)))
-        (take 16 (padded digestRoom (cond b (hmacSha1 k m) (cmac k m)))) ≡ cond b (hmacSha1 k m) (cmac k m)
-    go true = padded-full digestRoom (hmacSha1 k m) (length-hmacSha1 k m)
-    go false = take-at (cmac k m) _ 16 (length-cmac k m)
+    go : (one three : Bool) → keyBy one three (padded digestRoom (appliedBy one three k m)) ≡ appliedBy one three k m
+    go true three = take-at (hmacSha1 k m) _ 20 (length-hmacSha1 k m)
+    go false true = take-at (hmacSha256 k m) _ 32 (length-hmacSha256 k m)
+    go false false = take-at (cmac k m) _ 16 (length-cmac k m)

@@ -1,41 +1,19 @@
 -- The tag of a segment (src/tag.rt) and the MAC of the crate `rules`: its first bytes are `segmentMac`. Assumes nothing.
 use Prim.Native.Nat.{ℕ, _+_, _-_, _≤_}
 use mathlib.Core.Path.{_≡_, sym, ap, _∙_}
-use mathlib.Core.Bool.{Bool, true, false, cond, _||_}
 use mathlib.Core.List.{List, _++_}
 use native.Mathlib.Omega.{arith}
 use lib.ListN.{length, take, drop, length-append}
 use lib.Seq.{take-append-le, take-at, drop-at}
-use lib.Dec.{eqb}
-use Rattle.mac.specs.Hmac.{hmacSha1}
-use Rattle.mac.specs.HmacLaws.{length-hmacSha1}
-use Rattle.mac.specs.Cmac.{cmac}
-use Rattle.mac.specs.CmacLaws.{length-cmac}
 use Rattle.wire.specs.Header.{headerEnd}
 use Rattle.keys.specs.declared.entry.Secret.{Secret}
-use Rattle.keys.specs.Algorithm.{trafficKeyBytes, outputBits}
+use Rattle.keys.specs.Algorithm.{outputBits}
 use Rattle.keys.specs.Entry.{keyOf}
 use Rattle.rules.specs.Mac.{Flow, derivationInput, derivationKey, applied, trafficKey, front, message, segmentMac}
 use Rattle.rules.specs.MacLaws.{applied-long}
 use Rattle.traffic.specs.Padded.{padded, digestRoom}
 use Rattle.traffic.specs.MacContext.{MacView, macStart, macAbsorb, macFinished}
 use Rattle.traffic.specs.MacContextLaws.{macAbsorb-append, macFinished-absorb, keyFor-applied}
-
--- "traffic key bytes (20 and 16)"
-pub length-trafficKey : (s : Secret) (f : Flow) → (eqb (s .algorithm) 1 || eqb (s .algorithm) 2) ≡ true → length (trafficKey s f) ≡ trafficKeyBytes (s .algorithm)
-unfolding trafficKey applied trafficKeyBytes
-length-trafficKey s f known = go (eqb (s .algorithm) 1) (eqb (s .algorithm) 2) known
-  where
-    k : List ℕ
-    k = derivationKey (s .algorithm) (keyOf s)
-
-    m : List ℕ
-    m = derivationInput (outputBits (s .algorithm)) f
-
-    go : (a b : Bool) → (a || b) ≡ true → length (cond a (hmacSha1 k m) (cmac k m)) ≡ cond a 20 (cond b 16 0)
-    go true b e = length-hmacSha1 k m
-    go false true e = length-cmac k m
-    go false false e = let z : _≡_ {A = ℕ} 0 1 = cc in absurd (omega arith)
 
 -- a context that is new under the traffic key, has absorbed a and then b, and is finished
 pub tagged : (s : Secret) (f : Flow) (a b : List ℕ) {v u : MacView} {r : List ℕ}

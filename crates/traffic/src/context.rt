@@ -1,26 +1,44 @@
-// The MAC of an algorithm, of a message that comes in pieces: begin, data, end. Algorithm 1 is HMAC-SHA-1 (RFC 2104), any other
-// AES-CMAC (RFC 4493).
+// The MAC of an algorithm, of a message that comes in pieces: begin, data, end. Algorithms 1 and 3 are HMAC (RFC 2104) with SHA-1 and with
+// SHA-256, any other is AES-CMAC (RFC 4493).
 // It holds all that a run of pieces has to keep, as plain values. Assumes nothing: every value is a context, whose meaning is its view.
 ghost use mathlib.Core.Path.{_≡_};
 ghost use lib.ListN.{take};
-ghost use Rattle.traffic.specs.MacContext.{macView, macStart, macAbsorb, macFinished};
+ghost use Rattle.rules.specs.Mac.{isHmac};
+ghost use Rattle.traffic.specs.MacContext.{hashFor, macView, macStart, macAbsorb, macFinished};
 ghost use Rattle.traffic.specs.Padded.{padded as paddedOf, digestRoom};
 use keys::algorithm::Aes128Cmac96;
 use mac::cmac::CmacContext;
-use mac::hmac::HmacSha1Context;
-
-// The room for a digest and for a traffic key, which is one: the longer of the algorithms' has so many bytes. `digestRoom` of specs/Padded.
-pub const DIGEST_ROOM: usize = 20;
+use mac::hash::HashContext;
+use mac::hash_algorithm::DIGEST_ROOM;
+use mac::hash_algorithm::HashAlgorithm;
+use mac::hmac::HmacContext;
 
 // Only the context that `algorithm` names means anything. The other one is no part of the view, and neither is which of the numbers other
-// than 1 `algorithm` is, nor what HmacSha1Context and CmacContext leave free: the contracts leave these of a result free.
+// than 1 and 3 `algorithm` is, nor what HmacContext and CmacContext leave free: the contracts leave these of a result free.
 pub struct MacContext {
     pub algorithm: u8,
-    pub hmac: HmacSha1Context,
+    pub hmac: HmacContext,
     pub cmac: CmacContext,
 }
 
-// The traffic key of algorithm 2, out of the room that there is for both.
+// Whether the algorithm applies an HMAC.
+pub(crate) fn is_hmac(algorithm: u8) -> bool
+    ensures { λ r. ⌜ r ≡ isHmac algorithm ⌝ }
+{
+    algorithm == 1 || algorithm == 3
+}
+
+// The hash of an algorithm that does.
+pub(crate) fn hash_for(algorithm: u8) -> HashAlgorithm
+    ensures { λ r. ⌜ r ≡ hashFor algorithm ⌝ }
+{
+    if algorithm == 1 {
+        return HashAlgorithm::Sha1;
+    }
+    HashAlgorithm::Sha256
+}
+
+// The traffic key of algorithm 2, out of the room that there is for all.
 fn first16(key: [u8; DIGEST_ROOM]) -> [u8; Aes128Cmac96::TRAFFIC_KEY_BYTES]
     ensures { λ r. ⌜ r ≡ take 16 key ⌝ }
 {
@@ -38,13 +56,24 @@ pub(crate) fn padded(tag: [u8; 16]) -> [u8; DIGEST_ROOM]
     t
 }
 
-// A context that is not used: nothing is hashed for it.
-fn no_hmac() -> HmacSha1Context {
-    HmacSha1Context {
-        outer: [0u32; 5],
-        chain: [0u32; 5],
-        block: [0u8; 64],
-        count: 0,
+// Contexts that are not used: nothing is hashed or enciphered for them.
+fn no_hmac() -> HmacContext {
+    HmacContext {
+        outer: [0u32; 8],
+        inner: HashContext {
+            chain: [0u32; 8],
+            block: [0u8; 64],
+            count: 0,
+        },
+    }
+}
+
+fn no_cmac() -> CmacContext {
+    CmacContext {
+        key: [0u8; 16],
+        chain: [0u8; 16],
+        block: [0u8; 16],
+        held: 0,
     }
 }
 
@@ -53,12 +82,7 @@ pub fn unused() -> MacContext {
     MacContext {
         algorithm: 0,
         hmac: no_hmac(),
-        cmac: CmacContext {
-            key: [0u8; 16],
-            chain: [0u8; 16],
-            block: [0u8; 16],
-            held: 0,
-        },
+        cmac: no_cmac(),
     }
 }
 
@@ -66,18 +90,19 @@ impl MacContext {
     pub fn new(algorithm: u8, key: [u8; DIGEST_ROOM]) -> Self
         ensures { λ r. ⌜ macView r ≡ macStart algorithm key ⌝ }
     {
-        let cmac = CmacContext::new(first16(key));
-        if algorithm == 1 {
+        if is_hmac(algorithm) {
+            let hash = hash_for(algorithm);
+            let n = hash.digest_bytes();
             return MacContext {
                 algorithm,
-                hmac: HmacSha1Context::new(&key),
-                cmac,
+                hmac: HmacContext::new(hash, &key[..n]),
+                cmac: no_cmac(),
             };
         }
         MacContext {
             algorithm,
             hmac: no_hmac(),
-            cmac,
+            cmac: CmacContext::new(first16(key)),
         }
     }
 
@@ -87,10 +112,10 @@ impl MacContext {
         let algorithm = self.algorithm;
         let hmac = self.hmac;
         let cmac = self.cmac;
-        if algorithm == 1 {
+        if is_hmac(algorithm) {
             return MacContext {
                 algorithm,
-                hmac: hmac.update(data),
+                hmac: hmac.update(hash_for(algorithm), data),
                 cmac,
             };
         }
@@ -105,9 +130,9 @@ impl MacContext {
         ensures { λ r. ⌜ r ≡ macFinished (macView self) ⌝ }
     {
         let algorithm = self.algorithm;
-        if algorithm == 1 {
+        if is_hmac(algorithm) {
             let hmac = self.hmac;
-            return hmac.finish();
+            return hmac.finish(hash_for(algorithm));
         }
         let cmac = self.cmac;
         padded(cmac.finish())

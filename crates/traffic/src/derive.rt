@@ -7,10 +7,12 @@ ghost use Rattle.traffic.specs.Assembled.{Pushed, none};
 ghost use Rattle.traffic.specs.Padded.{padded, digestRoom};
 ghost use Rattle.traffic.specs.Flow.{flowOf};
 use crate::assembled::Assembled;
-use crate::context::DIGEST_ROOM;
+use crate::context::hash_for;
+use crate::context::is_hmac;
 use crate::flow::Flow;
 use keys::algorithm::output_bits;
 use keys::entry::Secret;
+use mac::hash_algorithm::DIGEST_ROOM;
 
 // "one byte 1, the six bytes "TCP-AO""
 const LABEL: [u8; 7] = *b"\x01TCP-AO";
@@ -50,8 +52,8 @@ fn aes_key(key: &[u8]) -> [u8; 16]
 fn derived(algorithm: u8, key: &[u8], input: &[u8]) -> [u8; DIGEST_ROOM]
     ensures { λ r. ⌜ r ≡ padded digestRoom (applied algorithm (derivationKey algorithm (now (key .entry))) (now (input .entry))) ⌝ }
 {
-    if algorithm == 1 {
-        return mac::hmac::hmac_sha1(key, input);
+    if is_hmac(algorithm) {
+        return mac::hmac::hmac(hash_for(algorithm), key, input);
     }
     let k = aes_key(key);
     crate::context::padded(mac::cmac::cmac(k, input))
@@ -64,7 +66,7 @@ fn key_bytes(len: u8) -> usize
     if len < 80 { len as usize } else { 80 }
 }
 
-// The traffic key; zeros stand behind one of algorithm 2.
+// The traffic key; zeros stand behind one that is shorter than its room.
 pub fn traffic_key(secret: Secret, flow: Flow) -> [u8; DIGEST_ROOM]
     ensures { λ r. ⌜ r ≡ padded digestRoom (trafficKey secret (flowOf flow)) ⌝ }
 {

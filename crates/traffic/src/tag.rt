@@ -9,7 +9,6 @@ ghost use Rattle.rules.specs.Mac.{trafficKey, front as frontOf};
 ghost use Rattle.traffic.specs.MacContext.{macView, macStart, macAbsorb};
 ghost use Rattle.traffic.specs.Padded.{padded, digestRoom};
 ghost use Rattle.traffic.specs.Flow.{flowOf};
-use crate::context::DIGEST_ROOM;
 use crate::context::MacContext;
 use crate::flow::Flow;
 use keys::entry::Secret;

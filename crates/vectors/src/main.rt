@@ -8,19 +8,20 @@ mod suites;
 use columns::lines;
 use columns::report::Tally;
 use columns::report::place;
+use mac::hash_algorithm::HashAlgorithm;
 
 enum Suite {
-    Fips180,
+    Hash(HashAlgorithm),
+    Hmac(HashAlgorithm),
     Fips197,
-    Rfc2202,
     Rfc4493,
 }
 
 fn judged(suite: Suite, line: &[u8], key: [u8; 16]) -> bool {
     match suite {
-        Suite::Fips180 => suites::fips180(line),
+        Suite::Hash(hash) => suites::fips180(hash, line),
+        Suite::Hmac(hash) => suites::hmac(hash, line),
         Suite::Fips197 => suites::fips197(line),
-        Suite::Rfc2202 => suites::rfc2202(line),
         Suite::Rfc4493 => suites::rfc4493(line, key),
     }
 }
@@ -64,9 +65,11 @@ fn run(suite: Suite, file: &[u8], t: Tally) -> Tally {
 
 fn main() {
     let t = Tally::new();
-    let t = run(Suite::Fips180, b"fips180.txt", t);
+    let t = run(Suite::Hash(HashAlgorithm::Sha1), b"fips180.txt", t);
+    let t = run(Suite::Hash(HashAlgorithm::Sha256), b"fips180-256.txt", t);
     let t = run(Suite::Fips197, b"fips197.txt", t);
-    let t = run(Suite::Rfc2202, b"rfc2202.txt", t);
+    let t = run(Suite::Hmac(HashAlgorithm::Sha1), b"rfc2202.txt", t);
+    let t = run(Suite::Hmac(HashAlgorithm::Sha256), b"rfc4231.txt", t);
     let t = run(Suite::Rfc4493, b"rfc4493.txt", t);
     t.print();
 }

@@ -7,20 +7,21 @@ use columns::lines::column;
 use columns::lines::ends;
 use columns::report::text;
 use columns::report::unreadable;
+use mac::hash_algorithm::HashAlgorithm;
+use mac::hash_algorithm::first_twenty;
 use wire::bytes::same;
 
-// FIPS 180-4, SHA-1. Columns: message, digest.
-pub fn fips180(line: &[u8]) -> bool {
+// FIPS 180-4, SHA-1 or SHA-256. Columns: message, digest.
+pub fn fips180(hash: HashAlgorithm, line: &[u8]) -> bool {
     let w = column(line, 1);
-    if !hex::fits(w, 20) || !ends(line, 2) {
+    if !hex::fits(w, 32) || !ends(line, 2) {
         return unreadable(line);
     }
-    let mut want = [0u8; 20];
+    let mut want = [0u8; 32];
     let n = hex::read(w, &mut want);
     if same(column(line, 0), b"million-a") {
-        report::sized(b"SHA-1", 1000000);
-        let got = pieces::million();
-        return report::result(&got, true, &want[..n]);
+        sized(hash, 1000000);
+        return million(hash, &want[..n]);
     }
     let m = column(line, 0);
     if !hex::fits(m, 256) {
@@ -28,14 +29,37 @@ pub fn fips180(line: &[u8]) -> bool {
     }
     let mut message = [0u8; 256];
     let k = hex::read(m, &mut message);
-    digest(&message[..k], &want[..n])
+    sized(hash, k as u64);
+    digest(hash, &message[..k], &want[..n])
 }
 
-fn digest(message: &[u8], want: &[u8]) -> bool {
-    report::sized(b"SHA-1", message.len() as u64);
-    let got = mac::sha1::sha1(message);
-    let agree = pieces::sha1(message, &got);
-    report::result(&got, agree, want)
+fn sized(hash: HashAlgorithm, n: u64) {
+    match hash {
+        HashAlgorithm::Sha1 => report::sized(b"SHA-1", n),
+        HashAlgorithm::Sha256 => report::sized(b"SHA-256", n),
+    }
+}
+
+fn million(hash: HashAlgorithm, want: &[u8]) -> bool {
+    let got = pieces::million(hash);
+    match hash {
+        HashAlgorithm::Sha1 => report::result(&first_twenty(got), true, want),
+        HashAlgorithm::Sha256 => report::result(&got, true, want),
+    }
+}
+
+// By the one call on the whole message, and in pieces.
+fn digest(hash: HashAlgorithm, message: &[u8], want: &[u8]) -> bool {
+    match hash {
+        HashAlgorithm::Sha1 => {
+            let got = mac::sha1::sha1(message);
+            report::result(&got, pieces::hash(hash, message, &got), want)
+        }
+        HashAlgorithm::Sha256 => {
+            let got = mac::sha256::sha256(message);
+            report::result(&got, pieces::hash(hash, message, &got), want)
+        }
+    }
 }
 
 // Whether a column spells just sixteen bytes.
@@ -60,30 +84,48 @@ pub fn fips197(line: &[u8]) -> bool {
     report::result(&got, true, &want)
 }
 
-// RFC 2202, HMAC-SHA-1. Columns: case, key, data, digest.
-pub fn rfc2202(line: &[u8]) -> bool {
+// RFC 2202, HMAC-SHA-1, and RFC 4231, HMAC-SHA-256. Columns: case, key, data, digest.
+pub fn hmac(hash: HashAlgorithm, line: &[u8]) -> bool {
     let k = column(line, 1);
     let m = column(line, 2);
     let w = column(line, 3);
-    if !hex::fits(k, 256) || !hex::fits(m, 256) || !hex::fits(w, 20) || !ends(line, 4) {
+    if !hex::fits(k, 256) || !hex::fits(m, 256) || !hex::fits(w, 32) || !ends(line, 4) {
         return unreadable(line);
     }
     let mut key = [0u8; 256];
     let mut message = [0u8; 256];
-    let mut want = [0u8; 20];
+    let mut want = [0u8; 32];
     let a = hex::read(k, &mut key);
     let b = hex::read(m, &mut message);
     let c = hex::read(w, &mut want);
     text(b"case ");
     text(column(line, 0));
-    code(&key[..a], &message[..b], &want[..c])
+    code(hash, &key[..a], &message[..b], &want[..c])
 }
 
-fn code(key: &[u8], message: &[u8], want: &[u8]) -> bool {
-    text(b" HMAC-SHA-1 ");
-    let got = mac::hmac::hmac_sha1(key, message);
-    let agree = pieces::hmac(key, message, &got);
-    report::result(&got, agree, want)
+fn code(hash: HashAlgorithm, key: &[u8], message: &[u8], want: &[u8]) -> bool {
+    match hash {
+        HashAlgorithm::Sha1 => {
+            text(b" HMAC-SHA-1 ");
+            let got = mac::hmac::hmac_sha1(key, message);
+            report::result(&got, pieces::hmac(hash, key, message, &got), want)
+        }
+        HashAlgorithm::Sha256 => {
+            text(b" HMAC-SHA-256 ");
+            let got = mac::hmac::hmac_sha256(key, message);
+            let agree = pieces::hmac(hash, key, message, &got);
+            shown(&got, agree, want)
+        }
+    }
+}
+
+// RFC 4231 cuts case 5 to 16 bytes.
+fn shown(got: &[u8], agree: bool, want: &[u8]) -> bool {
+    let n = want.len();
+    if n != 16 || got.len() < n {
+        return report::result(got, agree, want);
+    }
+    report::result(&got[0..n], agree, want)
 }
 
 // The key that RFC 4493's lines are computed with after this one.

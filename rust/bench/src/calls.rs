@@ -3,12 +3,15 @@
 use crate::connection::{open, segment, Keys, KEY};
 use crate::timing::{Limit, Outcome, Table};
 use crate::{count, SIZES};
-use bench::{aes128_cmac, hmac_sha1, Bytes, REFERENCE};
+use bench::{aes128_cmac, hmac_sha1, hmac_sha256, Bytes, REFERENCE};
 use kit::{Boundary, End};
 use std::hint::black_box;
 
 const ROUNDS: usize = 61;
-const ALGORITHMS: [(u8, &str); 2] = [(1, "HMAC-SHA-1"), (2, "AES-CMAC")];
+
+/// An algorithm's number and name.
+type Algorithm = (u8, &'static str);
+const ALGORITHMS: [Algorithm; 3] = [(1, "HMAC-SHA-1"), (2, "AES-CMAC"), (3, "HMAC-SHA-256")];
 
 /// One end signs the segment, the other judges what was signed. Both calls may be made again and
 /// again: the same segment is accepted each time.
@@ -91,7 +94,7 @@ pub fn against_reference() -> Outcome {
             let mut ours = Exchange::new(algorithm, keys, n);
             let mut reference = ours.by(REFERENCE);
             compare(&mut ours, &mut reference);
-            let label = |call| format!("{call:<5} {name:<10} {:<8} {n:>6}", keys.name());
+            let label = |call| format!("{call:<5} {name:<12} {:<8} {n:>6}", keys.name());
             table.row(
                 &label("sign"),
                 true,
@@ -113,34 +116,60 @@ pub fn against_reference() -> Outcome {
 
 /// The traffic key of 29 bytes of input, and the MAC of the signed segment behind its extension and
 /// pseudo-header, by the archive's one-shot functions.
-fn two_macs(algorithm: u8, derivation: &[u8], covered: &[u8]) -> [u8; 20] {
-    let (mut traffic_key, mut mac) = ([0; 20], [0; 20]);
-    if algorithm == 1 {
-        hmac_sha1(&KEY, derivation, &mut traffic_key);
-        hmac_sha1(&traffic_key, covered, &mut mac);
-    } else {
-        aes128_cmac(&KEY, derivation, &mut traffic_key);
-        aes128_cmac(&traffic_key[..16], covered, &mut mac);
+fn two_macs(algorithm: u8, derivation: &[u8], covered: &[u8]) -> [u8; 32] {
+    let (mut traffic_key, mut mac) = ([0; 32], [0; 32]);
+    match algorithm {
+        1 => {
+            hmac_sha1(&KEY, derivation, &mut traffic_key);
+            hmac_sha1(&traffic_key[..20], covered, &mut mac);
+        }
+        2 => {
+            aes128_cmac(&KEY, derivation, &mut traffic_key);
+            aes128_cmac(&traffic_key[..16], covered, &mut mac);
+        }
+        _ => {
+            hmac_sha256(&KEY, derivation, &mut traffic_key);
+            hmac_sha256(&traffic_key, covered, &mut mac);
+        }
     }
     mac
 }
 
 pub fn against_macs() -> Outcome {
+    against_macs_of(
+        &ALGORITHMS[..2],
+        Limit {
+            rows: "whole calls with one entry by their two MACs",
+            ratio: 1.3,
+            wanted: true,
+        },
+    )
+}
+
+/// HMAC-SHA-256 takes so long that the rest of a call weighs less.
+pub fn against_macs_256() -> Outcome {
+    against_macs_of(
+        &ALGORITHMS[2..],
+        Limit {
+            rows: "whole calls with one entry of algorithm 3 by their two MACs",
+            ratio: 1.15,
+            wanted: true,
+        },
+    )
+}
+
+fn against_macs_of(algorithms: &[Algorithm], limit: Limit) -> Outcome {
     const BYTES: usize = 1_400;
     let mut table = Table::new(
         "Whole calls on 1,400 bytes against the two MACs that they need (one entry has the limit).",
         "call, MAC, entries",
         "MACs",
         ROUNDS,
-        Limit {
-            rows: "whole calls with one entry by their two MACs",
-            ratio: 1.3,
-            wanted: true,
-        },
+        limit,
     );
     let derivation = Bytes(5).take(29);
     let covered = Bytes(6).take(4 + 12 + BYTES + 16);
-    for (algorithm, name) in ALGORITHMS {
+    for &(algorithm, name) in algorithms {
         for keys in [Keys::One, Keys::Different, Keys::Shared] {
             let mut ours = Exchange::new(algorithm, keys, BYTES);
             let mut macs = || {
@@ -150,7 +179,7 @@ pub fn against_macs() -> Outcome {
                     black_box(&covered),
                 ));
             };
-            let label = |call| format!("{call:<5} {name:<10} {}", keys.name());
+            let label = |call| format!("{call:<5} {name:<12} {}", keys.name());
             table.row(
                 &label("sign"),
                 keys == Keys::One,

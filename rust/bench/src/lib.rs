@@ -1,6 +1,6 @@
 //! The archive's functions that are timed or compared here, over slices, and bytes to give them.
 
-pub use embankery::raw::{aes128, aes128_cmac, hmac_sha1, sha1};
+pub use embankery::raw::{aes128, aes128_cmac, hmac_sha1, hmac_sha256, sha1, sha256};
 pub use kit::Bytes;
 
 use embankery::raw;

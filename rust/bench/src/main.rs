@@ -18,13 +18,15 @@ fn count(n: usize) -> usize {
 }
 
 fn main() -> ExitCode {
-    let [hashes, cmac, by_tables] = messages::run();
+    let [hashes, hashes_256, cmac, by_tables] = messages::run();
     let outcomes = [
         hashes,
+        hashes_256,
         cmac,
         by_tables,
         calls::against_reference(),
         calls::against_macs(),
+        calls::against_macs_256(),
         tables::against_hmac(),
         tables::against_reference(),
     ];

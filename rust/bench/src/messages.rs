@@ -1,15 +1,15 @@
-//! SHA-1, HMAC-SHA-1 and AES-CMAC against plain Rust, and AES-CMAC against T-tables.
+//! SHA-1, SHA-256, HMAC with both and AES-CMAC against plain Rust, and AES-CMAC against T-tables.
 
 use crate::timing::{Limit, Outcome, Table};
 use crate::{count, SIZES};
-use bench::{aes128_cmac, hmac_sha1, sha1, Bytes};
+use bench::{aes128_cmac, hmac_sha1, hmac_sha256, sha1, sha256, Bytes};
 use std::hint::black_box;
 
 const ROUNDS: usize = 201;
 /// The limit by T-tables is close: more rounds, so that both minima are found.
 const TABLE_ROUNDS: usize = 1_001;
 
-type Call = fn(&[u8; 16], &[u8], &mut [u8; 20]);
+type Call = fn(&[u8; 16], &[u8], &mut [u8; 32]);
 
 /// A function on a message under one 16-byte key, in both forms.
 struct Pair {
@@ -24,14 +24,33 @@ const HASHES: [Pair; 2] = [
         ours: |_, message, out| {
             sha1(message, out);
         },
-        plain: |_, message, out| *out = plain::sha1::sha1(message),
+        plain: |_, message, out| out[..20].copy_from_slice(&plain::sha1::sha1(message)),
     },
     Pair {
         name: "HMAC-SHA-1",
         ours: |key, message, out| {
             hmac_sha1(key, message, out);
         },
-        plain: |key, message, out| *out = plain::hmac::hmac_sha1(key, message),
+        plain: |key, message, out| {
+            out[..20].copy_from_slice(&plain::hmac::hmac_sha1(key, message));
+        },
+    },
+];
+
+const HASHES_256: [Pair; 2] = [
+    Pair {
+        name: "SHA-256",
+        ours: |_, message, out| {
+            sha256(message, out);
+        },
+        plain: |_, message, out| *out = plain::sha256::sha256(message),
+    },
+    Pair {
+        name: "HMAC-SHA-256",
+        ours: |key, message, out| {
+            hmac_sha256(key, message, out);
+        },
+        plain: |key, message, out| *out = plain::hmac::hmac_sha256(key, message),
     },
 ];
 
@@ -58,8 +77,8 @@ fn compare() -> usize {
     for n in (0..=2_000).chain(SIZES) {
         let key: [u8; 16] = bytes.take(16).try_into().unwrap();
         let message = bytes.take(n);
-        for pair in HASHES.iter().chain([&CMAC, &BY_TABLES]) {
-            let (mut ours, mut plain) = ([0; 20], [0; 20]);
+        for pair in HASHES.iter().chain(&HASHES_256).chain([&CMAC, &BY_TABLES]) {
+            let (mut ours, mut plain) = ([0; 32], [0; 32]);
             (pair.ours)(&key, &message, &mut ours);
             (pair.plain)(&key, &message, &mut plain);
             assert_eq!(ours, plain, "{} of {n} bytes", pair.name);
@@ -76,7 +95,7 @@ fn measure(mut table: Table, pairs: &[Pair], limited: usize) -> Outcome {
         for n in SIZES {
             let key: [u8; 16] = bytes.take(16).try_into().unwrap();
             let message = bytes.take(n);
-            let (mut a, mut b) = ([0; 20], [0; 20]);
+            let (mut a, mut b) = ([0; 32], [0; 32]);
             table.row(
                 &format!("{:<12} {n:>6}", pair.name),
                 limited <= n,
@@ -99,6 +118,18 @@ fn hashes() -> Outcome {
         "SHA-1 and HMAC-SHA-1 against plain Rust with eighty words of the schedule (rust/plain).";
     let table = Table::new(title, "function, bytes", "plain", ROUNDS, limit);
     measure(table, &HASHES, 0)
+}
+
+fn hashes_256() -> Outcome {
+    let limit = Limit {
+        rows: "SHA-256 and HMAC-SHA-256 by plain Rust",
+        ratio: 1.1,
+        wanted: true,
+    };
+    let title =
+        "SHA-256 and HMAC-SHA-256 against plain Rust with sixty-four words of the schedule (rust/plain).";
+    let table = Table::new(title, "function, bytes", "plain", ROUNDS, limit);
+    measure(table, &HASHES_256, 0)
 }
 
 fn cmac() -> Outcome {
@@ -125,8 +156,8 @@ fn cmac_by_tables() -> Outcome {
     measure(table, &[BY_TABLES], 1_400)
 }
 
-pub fn run() -> [Outcome; 3] {
+pub fn run() -> [Outcome; 4] {
     let inputs = compare();
     println!("{inputs} messages give the same by the archive and by plain Rust.");
-    [hashes(), cmac(), cmac_by_tables()]
+    [hashes(), hashes_256(), cmac(), cmac_by_tables()]
 }

@@ -42,6 +42,7 @@ struct Accepted {
     kind: u8,
     mac_bytes: usize,
     algorithm: Algorithm,
+    key_bytes: usize,
     covers_options: bool,
     key_changed: bool,
     asks: Asked,
@@ -57,7 +58,7 @@ enum Asked {
 
 type Situation = (&'static str, fn(&Seen) -> bool);
 
-const SITUATIONS: [Situation; 77] = [
+const SITUATIONS: [Situation; 84] = [
     ("accepted at the reference: repeated", |seen| {
         seen.open(|a, reference| a.position == reference)
     }),
@@ -118,6 +119,28 @@ const SITUATIONS: [Situation; 77] = [
     }),
     ("accepted, IPv6, algorithm 2, options left out", |seen| {
         seen.way(6, Algorithm::AesCmac, false)
+    }),
+    ("accepted, IPv4, algorithm 3, options covered", |seen| {
+        seen.way(4, Algorithm::HmacSha256, true)
+    }),
+    ("accepted, IPv4, algorithm 3, options left out", |seen| {
+        seen.way(4, Algorithm::HmacSha256, false)
+    }),
+    ("accepted, IPv6, algorithm 3, options covered", |seen| {
+        seen.way(6, Algorithm::HmacSha256, true)
+    }),
+    ("accepted, IPv6, algorithm 3, options left out", |seen| {
+        seen.way(6, Algorithm::HmacSha256, false)
+    }),
+    ("accepted, algorithm 3, a key of 16 bytes", |seen| {
+        seen.accepts(|a| a.algorithm == Algorithm::HmacSha256 && a.key_bytes == 16)
+    }),
+    (
+        "accepted, algorithm 3, a key of more than a block",
+        |seen| seen.accepts(|a| a.algorithm == Algorithm::HmacSha256 && a.key_bytes > 64),
+    ),
+    ("accepted, algorithm 3, a MAC of 16 bytes", |seen| {
+        seen.accepts(|a| a.algorithm == Algorithm::HmacSha256 && a.mac_bytes == 16)
     }),
     ("accepted while opening, counts not 0", |seen| {
         seen.accepted.is_some() && !seen.before.is_open() && seen.before.accepted != 0
@@ -381,6 +404,7 @@ fn accepted(call: &Call, outcome: &Outcome, before: &State) -> Option<Accepted> 
         kind: entry.kind,
         mac_bytes: entry.mac_bytes,
         algorithm: entry.algorithm,
+        key_bytes: entry.key.len(),
         covers_options: entry.covers_options,
         key_changed: outcome.state[2] != before.outgoing_send_id,
         asks,

@@ -112,7 +112,7 @@ fn for_pair(random: &mut Prng, pair: &Pair) -> Entry {
     let length = random.pick(&[16, 16, 16, 1, 15, 17, 64, 65, 80, any, any]);
     Entry {
         flags: random.below(2) as u8,
-        algorithm: 1 + random.below(2) as u8,
+        algorithm: 1 + random.below(3) as u8,
         send_id: id(random),
         recv_id: id(random),
         local: side_around(random, &pair.local, pair.local_port),
@@ -325,7 +325,7 @@ fn spoil_entry(random: &mut Prng, entry: &mut [u8]) {
         0 => entry[0] = random.pick(&[0, 1, 3, 4, 5, 6, 7, 8, 255]),
         1 => entry[1] = random.pick(&[2, 3, 128, 255]),
         9 if said == 1 => entry[key_length - 1] = random.pick(&[0, 1, 2, 3, 17, 18, 255]),
-        2 => entry[2] = random.pick(&[0, 3, 4, 255]),
+        2 => entry[2] = random.pick(&[0, 4, 5, 255]),
         3 => {
             // Low just above high, or well above it.
             let at = random.pick(&[5, 9]);

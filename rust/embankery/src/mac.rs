@@ -1,5 +1,5 @@
-//! The standards under TCP-AO, each proved equal to its definition: SHA-1, HMAC-SHA-1, AES-128
-//! encryption and AES-CMAC.
+//! The standards under TCP-AO, each proved equal to its definition: SHA-1, HMAC-SHA-1, SHA-256,
+//! HMAC-SHA-256, AES-128 encryption and AES-CMAC.
 
 use crate::raw;
 
@@ -23,6 +23,29 @@ pub fn sha1(message: &[u8]) -> [u8; 20] {
 pub fn hmac_sha1(key: &[u8], message: &[u8]) -> [u8; 20] {
     let mut out = [0; 20];
     raw::hmac_sha1(key, message, &mut out);
+    out
+}
+
+/// SHA-256 (FIPS 180-4).
+///
+/// ```
+/// assert_eq!(embankery::mac::sha256(b"abc")[..4], [0xBA, 0x78, 0x16, 0xBF]);
+/// ```
+pub fn sha256(message: &[u8]) -> [u8; 32] {
+    let mut out = [0; 32];
+    raw::sha256(message, &mut out);
+    out
+}
+
+/// HMAC-SHA-256 (RFC 2104), under a key of any length.
+///
+/// ```
+/// let mac = embankery::mac::hmac_sha256(b"Jefe", b"what do ya want for nothing?");
+/// assert_eq!(mac[..4], [0x5B, 0xDC, 0xC1, 0x46]);
+/// ```
+pub fn hmac_sha256(key: &[u8], message: &[u8]) -> [u8; 32] {
+    let mut out = [0; 32];
+    raw::hmac_sha256(key, message, &mut out);
     out
 }
 

@@ -92,6 +92,20 @@ pub mod c {
             out: *mut u8,
             out_len: usize,
         ) -> u64;
+        pub fn mac_sha256(
+            message: *const u8,
+            message_len: usize,
+            out: *mut u8,
+            out_len: usize,
+        ) -> u64;
+        pub fn mac_hmac_sha256(
+            key: *const u8,
+            key_len: usize,
+            message: *const u8,
+            message_len: usize,
+            out: *mut u8,
+            out_len: usize,
+        ) -> u64;
         pub fn mac_aes128(
             key: *const u8,
             key_len: usize,
@@ -264,6 +278,25 @@ pub fn hmac_sha1(key: &[u8], message: &[u8], out: &mut [u8]) -> u64 {
     // SAFETY: each pointer stands beside its own slice's length; only `out` is written.
     unsafe {
         c::mac_hmac_sha1(
+            key.as_ptr(),
+            key.len(),
+            message.as_ptr(),
+            message.len(),
+            out.as_mut_ptr(),
+            out.len(),
+        )
+    }
+}
+
+pub fn sha256(message: &[u8], out: &mut [u8]) -> u64 {
+    // SAFETY: each pointer stands beside its own slice's length; only `out` is written.
+    unsafe { c::mac_sha256(message.as_ptr(), message.len(), out.as_mut_ptr(), out.len()) }
+}
+
+pub fn hmac_sha256(key: &[u8], message: &[u8], out: &mut [u8]) -> u64 {
+    // SAFETY: each pointer stands beside its own slice's length; only `out` is written.
+    unsafe {
+        c::mac_hmac_sha256(
             key.as_ptr(),
             key.len(),
             message.as_ptr(),

@@ -79,8 +79,8 @@ impl fmt::Debug for KeyTable {
     }
 }
 
-/// The MAC algorithm of an entry, with its key derivation (RFC 5926). Its MAC has 96 bits, 12 bytes,
-/// unless the entry says otherwise: [`EntryBuilder::mac_length`].
+/// The MAC algorithm of an entry, with its key derivation (RFC 5926, and for HMAC-SHA-256 document 02). Its
+/// MAC has 96 bits, 12 bytes, unless the entry says otherwise: [`EntryBuilder::mac_length`].
 #[derive(Clone, Copy, Debug, PartialEq, Eq, Hash)]
 #[non_exhaustive]
 pub enum Algorithm {
@@ -88,6 +88,8 @@ pub enum Algorithm {
     HmacSha1_96,
     /// 2: AES-128-CMAC-96.
     Aes128Cmac96,
+    /// 3: HMAC-SHA-256, as MAC and in key derivation.
+    HmacSha256,
 }
 
 /// Which of a segment's options the MAC covers.
@@ -313,6 +315,7 @@ impl EntryBuilder {
         let algorithm = match self.algorithm {
             Algorithm::HmacSha1_96 => 1,
             Algorithm::Aes128Cmac96 => 2,
+            Algorithm::HmacSha256 => 3,
         };
         let mut bytes = vec![kind, flags, algorithm, self.send_id, self.recv_id];
         for side in [&self.local, &self.remote] {

@@ -294,10 +294,13 @@ fn emptied(g: &Given) {
     assert_eq!(state, State::default().bytes());
 }
 
-/// The four calls on messages with empty buffers; `g` says how these are lent.
+/// The calls on messages with empty buffers; `g` says how these are lent.
 fn each_empty_of_mac(g: &Given) {
     const SHA1_OF_NONE: &str = "da39a3ee5e6b4b0d3255bfef95601890afd80709";
     const HMAC_OF_NONE: &str = "fbdb1d1b18aa6c08324b7d64b71fb76370690e1d";
+    const SHA256_OF_NONE: &str = "e3b0c44298fc1c149afbf4c8996fb92427ae41e4649b934ca495991b7852b855";
+    const HMAC256_OF_NONE: &str =
+        "b613679a0814d9ec772f95d778c35fc5ff1697c493715653c6c712144292c5ad";
     let hex = |bytes: &[u8]| bytes.iter().map(|b| format!("{b:02x}")).collect::<String>();
     let none: &[u8] = &[];
     let some = [7; 16];
@@ -310,6 +313,11 @@ fn each_empty_of_mac(g: &Given) {
         assert_eq!((wrote, hex(&out).as_str()), (20, HMAC_OF_NONE));
         let wrote = c::mac_aes128_cmac(some.as_ptr(), 16, g.ptr(none), 0, out.as_mut_ptr(), 20);
         assert_eq!(wrote, 16);
+        let mut long = [0; 32];
+        let wrote = c::mac_sha256(g.ptr(none), 0, long.as_mut_ptr(), 32);
+        assert_eq!((wrote, hex(&long).as_str()), (32, SHA256_OF_NONE));
+        let wrote = c::mac_hmac_sha256(g.ptr(none), 0, g.ptr(none), 0, long.as_mut_ptr(), 32);
+        assert_eq!((wrote, hex(&long).as_str()), (32, HMAC256_OF_NONE));
 
         let before = out;
         let key = some.as_ptr();
@@ -322,6 +330,8 @@ fn each_empty_of_mac(g: &Given) {
         let nowhere = g.ptr_mut(&mut []);
         assert_eq!(c::mac_sha1(key, 16, nowhere, 0), 0);
         assert_eq!(c::mac_hmac_sha1(key, 16, key, 16, nowhere, 0), 0);
+        assert_eq!(c::mac_sha256(key, 16, nowhere, 0), 0);
+        assert_eq!(c::mac_hmac_sha256(key, 16, key, 16, nowhere, 0), 0);
         assert_eq!(c::mac_aes128(key, 16, key, 16, nowhere, 0), 0);
         assert_eq!(c::mac_aes128_cmac(key, 16, key, 16, nowhere, 0), 0);
     }
@@ -485,6 +495,9 @@ fn macs_just_long_enough() {
         mac_into(20, |out| raw::sha1(&message, out));
         mac_into(20, |out| raw::hmac_sha1(&key, &message, out));
         mac_into(20, |out| raw::hmac_sha1(&message, &key, out));
+        mac_into(32, |out| raw::sha256(&message, out));
+        mac_into(32, |out| raw::hmac_sha256(&key, &message, out));
+        mac_into(32, |out| raw::hmac_sha256(&message, &key, out));
         mac_into(16, |out| raw::aes128_cmac(&key, &message, out));
     }
     let long = bytes.take(40);
@@ -681,6 +694,8 @@ mod last_byte {
             raw::sign(table, segment, out.as_mut_slice(), state().as_mut_slice());
             raw::sha1(segment, out.as_mut_slice());
             raw::hmac_sha1(table, segment, out.as_mut_slice());
+            raw::sha256(segment, out.as_mut_slice());
+            raw::hmac_sha256(table, segment, out.as_mut_slice());
             raw::aes128(source, segment, out.as_mut_slice());
             raw::aes128_cmac(source, segment, out.as_mut_slice());
         }

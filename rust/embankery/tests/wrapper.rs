@@ -3,7 +3,7 @@
 
 mod common;
 
-use common::{kinds, segment, Ends, Kind, FIRST_KIND, IDS, ISNS, PORTS};
+use common::{kinds, segment, Ends, Kind, ALGORITHMS, FIRST_KIND, IDS, ISNS, PORTS};
 use embankery::{
     judge_syn, Algorithm, Connection, Covered, Entry, EntryBuilder, KeyTable, Refusal,
     UnknownKeyId, Verdict,
@@ -71,6 +71,15 @@ fn bytes_of_entries_with_a_mac_length() {
     }
 }
 
+/// Each algorithm has its number.
+#[test]
+fn bytes_of_the_algorithms() {
+    for (algorithm, number) in ALGORITHMS.into_iter().zip(1..) {
+        let entry = Entry::ipv4().algorithm(algorithm).key(b"key");
+        assert_eq!(entry.build().unwrap().as_bytes()[2], number);
+    }
+}
+
 #[test]
 fn entries_refused() {
     let v4 = || Entry::ipv4().key(b"key");
@@ -109,13 +118,14 @@ fn numbers_of_the_table() {
     let good = Entry::ipv4().key(b"key").build().unwrap();
     let good = good.as_bytes();
     // What is changed in a second entry, like the first but for its IDs.
-    let cases: [(u8, &[(usize, u8)]); 10] = [
+    let cases: [(u8, &[(usize, u8)]); 11] = [
         (10, &[(0, 6)]),
         (10, &[(0, 5)]),
         (11, &[(0, 3)]),
         (11, &[(0, 8)]),
         (13, &[(1, 2)]),
-        (13, &[(2, 3)]),
+        (13, &[(2, 0)]),
+        (13, &[(2, 4)]),
         (14, &[(5, 255), (7, 254)]),
         (15, &[(17, 33)]),
         (16, &[(103, 1)]),

@@ -866,6 +866,113 @@ pub const FAULTS: &[Planted] = &[
             Before("Ok(Signed {", "signed.truncate(room);"),
         ],
     },
+    // HMAC-SHA-256: Ticket 13.
+    Planted {
+        name: "AlgorithmThreeRefused",
+        does: "13 for algorithm 3, as before Ticket 13.",
+        breaks: "\"Refusal 13 admits 3.\"",
+        file: "table.rs",
+        function: "fn read_body(",
+        edits: &[Instead("body[1]", "if body[1] == 3 { 0 } else { body[1] }")],
+    },
+    Planted {
+        name: "AlgorithmFourTaken",
+        does: "13 admits 4 too, as 3.",
+        breaks: "\"Refusal 13 admits 3.\"",
+        file: "table.rs",
+        function: "fn read_body(",
+        edits: &[Instead("body[1]", "if body[1] == 4 { 3 } else { body[1] }")],
+    },
+    Planted {
+        name: "OutputLengthOfSha1",
+        does: "Algorithm 3 has 160 as output length.",
+        breaks: "\"with output length 256\"",
+        file: "mac.rs",
+        function: "fn traffic_key_input(",
+        edits: &[Instead(
+            "8 * algorithm.traffic_key_bytes() as u16",
+            "if algorithm == Algorithm::AesCmac { 128 } else { 160 }",
+        )],
+    },
+    Planted {
+        name: "TrafficKeyCut",
+        does: "Algorithm 3's traffic key is cut to 20 bytes.",
+        breaks: "\"with output length 256\"",
+        file: "mac.rs",
+        function: "fn traffic_key(",
+        edits: &[Instead(
+            "crypto::hmac_sha256(master_key, &input).to_vec()",
+            "crypto::hmac_sha256(master_key, &input)[..20].to_vec()",
+        )],
+    },
+    Planted {
+        name: "DerivationBySha1",
+        does: "Algorithm 3 derives its traffic key by HMAC-SHA-1.",
+        breaks: "\"HMAC-SHA-256, also in place of HMAC-SHA-1 in algorithm 1's key derivation\"",
+        file: "mac.rs",
+        function: "fn traffic_key(",
+        edits: &[Instead(
+            "crypto::hmac_sha256(master_key, &input).to_vec()",
+            "crypto::hmac_sha1(master_key, &input).to_vec()",
+        )],
+    },
+    Planted {
+        name: "KeyRuleOfCmac",
+        does: "Algorithm 3 takes a master key that has not 16 bytes by AES-CMAC with an all-zero key first.",
+        breaks: "\"Algorithm 2 applies AES-CMAC under the master key if that has 16 bytes\"; algorithm 3: \
+                 \"HMAC-SHA-256, also in place of HMAC-SHA-1\"",
+        file: "mac.rs",
+        function: "fn traffic_key(",
+        edits: &[Instead(
+            "crypto::hmac_sha256(master_key, &input).to_vec()",
+            "if master_key.len() == 16 {
+                crypto::hmac_sha256(master_key, &input).to_vec()
+            } else {
+                crypto::hmac_sha256(&crypto::aes128_cmac(&[0; 16], master_key), &input).to_vec()
+            }",
+        )],
+    },
+    Planted {
+        name: "ExtractionStep",
+        does: "Algorithm 3 extracts a key from the master key first, by HMAC-SHA-256 under zeros.",
+        breaks: "\"without an extraction step\"",
+        file: "mac.rs",
+        function: "fn traffic_key(",
+        edits: &[Instead(
+            "crypto::hmac_sha256(master_key, &input).to_vec()",
+            "crypto::hmac_sha256(&crypto::hmac_sha256(&[0; 32], master_key), &input).to_vec()",
+        )],
+    },
+    Planted {
+        name: "MacBySha1",
+        does: "Algorithm 3's MAC is HMAC-SHA-1's.",
+        breaks: "\"Add algorithm 3: HMAC-SHA-256\"",
+        file: "mac.rs",
+        function: "fn applied(",
+        edits: &[Instead(
+            "crypto::hmac_sha256(traffic_key, message).to_vec()",
+            "crypto::hmac_sha1(traffic_key, message).to_vec()",
+        )],
+    },
+    Planted {
+        name: "WrongRoundConstant",
+        does: "A bit of one constant of SHA-256 is another.",
+        breaks: "FIPS 180-4: \"the first thirty-two bits of the fractional parts of the cube roots\"",
+        file: "crypto.rs",
+        function: "fn sha256_block(",
+        edits: &[Instead(
+            "w.iter().zip(SHA256_CONSTANTS)",
+            "w.iter().zip(SHA256_CONSTANTS.map(|k| if k == 0x90befffa { k ^ 1 } else { k }))",
+        )],
+    },
+    Planted {
+        name: "WrongRotation",
+        does: "SHA-256's second sum rotates by 24 in place of 25.",
+        breaks: "FIPS 180-4, section 4.1.2: \"ROTR 6 (x) XOR ROTR 11 (x) XOR ROTR 25 (x)\"",
+        file: "crypto.rs",
+        function: "fn sha256_block(",
+        edits: &[Instead("e.rotate_right(25)", "e.rotate_right(24)")],
+    },
     // Opening.
     Planted {
         name: "ActiveOpeningAtZero",

@@ -43,7 +43,7 @@ fn claims_of_what_is_not_there() {
         ),
         ("| `sha1::sha3` | |", "`sha1::sha3` is not in src/"),
         (
-            "| `Sha1Context::new`, `renew` | |",
+            "| `HashContext::new`, `renew` | |",
             "`renew` is not declared",
         ),
         (
@@ -68,7 +68,7 @@ fn claims_of_what_is_not_there() {
     for (cells, words) in wrong {
         finds(claims::check, &row(cells), words);
     }
-    let right = "| `Sha1.antt`: `sha1`; `sha1::sha1`; `Sha1Context::new`, `update` | mac/sbox_entry; vectors: x; mac/* |";
+    let right = "| `Sha1.antt`: `sha1`; `sha1::sha1`; `HashContext::new`, `update` | mac/sbox_entry; vectors: x; mac/* |";
     assert!(claims::check(&row(right)).faults.is_empty());
 }
 

@@ -1,6 +1,6 @@
-//! The published vectors, from the same files that the program `vectors` reads.
+//! The published vectors, from the same files that the program `vectors` reads; of SHA-256, the reference's.
 
-use crate::{aes, aes_tables, cmac, hmac, sha1};
+use crate::{aes, aes_tables, cmac, hmac, sha1, sha256};
 
 fn file(text: &'static str) -> impl Iterator<Item = Vec<&'static str>> {
     text.lines()
@@ -49,6 +49,21 @@ fn fips180() {
 }
 
 #[test]
+fn fips180_256() {
+    let mut lines = 0;
+    for c in file(include_str!("../../reference/vectors/fips180-256.txt")) {
+        let message = if c[0] == "million-a" {
+            vec![0x61; 1_000_000]
+        } else {
+            hex(c[0])
+        };
+        assert_eq!(sha256::sha256(&message)[..], hex(c[1]), "{c:?}");
+        lines += 1;
+    }
+    assert_eq!(lines, 5);
+}
+
+#[test]
 fn fips197() {
     let mut lines = 0;
     for c in vectors!("fips197") {
@@ -70,6 +85,19 @@ fn rfc2202() {
             hex(c[3]),
             "{c:?}"
         );
+        lines += 1;
+    }
+    assert_eq!(lines, 7);
+}
+
+/// Case 5 is cut to 16 bytes.
+#[test]
+fn rfc4231() {
+    let mut lines = 0;
+    for c in file(include_str!("../../reference/vectors/rfc4231.txt")) {
+        let digest = hex(c[3]);
+        let mac = hmac::hmac_sha256(&hex(c[1]), &hex(c[2]));
+        assert_eq!(mac[..digest.len()], digest, "{c:?}");
         lines += 1;
     }
     assert_eq!(lines, 7);
@@ -107,6 +135,9 @@ fn pieces() {
         let mut context = sha1::Sha1::new();
         message.chunks(size).for_each(|piece| context.update(piece));
         assert_eq!(context.finish(), sha1::sha1(&message));
+        let mut context = sha256::Sha256::new();
+        message.chunks(size).for_each(|piece| context.update(piece));
+        assert_eq!(context.finish(), sha256::sha256(&message));
     }
 }
 

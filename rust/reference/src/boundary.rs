@@ -166,7 +166,7 @@ pub fn tcpao_ask(table: &[u8], recv_id: u8, state: &mut [u8]) -> u64 {
     }
 }
 
-/// "These give how many bytes they wrote at the front of `out`: 20, 20, 16, 16. Where `out` is
+/// "These give how many bytes they wrote at the front of `out`: 20, 20, 16, 16, 32, 32". "Where `out` is
 /// shorter, or an AES key or block has not 16 bytes, they give 0 and write nothing."
 fn write_front(bytes: &[u8], out: &mut [u8]) -> u64 {
     if out.len() < bytes.len() {
@@ -184,6 +184,16 @@ pub fn mac_sha1(message: &[u8], out: &mut [u8]) -> u64 {
 /// `mac_hmac_sha1`.
 pub fn mac_hmac_sha1(key: &[u8], message: &[u8], out: &mut [u8]) -> u64 {
     write_front(&crypto::hmac_sha1(key, message), out)
+}
+
+/// `mac_sha256`.
+pub fn mac_sha256(message: &[u8], out: &mut [u8]) -> u64 {
+    write_front(&crypto::sha256(message), out)
+}
+
+/// `mac_hmac_sha256`.
+pub fn mac_hmac_sha256(key: &[u8], message: &[u8], out: &mut [u8]) -> u64 {
+    write_front(&crypto::hmac_sha256(key, message), out)
 }
 
 /// `mac_aes128`.

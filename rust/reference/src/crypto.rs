@@ -1,26 +1,13 @@
 //! "SHA-1 (FIPS 180-4), HMAC (RFC 2104), AES-128 encryption (FIPS 197) and CMAC (RFC 4493) are
-//! written here."
+//! written here." SHA-256 (FIPS 180-4) came with Ticket 13.
 
 /// SHA-1 of a message, FIPS 180-4 section 6.1.
 pub fn sha1(message: &[u8]) -> [u8; 20] {
     // Section 5.3.1: the initial hash value.
     let mut hash: [u32; 5] = [0x67452301, 0xefcdab89, 0x98badcfe, 0x10325476, 0xc3d2e1f0];
 
-    let whole_blocks = message.len() / 64 * 64;
-    for block in message[..whole_blocks].chunks_exact(64) {
-        sha1_block(&mut hash, block);
-    }
-
-    // Section 5.1.1: the bit 1, zeros up to 448 modulo 512 bits, the message's length in bits as 64
-    // bits.
-    let mut last = message[whole_blocks..].to_vec();
-    last.push(0x80);
-    while last.len() % 64 != 56 {
-        last.push(0);
-    }
-    let bits = (message.len() as u64).wrapping_mul(8);
-    last.extend_from_slice(&bits.to_be_bytes());
-    for block in last.chunks_exact(64) {
+    let (whole, last) = blocks(message);
+    for block in whole.chunks_exact(64).chain(last.chunks_exact(64)) {
         sha1_block(&mut hash, block);
     }
 
@@ -29,6 +16,21 @@ pub fn sha1(message: &[u8]) -> [u8; 20] {
         bytes.copy_from_slice(&word.to_be_bytes());
     }
     digest
+}
+
+/// The message in blocks of 64 bytes: its own whole blocks, and what comes behind them. FIPS 180-4 section
+/// 5.1.1, for SHA-1 and SHA-256: the bit 1, zeros up to 448 modulo 512 bits, the message's length in bits
+/// as 64 bits.
+fn blocks(message: &[u8]) -> (&[u8], Vec<u8>) {
+    let (whole, rest) = message.split_at(message.len() / 64 * 64);
+    let mut last = rest.to_vec();
+    last.push(0x80);
+    while last.len() % 64 != 56 {
+        last.push(0);
+    }
+    let bits = (message.len() as u64).wrapping_mul(8);
+    last.extend_from_slice(&bits.to_be_bytes());
+    (whole, last)
 }
 
 /// One block of SHA-1, FIPS 180-4 section 6.1.2.
@@ -74,13 +76,134 @@ fn sha1_block(hash: &mut [u32; 5], block: &[u8]) {
     }
 }
 
-/// HMAC with SHA-1, RFC 2104 section 2: H(K XOR opad, H(K XOR ipad, text)).
-pub fn hmac_sha1(key: &[u8], message: &[u8]) -> [u8; 20] {
+/// The first 64 prime numbers.
+const PRIMES: [u128; 64] = {
+    let mut primes = [0; 64];
+    let mut found = 0;
+    let mut next = 2;
+    while found < 64 {
+        let mut earlier = 0;
+        while earlier < found && next % primes[earlier] != 0 {
+            earlier += 1;
+        }
+        if earlier == found {
+            primes[found] = next;
+            found += 1;
+        }
+        next += 1;
+    }
+    primes
+};
+
+/// "the first thirty-two bits of the fractional parts of the" roots of the first prime numbers, square
+/// (degree 2) or cube (degree 3): the root of p times 2^32, rounded down, modulo 2^32.
+const fn root_bits(prime: u128, degree: u32) -> u32 {
+    let target = prime << (32 * degree);
+    let mut root: u128 = 0; // the largest whole number whose power is not above the target
+    let mut bit = 40;
+    while bit > 0 {
+        bit -= 1;
+        let larger = root | 1 << bit;
+        if larger.pow(degree) <= target {
+            root = larger;
+        }
+    }
+    root as u32
+}
+
+/// The constants of SHA-256, computed from their rule when this is compiled. FIPS 180-4 section 4.2.2: from
+/// the cube roots of the first sixty-four prime numbers.
+pub const SHA256_CONSTANTS: [u32; 64] = {
+    let mut constants = [0; 64];
+    let mut t = 0;
+    while t < 64 {
+        constants[t] = root_bits(PRIMES[t], 3);
+        t += 1;
+    }
+    constants
+};
+
+/// Section 5.3.3: the initial hash value, from the square roots of the first eight prime numbers.
+pub const SHA256_INITIAL: [u32; 8] = {
+    let mut initial = [0; 8];
+    let mut i = 0;
+    while i < 8 {
+        initial[i] = root_bits(PRIMES[i], 2);
+        i += 1;
+    }
+    initial
+};
+
+/// SHA-256 of a message, FIPS 180-4 section 6.2.
+pub fn sha256(message: &[u8]) -> [u8; 32] {
+    let mut hash = SHA256_INITIAL;
+    let (whole, last) = blocks(message);
+    for block in whole.chunks_exact(64).chain(last.chunks_exact(64)) {
+        sha256_block(&mut hash, block);
+    }
+    let mut digest = [0; 32];
+    for (bytes, word) in digest.chunks_exact_mut(4).zip(hash) {
+        bytes.copy_from_slice(&word.to_be_bytes());
+    }
+    digest
+}
+
+/// One block of SHA-256, FIPS 180-4 section 6.2.2; the functions are section 4.1.2's.
+fn sha256_block(hash: &mut [u32; 8], block: &[u8]) {
+    // 1. The message schedule.
+    let mut w = [0u32; 64];
+    for (word, bytes) in w.iter_mut().zip(block.chunks_exact(4)) {
+        *word = u32::from_be_bytes([bytes[0], bytes[1], bytes[2], bytes[3]]);
+    }
+    for t in 16..64 {
+        let (x, y) = (w[t - 15], w[t - 2]);
+        let sigma0 = x.rotate_right(7) ^ x.rotate_right(18) ^ x >> 3;
+        let sigma1 = y.rotate_right(17) ^ y.rotate_right(19) ^ y >> 10;
+        w[t] = sigma1
+            .wrapping_add(w[t - 7])
+            .wrapping_add(sigma0)
+            .wrapping_add(w[t - 16]);
+    }
+
+    // 2. The working variables.
+    let [mut a, mut b, mut c, mut d, mut e, mut f, mut g, mut h] = *hash;
+
+    // 3. Sixty-four steps.
+    for (word, constant) in w.iter().zip(SHA256_CONSTANTS) {
+        let sum0 = a.rotate_right(2) ^ a.rotate_right(13) ^ a.rotate_right(22);
+        let sum1 = e.rotate_right(6) ^ e.rotate_right(11) ^ e.rotate_right(25);
+        let ch = (e & f) ^ (!e & g);
+        let maj = (a & b) ^ (a & c) ^ (b & c);
+        let t1 = h
+            .wrapping_add(sum1)
+            .wrapping_add(ch)
+            .wrapping_add(constant)
+            .wrapping_add(*word);
+        let t2 = sum0.wrapping_add(maj);
+        h = g;
+        g = f;
+        f = e;
+        e = d.wrapping_add(t1);
+        d = c;
+        c = b;
+        b = a;
+        a = t1.wrapping_add(t2);
+    }
+
+    // 4. The intermediate hash value.
+    for (old, new) in hash.iter_mut().zip([a, b, c, d, e, f, g, h]) {
+        *old = old.wrapping_add(new);
+    }
+}
+
+/// HMAC, RFC 2104 section 2, with a hash H whose blocks have B = 64 bytes: H(K XOR opad, H(K XOR ipad,
+/// text)).
+fn hmac<const L: usize>(hash: fn(&[u8]) -> [u8; L], key: &[u8], message: &[u8]) -> [u8; L] {
     // "Applications that use keys longer than B bytes will first hash the key using H", then zeros
-    // are appended up to B = 64 bytes.
+    // are appended up to B bytes.
     let mut block = [0u8; 64];
     if key.len() > 64 {
-        block[..20].copy_from_slice(&sha1(key));
+        block[..L].copy_from_slice(&hash(key));
     } else {
         block[..key.len()].copy_from_slice(key);
     }
@@ -88,12 +211,22 @@ pub fn hmac_sha1(key: &[u8], message: &[u8]) -> [u8; 20] {
     let mut inner = Vec::with_capacity(64 + message.len());
     inner.extend(block.iter().map(|byte| byte ^ 0x36));
     inner.extend_from_slice(message);
-    let inner_digest = sha1(&inner);
+    let inner_digest = hash(&inner);
 
-    let mut outer = Vec::with_capacity(64 + 20);
+    let mut outer = Vec::with_capacity(64 + L);
     outer.extend(block.iter().map(|byte| byte ^ 0x5c));
     outer.extend_from_slice(&inner_digest);
-    sha1(&outer)
+    hash(&outer)
+}
+
+/// HMAC with SHA-1.
+pub fn hmac_sha1(key: &[u8], message: &[u8]) -> [u8; 20] {
+    hmac(sha1, key, message)
+}
+
+/// HMAC with SHA-256.
+pub fn hmac_sha256(key: &[u8], message: &[u8]) -> [u8; 32] {
+    hmac(sha256, key, message)
 }
 
 /// Multiplication by x in GF(2^8), FIPS 197 section 4.2.1: a shift, then reduced by x^8 + x^4 + x^3
@@ -324,6 +457,21 @@ mod tests {
         ] {
             assert_eq!(S_BOX[a], printed);
         }
+    }
+
+    /// FIPS 180-4 sections 4.2.2 and 5.3.3: the first and the last constants, and the initial value.
+    #[test]
+    fn the_constants_of_sha256_as_printed() {
+        let first = [0x428a2f98, 0x71374491, 0xb5c0fbcf, 0xe9b5dba5];
+        let last = [0x90befffa, 0xa4506ceb, 0xbef9a3f7, 0xc67178f2];
+        assert_eq!(SHA256_CONSTANTS[..4], first);
+        assert_eq!(SHA256_CONSTANTS[60..], last);
+        let initial = [
+            0x6a09e667, 0xbb67ae85, 0x3c6ef372, 0xa54ff53a, 0x510e527f, 0x9b05688c, 0x1f83d9ab,
+            0x5be0cd19,
+        ];
+        assert_eq!(SHA256_INITIAL, initial);
+        assert_eq!((PRIMES[0], PRIMES[63]), (2, 311));
     }
 
     /// FIPS 197 section 4.2: {57} times {83} is {c1}, {57} times {13} is {fe}.

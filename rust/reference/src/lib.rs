@@ -1,5 +1,5 @@
-//! TCP-AO by the rules of document 01, once more in plain Rust. Of document 02, Tickets 2 and 4 are in
-//! it.
+//! TCP-AO by the rules of document 01, once more in plain Rust. Of document 02, Tickets 2, 4
+//! and 13 are in it.
 //!
 //! This package was written from the papers alone: documents 01 and 02, `BOUNDARY.md` for the bytes
 //! at the C boundary, and the public standards (FIPS 180-4, RFC 2104, FIPS 197, RFC 4493, RFC 5925,

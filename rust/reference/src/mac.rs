@@ -35,7 +35,7 @@ pub fn context(ends: &Ends) -> Vec<u8> {
 }
 
 /// "The input is one byte 1, the six bytes "TCP-AO", the context, and the output length in bits as
-/// two bytes (160 or 128): 29 or 53 bytes in all."
+/// two bytes (160 or 128): 29 or 53 bytes in all." Algorithm 3: "with output length 256".
 pub fn traffic_key_input(algorithm: Algorithm, ends: &Ends) -> Vec<u8> {
     let output_bits = 8 * algorithm.traffic_key_bytes() as u16;
     let mut bytes = Vec::with_capacity(53);
@@ -48,7 +48,8 @@ pub fn traffic_key_input(algorithm: Algorithm, ends: &Ends) -> Vec<u8> {
 
 /// "Algorithm 1 applies HMAC-SHA-1 under the master key. Algorithm 2 applies AES-CMAC under the
 /// master key if that has 16 bytes; otherwise under AES-CMAC of the master key with an all-zero
-/// key."
+/// key." Algorithm 3: "HMAC-SHA-256, also in place of HMAC-SHA-1 in algorithm 1's key derivation, with
+/// output length 256, without an extraction step".
 pub fn traffic_key(algorithm: Algorithm, master_key: &[u8], ends: &Ends) -> Vec<u8> {
     let input = traffic_key_input(algorithm, ends);
     match algorithm {
@@ -60,6 +61,7 @@ pub fn traffic_key(algorithm: Algorithm, master_key: &[u8], ends: &Ends) -> Vec<
             };
             crypto::aes128_cmac(&key, &input).to_vec()
         }
+        Algorithm::HmacSha256 => crypto::hmac_sha256(master_key, &input).to_vec(),
     }
 }
 
@@ -121,6 +123,7 @@ pub fn applied(algorithm: Algorithm, traffic_key: &[u8], message: &[u8]) -> Vec<
             key.copy_from_slice(traffic_key);
             crypto::aes128_cmac(&key, message).to_vec()
         }
+        Algorithm::HmacSha256 => crypto::hmac_sha256(traffic_key, message).to_vec(),
     }
 }
 

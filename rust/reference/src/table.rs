@@ -21,21 +21,25 @@ pub struct Pair<'a> {
     pub remote_port: u16,
 }
 
-/// "algorithm (1 HMAC-SHA-1-96, 2 AES-128-CMAC-96)".
+/// "algorithm (1 HMAC-SHA-1-96, 2 AES-128-CMAC-96)"; Ticket 13: "Add algorithm 3: HMAC-SHA-256".
 #[derive(Clone, Copy, Debug, PartialEq, Eq)]
 pub enum Algorithm {
     /// 1, HMAC-SHA-1-96.
     HmacSha1,
     /// 2, AES-128-CMAC-96.
     AesCmac,
+    /// 3, HMAC-SHA-256.
+    HmacSha256,
 }
 
 impl Algorithm {
-    /// "Each algorithm has its own fixed numbers: traffic key bytes (20 and 16)".
+    /// "Each algorithm has its own fixed numbers: traffic key bytes (20 and 16)". Ticket 13: "with output
+    /// length 256".
     pub fn traffic_key_bytes(self) -> usize {
         match self {
             Algorithm::HmacSha1 => 20,
             Algorithm::AesCmac => 16,
+            Algorithm::HmacSha256 => 32,
         }
     }
 }
@@ -212,7 +216,7 @@ fn read_body(kind: u8, address_bytes: usize, body: &[u8]) -> Result<Entry<'_>, u
         prefix: remote_part[address_bytes] as usize,
     };
 
-    // 13: "flags or algorithm not listed".
+    // 13: "flags or algorithm not listed". Ticket 13: "Refusal 13 admits 3."
     let covers_options = match body[0] {
         0 => false,
         1 => true,
@@ -221,6 +225,7 @@ fn read_body(kind: u8, address_bytes: usize, body: &[u8]) -> Result<Entry<'_>, u
     let algorithm = match body[1] {
         1 => Algorithm::HmacSha1,
         2 => Algorithm::AesCmac,
+        3 => Algorithm::HmacSha256,
         _ => return Err(13),
     };
     // "Refusal 13 also covers the new byte".

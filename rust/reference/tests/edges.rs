@@ -1,5 +1,4 @@
-//! The boundary's bytes: the answer word, the state, lengths that are one off, and the four MAC
-//! calls.
+//! The boundary's bytes: the answer word, the state, lengths that are one off, and the MAC calls.
 
 mod common;
 
@@ -250,7 +249,7 @@ fn counts_stop() {
     assert_eq!(a.state().drops[1..], [0; 9]);
 }
 
-/// "These give how many bytes they wrote at the front of `out`: 20, 20, 16, 16. Where `out` is
+/// "These give how many bytes they wrote at the front of `out`: 20, 20, 16, 16, 32, 32". "Where `out` is
 /// shorter, or an AES key or block has not 16 bytes, they give 0 and write nothing."
 #[test]
 fn the_mac_calls() {
@@ -272,6 +271,12 @@ fn the_mac_calls() {
         let mut out = fresh.clone();
         let wrote = c::mac_aes128_cmac(&[1; 16], b"", &mut out);
         check(16, wrote, &out);
+        let mut out = fresh.clone();
+        let wrote = c::mac_sha256(b"m", &mut out);
+        check(32, wrote, &out);
+        let mut out = fresh.clone();
+        let wrote = c::mac_hmac_sha256(b"", b"", &mut out);
+        check(32, wrote, &out);
     }
     for length in (0..40).filter(|length| *length != 16) {
         let wrong = vec![0; length];

@@ -4,7 +4,7 @@ mod common;
 
 use common::*;
 use kit::Pair;
-use reference::crypto::{aes128_cmac, hmac_sha1};
+use reference::crypto::{aes128_cmac, hmac_sha1, hmac_sha256};
 
 const ADDRESSES: [(&[u8], &[u8]); 2] = [(&A4, &B4), (&A6, &B6)];
 
@@ -30,7 +30,7 @@ fn open(ours: &Entry, theirs: &Entry) -> (End, End) {
 fn each_way() -> Vec<Entry> {
     let mut entries = vec![];
     for (a, b) in ADDRESSES {
-        for (flags, algorithm) in [(0, 1), (1, 1), (0, 2), (1, 2)] {
+        for (flags, algorithm) in [(0, 1), (1, 1), (0, 2), (1, 2), (0, 3), (1, 3)] {
             entries.push(Entry {
                 flags,
                 algorithm,
@@ -50,14 +50,22 @@ fn whole_mac(entry: &Entry, from_a: bool, covered: &[u8]) -> Vec<u8> {
     input.extend([&from.0[..], to.0].concat());
     input.extend([from.1.to_be_bytes(), to.1.to_be_bytes()].concat());
     input.extend([from.2.to_be_bytes(), to.2.to_be_bytes()].concat());
-    if entry.algorithm == 1 {
-        input.extend([0, 160]);
-        let key = hmac_sha1(&entry.key, &input);
-        hmac_sha1(&key, covered).to_vec()
-    } else {
-        input.extend([0, 128]);
-        let key = aes128_cmac(&aes128_cmac(&[0; 16], &entry.key), &input);
-        aes128_cmac(&key, covered).to_vec()
+    match entry.algorithm {
+        1 => {
+            input.extend([0, 160]);
+            let key = hmac_sha1(&entry.key, &input);
+            hmac_sha1(&key, covered).to_vec()
+        }
+        2 => {
+            input.extend([0, 128]);
+            let key = aes128_cmac(&aes128_cmac(&[0; 16], &entry.key), &input);
+            aes128_cmac(&key, covered).to_vec()
+        }
+        _ => {
+            input.extend([1, 0]);
+            let key = hmac_sha256(&entry.key, &input);
+            hmac_sha256(&key, covered).to_vec()
+        }
     }
 }
 
@@ -164,7 +172,7 @@ fn a_table_of_all_kinds() {
                 .mac_length(bytes);
             keys.push(Entry {
                 flags: bytes % 2,
-                algorithm: 1 + bytes / 2 % 2,
+                algorithm: 1 + bytes % 3,
                 ..key
             });
         }

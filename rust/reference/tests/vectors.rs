@@ -1,4 +1,4 @@
-//! The published vectors: FIPS 180-4, FIPS 197, RFC 2202, RFC 4493, RFC 9235 and RFC 9187.
+//! The published vectors: FIPS 180-4, FIPS 197, RFC 2202, RFC 4231, RFC 4493, RFC 9235 and RFC 9187.
 
 mod common;
 
@@ -55,6 +55,24 @@ fn fips_180() {
 }
 
 #[test]
+fn fips_180_256() {
+    let lines = columns(include_str!("../vectors/fips180-256.txt"));
+    assert_eq!(lines.len(), 5);
+    for line in lines {
+        let message = if line[0] == "million-a" {
+            vec![0x61; 1_000_000]
+        } else {
+            bytes_or_none(line[0])
+        };
+        let digest = hex(line[1]);
+        assert_eq!(crypto::sha256(&message)[..], digest);
+        let mut out = [0; 32];
+        assert_eq!(c::mac_sha256(&message, &mut out), 32);
+        assert_eq!(out[..], digest);
+    }
+}
+
+#[test]
 fn fips_197() {
     let lines = columns(include_str!("../vectors/fips197.txt"));
     assert_eq!(lines.len(), 2);
@@ -82,6 +100,23 @@ fn rfc_2202() {
         let mut out = [0; 20];
         assert_eq!(c::mac_hmac_sha1(&key, &message, &mut out), 20);
         assert_eq!(out[..], digest);
+    }
+}
+
+#[test]
+fn rfc_4231() {
+    let lines = columns(include_str!("../vectors/rfc4231.txt"));
+    assert_eq!(lines.len(), 7);
+    for line in lines {
+        let (key, message, digest) = (hex(line[1]), hex(line[2]), hex(line[3]));
+        // Case 5 is cut.
+        let cut = if line[0] == "5" { 16 } else { 32 };
+        assert_eq!(digest.len(), cut);
+        let whole = crypto::hmac_sha256(&key, &message);
+        assert_eq!(whole[..cut], digest, "case {}", line[0]);
+        let mut out = [0; 32];
+        assert_eq!(c::mac_hmac_sha256(&key, &message, &mut out), 32);
+        assert_eq!(out, whole);
     }
 }
 

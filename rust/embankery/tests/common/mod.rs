@@ -44,11 +44,17 @@ pub const FIRST_KIND: Kind = Kind {
     mac_length: None,
 };
 
+pub const ALGORITHMS: [Algorithm; 3] = [
+    Algorithm::HmacSha1_96,
+    Algorithm::Aes128Cmac96,
+    Algorithm::HmacSha256,
+];
+
 /// Both families, all algorithms and flags, and MACs of 4, 9, 12 (unsaid and said) and 16 bytes.
 pub fn kinds() -> Vec<Kind> {
     let mut kinds = Vec::new();
     for ipv6 in [false, true] {
-        for algorithm in [Algorithm::HmacSha1_96, Algorithm::Aes128Cmac96] {
+        for algorithm in ALGORITHMS {
             for covered in [Covered::OnlyTcpAo, Covered::AllOptions] {
                 for mac_length in [None, Some(4), Some(9), Some(12), Some(16)] {
                     kinds.push(Kind {

@@ -9,15 +9,15 @@ use Rattle.traffic.proofs.context.first16.Statement.{statement}
 use Rattle.traffic.proofs.context.first16.Tie as tie
 
 slice-aggregate-copy-at-2 : tie.Need-slice-aggregate-copy-at-2
-slice-aggregate-copy-at-2 c = let k = c .before .before .args .t1 in let l : length k ≡ 20 = search needs in sym (length-take-le 16 k (omega arith))
+slice-aggregate-copy-at-2 c = let k = c .before .before .args .t1 in let l : length k ≡ 32 = search needs in sym (length-take-le 16 k (omega arith))
 
 copy-at-requires : tie.Need-copy-at-requires
-copy-at-requires c κs = let k = c .before .before .args .t1 in let l : length k ≡ 20 = search needs in omega (arith, length-take-le 16 k (omega arith))
+copy-at-requires c κs = let k = c .before .before .args .t1 in let l : length k ≡ 32 = search needs in omega (arith, length-take-le 16 k (omega arith))
 
 returns : tie.Need-returns
 returns c =
     let k = c .before .before .before .before .args .t1 in
-    let l : length k ≡ 20 = search needs in
+    let l : length k ≡ 32 = search needs in
     copied-whole 16 (take 16 k) (length-take-le 16 k (omega arith)) (c .before .copy-at .ensures)
 
 pub first16-spec : {M : Type 1} → statement M

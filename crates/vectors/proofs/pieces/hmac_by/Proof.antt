@@ -6,10 +6,10 @@ use Rattle.vectors.proofs.pieces.hmac_by.Statement.{statement}
 use Rattle.vectors.proofs.pieces.hmac_by.Tie as tie
 
 abbrev Inv-loop : tie.InvT-loop
-Inv-loop size key «data» c₀ i₀ c i = i ≤ length «data»
+Inv-loop hash size key «data» c₀ i₀ c i = i ≤ length «data»
 
 abbrev μ-loop : tie.MeasureT-loop
-μ-loop size key «data» c₀ i₀ c i = length «data» - i
+μ-loop hash size key «data» c₀ i₀ c i = length «data» - i
 
 pub hmac-by-spec : {M : Type 1} → statement M
 hmac-by-spec =

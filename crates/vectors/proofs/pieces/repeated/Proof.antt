@@ -5,10 +5,10 @@ use Rattle.vectors.proofs.pieces.repeated.Statement.{statement}
 use Rattle.vectors.proofs.pieces.repeated.Tie as tie
 
 abbrev Inv-loop : tie.InvT-loop
-Inv-loop piece times c₀ i₀ c i = i ≤ times
+Inv-loop hash piece times c₀ i₀ c i = i ≤ times
 
 abbrev μ-loop : tie.MeasureT-loop
-μ-loop piece times c₀ i₀ c i = times - i
+μ-loop hash piece times c₀ i₀ c i = times - i
 
 pub repeated-spec : {M : Type 1} → statement M
 repeated-spec =

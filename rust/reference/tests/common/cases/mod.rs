@@ -6,6 +6,7 @@ pub mod judge;
 pub mod key_ids;
 pub mod mac_lengths;
 pub mod open;
+pub mod sha256;
 pub mod sign;
 pub mod table;
 
@@ -38,6 +39,7 @@ pub fn cases() -> Vec<Case> {
     mac_lengths::arriving(&scene, &mut list);
     mac_lengths::signing(&scene, &mut list);
     mac_lengths::largest(&scene, &mut list);
+    sha256::calls(&scene, &mut list);
     ask::ids(&scene, &mut list);
     list.0
 }

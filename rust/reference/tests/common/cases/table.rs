@@ -44,10 +44,19 @@ pub fn bad_tables() -> Vec<(String, Vec<u8>, Answer)> {
     worst.local.prefix = 33;
     add("flags, ports, prefix, key", with_bad_key(&worst), 13, 1);
     worst.flags = 1;
-    worst.algorithm = 3;
+    worst.algorithm = 4;
     add("algorithm, ports, prefix, key", with_bad_key(&worst), 13, 1);
+    worst.algorithm = 255;
+    add("algorithm 255", worst.bytes(), 13, 0);
     worst.algorithm = 0;
     add("algorithm 0", worst.bytes(), 13, 0);
+    worst.algorithm = 3;
+    add(
+        "algorithm 3: ports, prefix, key",
+        with_bad_key(&worst),
+        14,
+        1,
+    );
     worst.algorithm = 2;
     add("ports, prefix, key", with_bad_key(&worst), 14, 1);
     (worst.local.low, worst.local.high) = (0, 0);

@@ -28,7 +28,7 @@ slice-aggregate-same-throughout-2 : tie.Need-slice-aggregate-same-throughout-2
 slice-aggregate-same-throughout-2 c =
     let b = c .before .before .before .before .before .before .before .before in
     let tag = c .before .before .finish .result in
-    let t : length tag ≡ 20 = search needs in
+    let t : length tag ≡ 32 = search needs in
     sym (length-take-le (b .args .self .«mac_bytes») tag (omega (arith, b .pre)))
 
 returns-2 : tie.Need-returns-2

@@ -13,14 +13,14 @@ slice-aggregate-copy-at-2 : tie.Need-slice-aggregate-copy-at-2
 slice-aggregate-copy-at-2 c =
     let b = c .before .before .before .before .before .before in
     let tag = c .before .before .finish .result in
-    let t : length tag ≡ 20 = search needs in
+    let t : length tag ≡ 32 = search needs in
     sym (length-take-le (b .args .self .«mac_bytes») tag (omega (arith, b .pre)))
 
 copy-at-requires : tie.Need-copy-at-requires
 copy-at-requires c κs =
     let b = c .before .before .before .before .before .before in
     let tag = c .before .before .finish .result in
-    let t : length tag ≡ 20 = search needs in
+    let t : length tag ≡ 32 = search needs in
     let h : length (b .args .self .header) ≡ 60 = search needs in
     let l = length-take-le (b .args .self .«mac_bytes») tag (omega (arith, b .pre)) in
     omega (arith, b .pre)

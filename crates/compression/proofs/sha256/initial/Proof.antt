@@ -1,0 +1,11 @@
+use mathlib.Core.Path.{refl}
+use Rattle.compression.specs.Sha256Block.{initial}
+use Rattle.compression.proofs.sha256.initial.Statement.{statement}
+use Rattle.compression.proofs.sha256.initial.Tie as tie
+
+returns : tie.Need-returns
+unfolding initial
+returns c = refl
+
+pub initial-spec : {M : Type 1} → statement M
+initial-spec = tie.close (tie.spec returns)
