@@ -3,6 +3,8 @@ pub mod Mac
 pub mod Segment
 pub mod Connection
 pub mod Calls
+mod Checksum
+mod ChecksumLaws
 pub mod Answers
 pub mod AnswerLaws
 pub mod Ends
