@@ -12,7 +12,7 @@ use borrow.Author.Tests.{eqb-true, eqb-false, eq-eqb, ne-eqb}
 use Rattle.octets.specs.Octets.{bytes16}
 use Rattle.checksum.specs.declared.Sum.{Sum}
 use Rattle.checksum.specs.Checksum.{word, onesAdd, onesSum, complement, checksumOf, replaced, checksummed}
-use Rattle.checksum.specs.Running.{wordSum, after, folded, begun, added}
+use Rattle.checksum.specs.Running.{wordSum, after, folded, begun, added, padded}
 use Rattle.checksum.specs.FoldLaws.{folded-more, folded-below, folded-word, full-folded, folded-full, add-folded, folded-again}
 
 -- The closed form: 0 where every word is 0, else 1 + (S - 1) mod 65535 of the plain sum S.
@@ -111,6 +111,15 @@ checksum-all l = ap complement (added-all l)
 pub sum-even : (a b : List ℕ) → length a % 2 ≡ 0 → wordSum false (a ++ b) ≡ wordSum false a + wordSum false b
 sum-even a b e = sum-append false a b ∙ ap (λ (odd : Bool). wordSum false a + wordSum odd b) (after-even false a e)
 
+-- so pieces of even lengths may come last: of p, h and d in this order, where h is added behind d
+pub added-last : (p h d : List ℕ) → length p % 2 ≡ 0 → length h % 2 ≡ 0
+    → added (padded (added (added begun p) d)) h .sum ≡ onesSum (p ++ (h ++ d))
+added-last p h d e f =
+    ap (λ (s : Sum). folded (s .sum + wordSum false h)) (added-append begun p d)
+    ∙ folded-again (0 + wordSum false (p ++ d)) (wordSum false h)
+    ∙ ap folded (omega (arith, sum-even p d e, sum-even p (h ++ d) e, sum-even h d f))
+    ∙ sym (ones-folded (p ++ (h ++ d)))
+
 -- one octet that is not 0 is enough
 pub sum-positive : (odd : Bool) (l : List ℕ) (i : ℕ) → 0 < getD l i 0 % 256 → 0 < wordSum odd l
 unfolding wordSum
@@ -163,6 +172,17 @@ completed n x h e =
     let w = word-octets x (omega arith) in
     let m : (n + x) % 65535 ≡ 0 = omega (arith, folded-more n h) in
     ap (λ (k : ℕ). (n + k) % 65535) w ∙ m
+
+-- what is written is no longer, and another pair of octets takes its place
+module _ (at : ℕ) (before s : List ℕ) (inside : at + 2 ≤ length s) where
+  pub length-checksummed : length (checksummed at before s) ≡ length s
+  unfolding checksummed
+  length-checksummed = length-replaced at (bytes16 (checksumOf (before ++ replaced at (0 ∷ 0 ∷ []) s))) s inside
+
+  pub replaced-checksummed : (c d : ℕ) → replaced at (c ∷ d ∷ []) (checksummed at before s) ≡ replaced at (c ∷ d ∷ []) s
+  unfolding checksummed
+  replaced-checksummed c d =
+      replaced-again at (bytes16 (checksumOf (before ++ replaced at (0 ∷ 0 ∷ []) s))) (c ∷ d ∷ []) s refl inside
 
 module _ (at : ℕ) (before s : List ℕ) (even : length before % 2 ≡ 0) (place : at % 2 ≡ 0) (inside : at + 2 ≤ length s) where
   around : (l : List ℕ) → wordSum false (before ++ (take at s ++ l)) ≡ wordSum false before + wordSum false (take at s) + wordSum false l

@@ -35,3 +35,7 @@ begun = record { sum = 0; odd = false }
 -- one piece more
 abbrev pub added : Sum → List ℕ → Sum
 added s l = record { sum = folded (s .sum + wordSum (s .odd) l); odd = after (s .odd) l }
+
+-- a last odd octet followed by a zero: what comes next begins a word
+abbrev pub padded : Sum → Sum
+padded s = record { sum = s .sum; odd = false }

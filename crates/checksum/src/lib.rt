@@ -5,7 +5,7 @@ ghost use mathlib.Core.Bool.{true, false};
 ghost use Prim.Native.Nat.{_+_, _≤_, _^_};
 ghost use lib.ListN.{length};
 ghost use Rattle.checksum.specs.Checksum.{complement};
-ghost use Rattle.checksum.specs.Running.{wordSum, folded, Congruent, begun, added};
+ghost use Rattle.checksum.specs.Running.{wordSum, folded, Congruent, begun, added, padded as paddedOf};
 
 // A sum under way, with its carries brought back; and whether it ends inside a word, so that the next octet is a word's second.
 pub struct Sum {
@@ -93,6 +93,16 @@ impl Sum {
         Sum {
             sum: with_words(self.sum, piece),
             odd: piece.len() % 2 == 1,
+        }
+    }
+
+    // A last odd octet is followed by a zero: what comes next begins a word.
+    pub fn padded(self) -> Self
+        ensures { λ r. ⌜ r ≡ paddedOf self ⌝ }
+    {
+        Sum {
+            sum: self.sum,
+            odd: false,
         }
     }
 
