@@ -1,10 +1,9 @@
 pub mod Position
 pub mod Mac
+pub mod Checksum
 pub mod Segment
 pub mod Connection
 pub mod Calls
-mod Checksum
-mod ChecksumLaws
 pub mod Answers
 pub mod AnswerLaws
 pub mod Ends
@@ -23,6 +22,7 @@ pub mod Inhabited
 pub mod GroupLaws
 pub mod PositionLaws
 pub mod MacLaws
+pub mod ChecksumLaws
 pub mod JudgeLaws
 pub mod CountLaws
 pub mod RoundTripLaws
