@@ -27,7 +27,7 @@ use Rattle.checks.proofs.Checks.{early-input, flow-back}
 module _ (g : Groups) (o : Outcome) where
   seams : first (untilMac g) o ≡ first (early g) (first (formed g) (first (g .key) o))
   seams =
-      first-joined (g .input ∷ g .size ∷ []) (g .form ∷ g .arrival ∷ g .key ∷ []) o
+      first-joined (g .input ∷ g .size ∷ g .sum ∷ []) (g .form ∷ g .arrival ∷ g .key ∷ []) o
       ∙ ap (first (early g)) (first-joined (g .form ∷ g .arrival ∷ []) (g .key ∷ []) o ∙ ap (first (formed g)) (first-append (g .key) [] o))
 
   module _ (e : Entry) (f : Flow) (s : List ℕ) (b : Begun) where

@@ -46,7 +46,8 @@ flip false x y = refl
 -- the groups with and without the last
 whole : (g : Groups) (o : Outcome) → first (inOrder g) o ≡ first (untilMac g) (first (g .mac) o)
 whole g o =
-    first-joined (g .input ∷ g .size ∷ g .form ∷ g .arrival ∷ g .key ∷ []) (g .mac ∷ []) o ∙ ap (first (untilMac g)) (first-append (g .mac) [] o)
+    first-joined (g .input ∷ g .size ∷ g .sum ∷ g .form ∷ g .arrival ∷ g .key ∷ []) (g .mac ∷ []) o
+    ∙ ap (first (untilMac g)) (first-append (g .mac) [] o)
 
 -- a MAC that the data end is the segment's
 module _ (x : ℕ) (e : Entry) (f : Flow) (s : List ℕ) (b : Begun) (short : b .«mac_bytes» ≤ 16) (ready : Ready x e f s b) where
