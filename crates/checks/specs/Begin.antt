@@ -76,7 +76,7 @@ pub record Fed (b : Begun) (d : List ℕ) (c : Begun) : Type 0 where
   pub carried : c .carried ≡ b .carried
   pub mac : macView (c .mac) ≡ macAbsorb (macView (b .mac)) d
 
--- how many bytes of a MAC are compared: what its length says, but never more than there is room for
+-- how many bytes a MAC has: what its length says, but never more than there is room for
 abbrev pub macLength : ℕ → ℕ
 macLength n = min n 16
 

@@ -119,8 +119,8 @@ pub(crate) fn by_key(
     ready(x, rnext, entry, flow, option, segment)
 }
 
-// How many bytes of a MAC are compared: what its length says, but never more than there is room for.
-fn mac_length(n: u8) -> usize
+// How many bytes a MAC has: what its length says, but never more than there is room for.
+pub fn mac_length(n: u8) -> usize
     ensures { λ r. ⌜ r ≡ macLength n ⌝ }
 {
     if n < 16 { n as usize } else { 16 }
