@@ -48,7 +48,7 @@ extern "C" {
  *        or RecvID
  *
  *   The call is refused:
- *   18   the state is not 152 bytes long, or its family is neither 4 (IPv4) nor 6 (IPv6)
+ *   18   the state is not 160 bytes long, or its family is neither 4 (IPv4) nor 6 (IPv6)
  *   19   the addresses are not both 4 or both 16 bytes long
  *
  *   An arriving segment is dropped:
@@ -62,6 +62,7 @@ extern "C" {
  *   27   the MAC's length is not the entry's
  *   28   the sequence number has no position
  *   29   the MAC differs
+ *   40   the segment's checksum is wrong
  *
  *   A segment is not signed, or a call not done:
  *   30   signing: the segment's length or data offset is bad
@@ -76,7 +77,7 @@ extern "C" {
  *
  * The value beside 0 is, of tcpao_judge, tcpao_judge_syn and tcpao_open_passive, the segment's sequence
  * number extension; of tcpao_sign the signed length; of tcpao_check_table how many entries. Beside 10 to
- * 17 it is the entry's index, from 0. Else it is 0. 152 is EMBANKERY_STATE_BYTES.
+ * 17 it is the entry's index, from 0. Else it is 0. 160 is EMBANKERY_STATE_BYTES.
  *
  * Where several apply, 18 is given before 19, then 10 to 17, and then the others in the order of this
  * list. Of the table's entries the first that is refused counts; of one entry 12 comes first, then 11,
@@ -147,6 +148,7 @@ extern "C" {
  *   56   8      reference of the arriving direction
  *   64   8      how many segments were accepted since the opening
  *   72   80     how many were dropped with 20, 21, .. 29, eight bytes each
+ *   152  8      how many were dropped with 40
  *
  * The segment that opens is not counted, and a count stops at 2^64 - 1. Later versions may append
  * fields; what stands here keeps its place.
@@ -160,7 +162,7 @@ extern "C" {
  * zeros for each opening. A passive opening whose SYN is only passed does clear it: all bytes are zero
  * then, and later calls give 18.
  */
-#define EMBANKERY_STATE_BYTES 152
+#define EMBANKERY_STATE_BYTES 160
 
 /* What signing adds to a segment, and the most that a segment may have. */
 #define EMBANKERY_ADDED_BYTES 20 /* the most that signing adds: a MAC of 16 bytes; 16 with one of 12 */
