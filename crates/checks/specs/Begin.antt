@@ -21,7 +21,7 @@ use Rattle.rules.specs.Connection.{Arrival, arrivalPair, arriving, arrivingSyn,
 use Rattle.rules.specs.Calls.{refuse, keyTests, judgeGroups, synMissing, synUnknown, synGroups}
 use Rattle.traffic.specs.Padded.{padded, digestRoom}
 use Rattle.traffic.specs.MacContext.{MacView, macView, macStart, macAbsorb, macFinished}
-use Rattle.checks.specs.Groups.{untilMac, goodAt, arrivingOn}
+use Rattle.checks.specs.Groups.{untilMac, goodAt}
 use Rattle.checks.specs.declared.begun.Begun.{Begun}
 
 -- the MAC that the front leaves, under the entry's traffic key

@@ -2,7 +2,7 @@
 // go into it from where they lie, in as many pieces as they come; end compares: 29. Between them a value holds all that is needed, and no
 // reference.
 ghost use mathlib.Core.Path.{_≡_};
-ghost use mathlib.Core.Bool.{true, false};
+ghost use mathlib.Core.Bool.{true};
 ghost use Prim.Native.Nat.{_+_, _≤_, min};
 ghost use lib.ListN.{length, take, drop};
 ghost use Rattle.wire.specs.Header.{headerEnd, wellSized};

@@ -41,10 +41,11 @@ module _ (p h d : List ℕ) (even : length p % 2 ≡ 0) (words : length h % 2 �
       → complement (added (padded u) (h ++ zeros n) .sum) ≡ checksumOf (p ++ replaced 16 (0 ∷ 0 ∷ []) (h ++ d))
   unfolding checksumOf
   sum-is n {u = u} is =
-      let clear : h ++ d ≡ replaced 16 (0 ∷ 0 ∷ []) (h ++ d) = sym (replaced-front 16 (0 ∷ 0 ∷ []) h d long ∙ ap (λ (l : List ℕ). l ++ d) blank) in
+      let clear : replaced 16 (0 ∷ 0 ∷ []) (h ++ d) ≡ h ++ d =
+      replaced-front 16 (0 ∷ 0 ∷ []) h d long ∙ ap (λ (l : List ℕ). l ++ d) blank in
       ap complement
       (zeros-behind (padded u) h n ∙ ap (λ (v : Sum). added (padded v) h .sum) is ∙ added-last p h d even words
-      ∙ ap (λ (l : List ℕ). onesSum (p ++ l)) clear)
+      ∙ ap (λ (l : List ℕ). onesSum (p ++ l)) (sym clear))
 
   put : (c n : ℕ) → take (length h) (take 16 (h ++ zeros n) ++ bytes16 c ++ drop 18 (h ++ zeros n)) ++ d ≡ replaced 16 (bytes16 c) (h ++ d)
   put c n =

@@ -1,6 +1,6 @@
 -- The bytes that signing writes are those of the definition, and the MAC that the data end is the segment's. Document 01, "Signing puts
 -- TCP-AO directly after byte 20, ..". Assumes nothing.
-use Prim.Native.Nat.{ℕ, zero, suc, _+_, _-_, _*_, _/_, _%_, _≤_, _<_}
+use Prim.Native.Nat.{ℕ, zero, suc, _+_, _-_, _*_, _/_, _≤_}
 use mathlib.Core.Path.{_≡_, refl, sym, ap, ap₂, _∙_}
 use mathlib.Core.List.{List, [], _∷_, _++_, append-assoc}
 use native.Mathlib.Omega.{arith}
@@ -29,7 +29,7 @@ use Rattle.traffic.specs.TagLaws.{tagOf, tagged, tag-mac-parts}
 use Rattle.traffic.specs.declared.context.MacContext.{MacContext}
 use Rattle.checks.specs.Begin.{macLength}
 use Rattle.tcpao.specs.SignedBytes.{headBytes, Room, Signable}
-use Rattle.tcpao.specs.SignBegin.{blankHeader, leavingSum, Ready, Starts, Fed, Writable, withMac, checkedHeader, ended, finished}
+use Rattle.tcpao.specs.SignBegin.{blankHeader, Ready, Starts, Fed, Writable, withMac, checkedHeader, ended, finished}
 use Rattle.tcpao.specs.declared.sign_begun.SignBegun.{SignBegun}
 use Rattle.tcpao.proofs.CheckedLaws.{checked-is}
 
@@ -228,6 +228,10 @@ module _ (x : ℕ) (e : Secret) (q : State) (s : List ℕ) (can : Signable s e) 
   blank-long : length blank ≡ headerEnd s + optionBytes n
   blank-long = length-inserted (q .«send_id») (q .«ask_id») (zeros n) old enough ∙ ap₂ (λ (i j : ℕ). i + optionBytes j) long n-zeros
 
+  -- the pseudo-header of a segment of i bytes that leaves
+  abbrev pseudo : ℕ → List ℕ
+  pseudo i = pseudoHeader (localAddress (q .conn .pair)) (remoteAddress (q .conn .pair)) i
+
   -- what `ready` asks of its parts
   pub cut : {end : ℕ} → end ≡ headerEnd s → end ≡ length (take end s)
   cut {end = end} h = sym (length-take-le end s (omega (arith, h, can .inside)))
@@ -245,7 +249,7 @@ module _ (x : ℕ) (e : Secret) (q : State) (s : List ℕ) (can : Signable s e) 
       → f ≡ flow → ext ≡ extensionOf x → h ≡ padded 60 (inserted (optionOf (q .«send_id») (q .«ask_id») (zeros n)) (take end s))
       → macView m
       ≡ macAbsorb (macStart (e .algorithm) (padded digestRoom (trafficKey e f))) (front e f ext 20 (length s + added) (take (end + added) h))
-      → u ≡ addedTo begun (pseudoHeader (localAddress (q .conn .pair)) (remoteAddress (q .conn .pair)) (length s + added))
+      → u ≡ addedTo begun (pseudo (length s + added))
       → Starts x e q s (record { outcome = Good x (q .«ask_id»); added = added; header = h; mac = m; «mac_bytes» = n; sum = u })
   starts-is {end = end} {added = added} m h u ends adds flows exts heads macs sums =
       let hb : h ≡ padded 60 blank =
@@ -263,7 +267,7 @@ module _ (x : ℕ) (e : Secret) (q : State) (s : List ℕ) (can : Signable s e) 
                   macs
                   ∙ (λ i. macAbsorb (macStart (e .algorithm) (padded digestRoom (trafficKey e (flows i))))
                   (front e (flows i) (exts i) 20 (length s + adds i) (t i)));
-              sum = sums ∙ (λ i. addedTo begun (pseudoHeader (localAddress (q .conn .pair)) (remoteAddress (q .conn .pair)) (length s + adds i)));
+              sum = sums ∙ (λ i. addedTo begun (pseudo (length s + adds i)));
             };
       }
 
@@ -333,17 +337,14 @@ module _ (x : ℕ) (e : Secret) (q : State) (s : List ℕ) (can : Signable s e) 
 
     -- what begin, data and end come to
     module _ (alike : length (localAddress (q .conn .pair)) ≡ length (remoteAddress (q .conn .pair))) where
-      abbrev pseudo : List ℕ
-      pseudo = pseudoHeader (localAddress (q .conn .pair)) (remoteAddress (q .conn .pair)) (length s + optionBytes n)
-
       pub finished-is : (entry : Entry) → entry .secret ≡ e → finished b s ≡ signedSegment entry q x s
       unfolding signedSegment withChecksum
       finished-is entry under =
           let cut : headerEnd s + b .added ≡ length new = ap (λ (i : ℕ). headerEnd s + i) (ready .added) ∙ sym new-long in
           (λ i. take (cut i) (checkedHeader (with-mac i) (addedTo (ready .sum i) d)) ++ d)
-          ∙ checked-is pseudo new d (pseudo-even _ _ (length s + optionBytes n) alike) (omega (arith, new-long, whole-words n))
+          ∙ checked-is (pseudo (length s + optionBytes n)) new d (pseudo-even _ _ (length s + optionBytes n) alike) (omega (arith, new-long, whole-words n))
           (omega (arith, new-long, can .low)) (unchecked (q .«send_id») (q .«ask_id») mac old enough) (60 - length blank) refl
-          ∙ ap (λ (i : ℕ). checksummed 16 (pseudoHeader (localAddress (q .conn .pair)) (remoteAddress (q .conn .pair)) i) (new ++ d)) (sym all-long)
+          ∙ ap (λ (i : ℕ). checksummed 16 (pseudo i) (new ++ d)) (sym all-long)
           ∙ ap (withChecksum (localAddress (q .conn .pair)) (remoteAddress (q .conn .pair))) (authenticated-is entry under)
 
     pub writable : (out : List ℕ) → length s + optionBytes n ≤ length out → Writable b s out

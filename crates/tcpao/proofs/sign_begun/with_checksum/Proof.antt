@@ -1,6 +1,6 @@
 -- The sum with the header in it, complemented, goes into the header.
 use borrow.Author.Needs.{needs}
-use mathlib.Core.Path.{_≡_, ap, _∙_}
+use mathlib.Core.Path.{ap, _∙_}
 use lib.ListN.{length}
 use lib.Seq.{paste}
 use Rattle.octets.specs.Octets.{bytes16}
