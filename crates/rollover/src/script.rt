@@ -1,7 +1,7 @@
 // What is sent, numbered from 1 in the order of sending, and the order of events in both runs. Assumes nothing.
 
-// What a numbered segment is: data that one end signs; or, made on the way from the segment numbered before it, the same once more, one that
-// was damaged, or a forgery.
+// What a numbered segment is: data that one end signs; or, made on the way from the segment numbered before it, the same once more, one
+// that was damaged, or a forgery.
 pub const DATA: u8 = 0;
 
 pub const AGAIN: u8 = 1;
