@@ -74,7 +74,7 @@ int main(void)
            expect(0, tcpao_judge(table_b, ENTRY, A, 4, B, 4, wire, length, b, STATE)));
 
     wire[36] ^= 1; /* the first byte of the data */
-    expect(29, tcpao_judge(table_b, ENTRY, A, 4, B, 4, wire, length, b, STATE));
-    printf("damaged: dropped with 29\n");
+    expect(40, tcpao_judge(table_b, ENTRY, A, 4, B, 4, wire, length, b, STATE));
+    printf("damaged: dropped with 40\n");
     return 0;
 }

@@ -53,6 +53,6 @@ fn main() -> Result<(), Box<dyn Error>> {
     damaged[36] ^= 1; // the first byte of the data
     let verdict = b.judge(&table_b, A.0, B.0, &damaged);
     println!("damaged: {verdict}");
-    assert_eq!(verdict, Verdict::Drop(Refusal::MacDiffers));
+    assert_eq!(verdict, Verdict::Drop(Refusal::Checksum));
     Ok(())
 }

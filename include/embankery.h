@@ -48,7 +48,7 @@ extern "C" {
  *        or RecvID
  *
  *   The call is refused:
- *   18   the state is not 152 bytes long, or its family is neither 4 (IPv4) nor 6 (IPv6)
+ *   18   the state is not 160 bytes long, or its family is neither 4 (IPv4) nor 6 (IPv6)
  *   19   the addresses are not both 4 or both 16 bytes long
  *
  *   An arriving segment is dropped:
@@ -62,6 +62,7 @@ extern "C" {
  *   27   the MAC's length is not the entry's
  *   28   the sequence number has no position
  *   29   the MAC differs
+ *   40   the segment's checksum is wrong
  *
  *   A segment is not signed, or a call not done:
  *   30   signing: the segment's length or data offset is bad
@@ -76,14 +77,14 @@ extern "C" {
  *
  * The value beside 0 is, of tcpao_judge, tcpao_judge_syn and tcpao_open_passive, the segment's sequence
  * number extension; of tcpao_sign the signed length; of tcpao_check_table how many entries. Beside 10 to
- * 17 it is the entry's index, from 0. Else it is 0. 152 is EMBANKERY_STATE_BYTES.
+ * 17 it is the entry's index, from 0. Else it is 0. 160 is EMBANKERY_STATE_BYTES.
  *
  * Where several apply, 18 is given before 19, then 10 to 17, and then the others in the order of this
- * list. Of the table's entries the first that is refused counts; of one entry 12 comes first, then 11,
+ * list, but 40 right behind 20, and 32 right behind 35. Of the table's entries the first that is refused counts; of one entry 12 comes first, then 11,
  * 10, 13, 14, 15, 16 and 17.
  *
  * A call that is refused (10 and above) leaves every buffer as it was, but for one thing: drops 20 to 29
- * by tcpao_judge on an open connection add one to that number's count. A passive opening that only passes
+ * and 40 by tcpao_judge on an open connection add one to that number's count. A passive opening that only passes
  * its SYN is not refused: it writes the empty state, all zero.
  */
 #define EMBANKERY_NUMBER(answer) ((unsigned)((uint64_t)(answer) & 255u))
@@ -147,6 +148,7 @@ extern "C" {
  *   56   8      reference of the arriving direction
  *   64   8      how many segments were accepted since the opening
  *   72   80     how many were dropped with 20, 21, .. 29, eight bytes each
+ *   152  8      how many were dropped with 40
  *
  * The segment that opens is not counted, and a count stops at 2^64 - 1. Later versions may append
  * fields; what stands here keeps its place.
@@ -160,7 +162,7 @@ extern "C" {
  * zeros for each opening. A passive opening whose SYN is only passed does clear it: all bytes are zero
  * then, and later calls give 18.
  */
-#define EMBANKERY_STATE_BYTES 152
+#define EMBANKERY_STATE_BYTES 160
 
 /* What signing adds to a segment, and the most that a segment may have. */
 #define EMBANKERY_ADDED_BYTES 20 /* the most that signing adds: a MAC of 16 bytes; 16 with one of 12 */
@@ -194,7 +196,8 @@ uint64_t tcpao_open_active(const uint8_t *table, size_t table_len, const uint8_t
  * the pair has, it gets 26 if any entry matches the pair, whatever setting is. Only where no entry matches
  * the pair does setting decide: 0 gives 1 (pass), any other value gives 26.
  *
- * Gives 0 with the extension, which is 0; or 1, 19, 10 to 17, 20 to 22, 24 to 27, 29. Writes nothing.
+ * Gives 0 with the extension, which is 0; or 1, 19, 10 to 17, 20, 40, 21, 22, 24 to 27, 29. Writes
+ * nothing.
  *
  * C needs: pointers good for their lengths.
  */
@@ -220,14 +223,15 @@ uint64_t tcpao_open_passive(const uint8_t *table, size_t table_len, const uint8_
 /* Judges an arriving segment on a connection. source is the peer, destination is us. While opening the
  * segment must be the SYN+ACK; once open it may be any that carries SYN and ACK, or no SYN.
  *
- * Gives 0 with the extension, or 18, 19, 10 to 17, 20 to 29. It changes state so:
+ * The checksum is tested over source and destination as given, also where they are not the connection's.
+ * Gives 0 with the extension, or 18, 19, 10 to 17, 20 to 29, 40. It changes state so:
  *   - 0 while opening: sets the stage to open, the peer's ISN to the segment's number, both references
  *     to the ISNs, and all counts to 0;
  *   - 0 once open: sets the arriving direction's reference to the larger of the old one and the
  *     segment's position, and adds one to the count of accepted segments;
  *   - 0 in both cases: where the segment's RNextKeyID is the SendID of an entry that matches the pair,
  *     that becomes the outgoing SendID;
- *   - 20 to 29 once open: adds one to that number's count.
+ *   - 20 to 29 and 40 once open: adds one to that number's count.
  * Else state stays.
  *
  * C needs: pointers good for their lengths; state overlaps neither table, source, destination nor segment.
@@ -237,9 +241,10 @@ uint64_t tcpao_judge(const uint8_t *table, size_t table_len, const uint8_t *sour
                      size_t segment_len, uint8_t *state, size_t state_len);
 
 /* Signs a segment: writes to out the segment with TCP-AO directly behind byte 20, padded with kind 1
- * bytes to a multiple of four, the data offset raised by these words and the checksum zero. The checksum
- * is the caller's to compute, over what stands in out. While opening only the bare SYN whose number is
- * our ISN may be signed; once open a SYN+ACK or a segment without SYN.
+ * bytes to a multiple of four, the data offset raised by these words and the right checksum, over the
+ * connection's addresses and all that is written; the segment's own checksum is not looked at. While
+ * opening only the bare SYN whose number is our ISN may be signed; once open a SYN+ACK or a segment
+ * without SYN.
  *
  * out must have room for what is signed, EMBANKERY_ADDED_BYTES more than the segment being always enough,
  * else 37. Gives 0 with the signed length n, or 18, 10 to 17, 30 to 37. Where it gives 0 it writes the

@@ -22,8 +22,8 @@ fn arriving(pair: Pair, source_isn: u32, destination_isn: u32) -> Flow {
     }
 }
 
-// Zeros stand behind a key of algorithm 2.
-pub fn traffic_key(e: End, source_isn: u32, destination_isn: u32) -> [u8; 20] {
+// Zeros stand behind a key that is shorter than its room.
+pub fn traffic_key(e: End, source_isn: u32, destination_isn: u32) -> [u8; 32] {
     let pair = e.pair;
     let t = table(e);
     let found = keys::table::find_recv(entries(&t, pair.family), pair, e.recv_id);

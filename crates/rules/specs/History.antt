@@ -42,7 +42,7 @@ abbrev pub verdictsOn : State → List Call → List Verdict
 verdictsOn q [] = []
 verdictsOn q (c ∷ l) = verdictOn c q ++ verdictsOn (next c q) l
 
--- how many accepts there are among the verdicts, how many drops of the number n, and how many drops 20 to 29
+-- how many accepts there are among the verdicts, how many drops of the number n, and how many drops that are counted
 abbrev pub accepts : List Verdict → ℕ
 accepts [] = 0
 accepts (Accept e ∷ l) = 1 + accepts l
@@ -78,7 +78,8 @@ pub record OneCount (q : State) (l : List Call) : Type 0 where
   -- so each is exact if no count is at its stop at the end
   pub accepted-exactly : NoStop (ended q l) → ended q l .accepted ≡ accepts (verdictsOn q l)
   pub dropped-exactly : NoStop (ended q l) → (n : ℕ) → isCounted n ≡ true → dropCount n (ended q l) ≡ drops n (verdictsOn q l)
-  -- "Below the stop, their sum is how many accepts and drops 20 to 29 were given since opening."
+  -- "Below the stop, their sum is how many accepts and drops 20 to 29 were given since opening." Ticket 5: "the counted drops and their
+  -- sum include it", 40
   pub total : NoStop (ended q l) → ended q l .accepted + sum (ended q l .drops) ≡ accepts (verdictsOn q l) + countedDrops (verdictsOn q l)
 
 -- from any state whose counts are 0; from a passive and from an active opening, whatever came of it

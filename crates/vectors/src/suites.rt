@@ -7,8 +7,8 @@ use columns::lines::column;
 use columns::lines::ends;
 use columns::report::text;
 use columns::report::unreadable;
+use mac::hash_algorithm::DIGEST_ROOM;
 use mac::hash_algorithm::HashAlgorithm;
-use mac::hash_algorithm::first_twenty;
 use wire::bytes::same;
 
 // FIPS 180-4, SHA-1 or SHA-256. Columns: message, digest.
@@ -38,6 +38,32 @@ fn sized(hash: HashAlgorithm, n: u64) {
         HashAlgorithm::Sha1 => report::sized(b"SHA-1", n),
         HashAlgorithm::Sha256 => report::sized(b"SHA-256", n),
     }
+}
+
+// A digest of twenty bytes, out of the room that there is for both.
+fn first_twenty(d: [u8; DIGEST_ROOM]) -> [u8; 20] {
+    [
+        d[0],
+        d[1],
+        d[2],
+        d[3],
+        d[4],
+        d[5],
+        d[6],
+        d[7],
+        d[8],
+        d[9],
+        d[10],
+        d[11],
+        d[12],
+        d[13],
+        d[14],
+        d[15],
+        d[16],
+        d[17],
+        d[18],
+        d[19],
+    ]
 }
 
 fn million(hash: HashAlgorithm, want: &[u8]) -> bool {

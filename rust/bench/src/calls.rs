@@ -1,4 +1,5 @@
-//! Signing and judging: against the reference, and against the two MACs that they need.
+//! Signing and judging: against the reference, against the two MACs and the checksum that they need, and of a
+//! wrong checksum against judging a right one.
 
 use crate::connection::{open, segment, Keys, KEY};
 use crate::timing::{Limit, Outcome, Table};
@@ -139,7 +140,7 @@ pub fn against_macs() -> Outcome {
     against_macs_of(
         &ALGORITHMS[..2],
         Limit {
-            rows: "whole calls with one entry by their two MACs",
+            rows: "whole calls with one entry by their two MACs and the checksum",
             ratio: 1.3,
             wanted: true,
         },
@@ -151,7 +152,7 @@ pub fn against_macs_256() -> Outcome {
     against_macs_of(
         &ALGORITHMS[2..],
         Limit {
-            rows: "whole calls with one entry of algorithm 3 by their two MACs",
+            rows: "whole calls with one entry of algorithm 3 by their two MACs and the checksum",
             ratio: 1.15,
             wanted: true,
         },
@@ -161,9 +162,10 @@ pub fn against_macs_256() -> Outcome {
 fn against_macs_of(algorithms: &[Algorithm], limit: Limit) -> Outcome {
     const BYTES: usize = 1_400;
     let mut table = Table::new(
-        "Whole calls on 1,400 bytes against the two MACs that they need (one entry has the limit).",
+        "Whole calls on 1,400 bytes against what they need: two MACs, by the archive, and the checksum, by\n\
+         plain Rust (one entry has the limit).",
         "call, MAC, entries",
-        "MACs",
+        "needed",
         ROUNDS,
         limit,
     );
@@ -172,12 +174,12 @@ fn against_macs_of(algorithms: &[Algorithm], limit: Limit) -> Outcome {
     for &(algorithm, name) in algorithms {
         for keys in [Keys::One, Keys::Different, Keys::Shared] {
             let mut ours = Exchange::new(algorithm, keys, BYTES);
-            let mut macs = || {
-                black_box(two_macs(
-                    algorithm,
-                    black_box(&derivation),
-                    black_box(&covered),
-                ));
+            let mut needed = || {
+                let (derivation, covered) = (black_box(&derivation), black_box(&covered));
+                black_box(two_macs(algorithm, derivation, covered));
+                let (addresses, segment) = covered[4..].split_at(12);
+                let (source, destination) = addresses[..8].split_at(4);
+                black_box(plain::checksum::sum(source, destination, segment));
             };
             let label = |call| format!("{call:<5} {name:<12} {}", keys.name());
             table.row(
@@ -185,16 +187,45 @@ fn against_macs_of(algorithms: &[Algorithm], limit: Limit) -> Outcome {
                 keys == Keys::One,
                 count(BYTES),
                 &mut || assert_eq!(black_box(&mut ours).sign() & 255, 0),
-                &mut macs,
+                &mut needed,
             );
             table.row(
                 &label("judge"),
                 keys == Keys::One,
                 count(BYTES),
                 &mut || assert_eq!(black_box(&mut ours).judge() & 255, 0),
-                &mut macs,
+                &mut needed,
             );
         }
+    }
+    table.end()
+}
+
+/// A segment whose checksum is wrong is dropped before any MAC: the table is checked, and the sum made.
+pub fn checksum_against_judging() -> Outcome {
+    let mut table = Table::new(
+        "Judging a segment whose checksum is wrong (the table, the sum, no MAC) against judging it with a\n\
+         right one, HMAC-SHA-1, one entry (1,400 bytes have the limit).",
+        "bytes",
+        "right",
+        ROUNDS,
+        Limit {
+            rows: "1,400 bytes with a wrong checksum by judging them with HMAC-SHA-1",
+            ratio: 0.15,
+            wanted: true,
+        },
+    );
+    for n in SIZES {
+        let mut right = Exchange::new(1, Keys::One, n);
+        let mut wrong = right.clone();
+        wrong.signed[17] ^= 1;
+        table.row(
+            &format!("{n:>6}"),
+            n == 1_400,
+            count(n),
+            &mut || assert_eq!(black_box(&mut wrong).judge() & 255, 40),
+            &mut || assert_eq!(black_box(&mut right).judge() & 255, 0),
+        );
     }
     table.end()
 }

@@ -27,6 +27,7 @@ fn main() -> ExitCode {
         calls::against_reference(),
         calls::against_macs(),
         calls::against_macs_256(),
+        calls::checksum_against_judging(),
         tables::against_hmac(),
         tables::against_reference(),
     ];

@@ -122,3 +122,20 @@ fn wrong_lengths() {
         }
     }
 }
+
+/// The reference adds word by word, plain Rust likewise but folds later: the same sums.
+#[test]
+fn sums() {
+    let mut bytes = Bytes(6);
+    for n in (0..=300).chain([1_399, 1_400, 65_534, 65_535]) {
+        for address in [4, 16] {
+            let (source, destination) = (bytes.take(address), bytes.take(address));
+            for segment in [bytes.take(n), vec![0xff; n]] {
+                assert_eq!(
+                    plain::checksum::sum(&source, &destination, &segment),
+                    reference::checksum::sum(&source, &destination, &segment),
+                );
+            }
+        }
+    }
+}

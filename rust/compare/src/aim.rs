@@ -232,19 +232,32 @@ fn arriving(random: &mut Prng, function: Function, at: &At, arrival: Arrival, ai
     } else if aim.has(25) {
         options.extend((0..random.below(3)).map(|_| segments::md5(random)));
     }
+    // Where the MAC leaves options out, now and then one by which 0000 and FFFF are both right.
+    let left_out = key.as_ref().is_some_and(|key| key.flags == 0);
+    let balanced = left_out && length <= 32 && random.one_in(6);
+    if balanced && options.len() < 2 {
+        options.push(segments::WORD.to_vec());
+    }
     let mut area = segments::area(random, &options, 40);
     if aim.has(21) {
         segments::spoil_area(random, &mut area);
     }
 
     let most = 65_515 - area.len();
+    let data = if aim.has(40) && random.one_in(40) {
+        // Sums of long segments, too.
+        let less = random.below(3);
+        random.bytes(most - less)
+    } else {
+        segments::data(random, most)
+    };
     let mut segment = Segment {
         source_port: pair.remote_port,
         destination_port: pair.local_port,
         sequence: arrival.sequence,
         flags: segments::with_others(random, arrival.flags),
         options: area,
-        data: segments::data(random, most),
+        data,
         ..any_header(random)
     }
     .bytes();
@@ -270,9 +283,12 @@ fn arriving(random: &mut Prng, function: Function, at: &At, arrival: Arrival, ai
     if aim.has(29) {
         random.flip(&mut segment[18..]);
     }
-    if random.one_in(8) {
-        // The checksum is no part of what the MAC covers.
-        random.flip(&mut segment[16..18]);
+    if balanced {
+        segments::balance(&mut segment, &pair.remote, &pair.local);
+    }
+    segments::put_checksum(random, &mut segment, &pair.remote, &pair.local);
+    if aim.has(40) {
+        segments::spoil_checksum(random, &mut segment);
     }
     if aim.has(20) {
         segments::spoil_length(random, &mut segment);
@@ -343,6 +359,12 @@ pub fn sign(random: &mut Prng, at: &At, aim: &Aim) -> Call {
         });
     }
     let free = 40 - added;
+    // Where the MAC leaves options out, now and then one by which the checksum will be 0000.
+    let left_out = key.is_some_and(|key| key.flags == 0);
+    let balanced = left_out && options.is_empty() && random.one_in(8);
+    if balanced {
+        options.push(segments::WORD.to_vec());
+    }
     let mut area = segments::area(random, &options, if aim.has(32) { 40 } else { free });
     if aim.has(31) && options.is_empty() {
         segments::spoil_area(random, &mut area);
@@ -369,6 +391,9 @@ pub fn sign(random: &mut Prng, at: &At, aim: &Aim) -> Call {
         ..any_header(random)
     }
     .bytes();
+    if balanced {
+        balance_signed(&mut segment, &state, at.table);
+    }
     if aim.has(33) {
         random.flip(&mut segment[0..4]);
     }
@@ -391,6 +416,18 @@ pub fn sign(random: &mut Prng, at: &At, aim: &Aim) -> Call {
     call.segment = segment;
     call.out = random.bytes(room.min(70_000));
     finished(random, call, at, aim)
+}
+
+/// Chooses the bytes of the option that is there for it so that the checksum of what is signed is 0000: by
+/// signing it once, since this only aims.
+fn balance_signed(segment: &mut [u8], state: &State, table: &[u8]) {
+    let bytes = state.bytes();
+    let state = reference::State::from_bytes(&bytes).unwrap();
+    let Ok(signed) = reference::calls::sign(table, segment, usize::MAX, &state) else {
+        return;
+    };
+    let checksum = u16::from_be_bytes([signed.segment[16], signed.segment[17]]);
+    segments::put_word(segment, checksum);
 }
 
 /// Spoils the state, the addresses and the table, if they are aimed at, and now and then anything.
@@ -422,6 +459,15 @@ fn finished(random: &mut Prng, mut call: Call, at: &At, aim: &Aim) -> Call {
     }
     if random.one_in(30) {
         disturb(random, &mut call);
+        if call.function.takes_arrival() && random.one_in(2) {
+            let Call {
+                source,
+                destination,
+                segment,
+                ..
+            } = &mut call;
+            segments::put_checksum(random, segment, source, destination);
+        }
     }
     call
 }

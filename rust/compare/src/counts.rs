@@ -2,11 +2,12 @@
 
 use crate::numbers::{possible, ALL};
 use crate::unknown::{Matched, Unknown};
-use kit::Function::{JudgeSyn, OpenPassive};
+use kit::segment::summed;
+use kit::Function::{Judge, JudgeSyn, OpenPassive};
 use kit::{Call, Function, Outcome};
 use reference::segment::{read_options, AoOption, Header};
-use reference::table::{self, by_recv_id, by_send_id, Algorithm, Entry};
-use reference::State;
+use reference::state::{State, COUNTED};
+use reference::table::{self, by_recv_id, by_send_id, Algorithm, Entry, Pair};
 
 /// How often each number and each situation must be met.
 pub const LEAST: u64 = 100;
@@ -48,6 +49,20 @@ struct Accepted {
     asks: Asked,
 }
 
+/// The checksum of a segment that was dropped with 40.
+struct Checksum {
+    field: u16,
+    right: u16,
+    odd: bool,
+}
+
+impl Checksum {
+    /// Whether one bit of the field is wrong.
+    fn one_bit(&self) -> bool {
+        (self.field ^ self.right).is_power_of_two()
+    }
+}
+
 /// Which entries have the SendID that an accepted segment asks for.
 #[derive(PartialEq)]
 enum Asked {
@@ -58,7 +73,7 @@ enum Asked {
 
 type Situation = (&'static str, fn(&Seen) -> bool);
 
-const SITUATIONS: [Situation; 84] = [
+const SITUATIONS: [Situation; 107] = [
     ("accepted at the reference: repeated", |seen| {
         seen.open(|a, reference| a.position == reference)
     }),
@@ -149,8 +164,79 @@ const SITUATIONS: [Situation; 84] = [
         seen.open(|_, _| seen.before.accepted == u64::MAX)
     }),
     ("dropped, the count at its stop", |seen| {
-        let at_stop = |number: u8| seen.before.drops[number as usize - 20] == u64::MAX;
-        (20..=29).any(|number| seen.drops(number) && at_stop(number))
+        let mut counts = COUNTED.iter().zip(seen.before.drops);
+        counts.any(|(number, count)| seen.drops(*number) && count == u64::MAX)
+    }),
+    ("40, the count at its stop", |seen| {
+        let at_stop = seen.before.drops.last() == Some(&u64::MAX);
+        seen.drops(40) && at_stop
+    }),
+    ("40 while opening", |seen| {
+        let opening = seen.call.function == Function::Judge && !seen.before.is_open();
+        opening && seen.outcome.number() == 40
+    }),
+    ("judge, 40 by one bit of the checksum", |seen| {
+        seen.summed(Judge, |c| c.one_bit())
+    }),
+    ("judge_syn, 40 by one bit of the checksum", |seen| {
+        seen.summed(JudgeSyn, |c| c.one_bit())
+    }),
+    ("open_passive, 40 by one bit of the checksum", |seen| {
+        seen.summed(OpenPassive, |c| c.one_bit())
+    }),
+    ("judge, 40 of 0000", |seen| {
+        seen.summed(Judge, |c| c.field == 0)
+    }),
+    ("judge_syn, 40 of 0000", |seen| {
+        seen.summed(JudgeSyn, |c| c.field == 0)
+    }),
+    ("open_passive, 40 of 0000", |seen| {
+        seen.summed(OpenPassive, |c| c.field == 0)
+    }),
+    ("judge, 40 of FFFF", |seen| {
+        seen.summed(Judge, |c| c.field == 0xffff)
+    }),
+    ("judge, 40 by one: a carry", |seen| {
+        seen.summed(Judge, |c| c.field.abs_diff(c.right) == 1)
+    }),
+    ("judge, 40 of an odd length", |seen| {
+        seen.summed(Judge, |c| c.odd)
+    }),
+    ("judge, 40 of an even length", |seen| {
+        seen.summed(Judge, |c| !c.odd)
+    }),
+    ("40 beside malformed options", |seen| {
+        let malformed = |header: Header| read_options(&seen.call.segment, &header).is_none();
+        let header = Header::read(&seen.call.segment);
+        seen.outcome.number() == 40 && header.is_some_and(malformed)
+    }),
+    (
+        "judge, 40 with addresses that are not the state's",
+        |seen| seen.summed(Judge, |_| seen.other_addresses()),
+    ),
+    (
+        "judge, 23 with addresses that are not the state's",
+        |seen| seen.drops(23) && seen.other_addresses(),
+    ),
+    ("accepted, 0000 where FFFF would do", |seen| {
+        seen.accepted.is_some() && seen.field() == Some(0)
+    }),
+    ("accepted, FFFF where 0000 would do", |seen| {
+        seen.accepted.is_some() && seen.field() == Some(0xffff)
+    }),
+    ("accepted, an odd length", |seen| {
+        seen.accepted.is_some() && seen.call.segment.len() % 2 == 1
+    }),
+    ("accepted, an even length", |seen| {
+        seen.accepted.is_some() && seen.call.segment.len() % 2 == 0
+    }),
+    ("signed, the checksum 0000", |seen| {
+        seen.signed() && seen.outcome.out[16..18] == [0, 0]
+    }),
+    ("signed, an odd length, IPv4", |seen| seen.signed_odd(4)),
+    ("signed, an odd length, IPv6", |seen| seen.signed_odd(6)),
+    ("40, 65,519 bytes or more", |seen| {
+        seen.outcome.number() == 40 && seen.call.segment.len() >= 65_519
     }),
     ("accepted or signed, 65,519 bytes or more", |seen| {
         seen.outcome.number() == 0 && seen.call.segment.len() >= 65_519
@@ -333,6 +419,44 @@ impl<'a> Seen<'a> {
     fn way(&self, family: u8, algorithm: Algorithm, covers_options: bool) -> bool {
         self.before.family == family
             && self.accepts(|a| a.algorithm == algorithm && a.covers_options == covers_options)
+    }
+
+    /// What stands in the segment's checksum.
+    fn field(&self) -> Option<u16> {
+        let field = self.call.segment.get(16..18)?;
+        Some(u16::from_be_bytes([field[0], field[1]]))
+    }
+
+    /// Whether this call gave 40, of such a checksum.
+    fn summed(&self, function: Function, which: impl Fn(&Checksum) -> bool) -> bool {
+        if self.call.function != function || self.outcome.number() != 40 {
+            return false;
+        }
+        let Call {
+            source,
+            destination,
+            segment,
+            ..
+        } = self.call;
+        let right = summed(source, destination, segment);
+        self.field().is_some_and(|field| {
+            which(&Checksum {
+                field,
+                right: u16::from_be_bytes([right[16], right[17]]),
+                odd: segment.len() % 2 == 1,
+            })
+        })
+    }
+
+    /// Whether the segment came with other addresses than the state's.
+    fn other_addresses(&self) -> bool {
+        let call = &self.call;
+        let other = |pair: Pair| pair.remote != call.source || pair.local != call.destination;
+        self.before.pair().is_some_and(other)
+    }
+
+    fn signed_odd(&self, family: u8) -> bool {
+        self.signed() && self.before.family == family && self.call.segment.len() % 2 == 1
     }
 
     fn signed(&self) -> bool {

@@ -3,10 +3,10 @@
 
 use kit::Function;
 
-/// 0 accept or done, 1 pass, and document 01's numbers.
-pub const ALL: [u8; 30] = [
+/// 0 accept or done, 1 pass, document 01's numbers, and of document 02's 40.
+pub const ALL: [u8; 31] = [
     0, 1, 10, 11, 12, 13, 14, 15, 16, 17, 18, 19, 20, 21, 22, 23, 24, 25, 26, 27, 28, 29, 30, 31,
-    32, 33, 34, 35, 36, 37,
+    32, 33, 34, 35, 36, 37, 40,
 ];
 
 /// Numbers that a call cannot give, and why.
@@ -36,7 +36,7 @@ pub const NUMBERS: [Numbers; 7] = [
             (&[1], NO_SYN),
             (&[18], NO_STATE),
             (&[19], NO_ADDRESSES),
-            (&[20, 21, 22, 23, 24, 25, 26, 27, 28, 29], NO_SEGMENT),
+            (&[20, 21, 22, 23, 24, 25, 26, 27, 28, 29, 40], NO_SEGMENT),
             (&[30, 31, 32, 33, 34, 36, 37], NOT_SIGNED),
             (&[35], NO_KEY_NAMED),
         ],
@@ -46,14 +46,14 @@ pub const NUMBERS: [Numbers; 7] = [
         possible: &[0, 10, 11, 12, 13, 14, 15, 16, 17, 18, 19, 35],
         never: &[
             (&[1], NO_SYN),
-            (&[20, 21, 22, 23, 24, 25, 26, 27, 28, 29], NO_SEGMENT),
+            (&[20, 21, 22, 23, 24, 25, 26, 27, 28, 29, 40], NO_SEGMENT),
             (&[30, 31, 32, 33, 34, 36, 37], NOT_SIGNED),
         ],
     },
     Numbers {
         function: Function::JudgeSyn,
         possible: &[
-            0, 1, 10, 11, 12, 13, 14, 15, 16, 17, 19, 20, 21, 22, 24, 25, 26, 27, 29,
+            0, 1, 10, 11, 12, 13, 14, 15, 16, 17, 19, 20, 21, 22, 24, 25, 26, 27, 29, 40,
         ],
         never: &[
             (&[18], NO_STATE),
@@ -66,7 +66,7 @@ pub const NUMBERS: [Numbers; 7] = [
     Numbers {
         function: Function::OpenPassive,
         possible: &[
-            0, 1, 10, 11, 12, 13, 14, 15, 16, 17, 18, 19, 20, 21, 22, 24, 25, 26, 27, 29,
+            0, 1, 10, 11, 12, 13, 14, 15, 16, 17, 18, 19, 20, 21, 22, 24, 25, 26, 27, 29, 40,
         ],
         never: &[
             (&[23], NO_PAIR_YET),
@@ -78,7 +78,7 @@ pub const NUMBERS: [Numbers; 7] = [
     Numbers {
         function: Function::Judge,
         possible: &[
-            0, 10, 11, 12, 13, 14, 15, 16, 17, 18, 19, 20, 21, 22, 23, 24, 25, 26, 27, 28, 29,
+            0, 10, 11, 12, 13, 14, 15, 16, 17, 18, 19, 20, 21, 22, 23, 24, 25, 26, 27, 28, 29, 40,
         ],
         never: &[
             (&[1], NO_SYN),
@@ -94,7 +94,7 @@ pub const NUMBERS: [Numbers; 7] = [
         never: &[
             (&[1], NO_SYN),
             (&[19], NO_ADDRESSES),
-            (&[20, 21, 22, 23, 24, 25, 26, 27, 28, 29], NOT_JUDGED),
+            (&[20, 21, 22, 23, 24, 25, 26, 27, 28, 29, 40], NOT_JUDGED),
         ],
     },
     Numbers {
@@ -103,7 +103,7 @@ pub const NUMBERS: [Numbers; 7] = [
         never: &[
             (&[1], NO_SYN),
             (&[19], NO_ADDRESSES),
-            (&[20, 21, 22, 23, 24, 25, 26, 27, 28, 29], NO_SEGMENT),
+            (&[20, 21, 22, 23, 24, 25, 26, 27, 28, 29, 40], NO_SEGMENT),
             (&[30, 31, 32, 33, 34, 36, 37], NOT_SIGNED),
         ],
     },

@@ -1,8 +1,8 @@
-//! TCP segments with options, and their MACs.
+//! TCP segments with options, their MACs and their checksums.
 
 use crate::prng::Prng;
 use crate::tables::entry;
-use kit::segment::{ACK, SYN};
+use kit::segment::{sum, ACK, SYN};
 use kit::{Entry, Segment};
 use reference::mac::{self, Ends};
 use reference::segment::{read_options, Header, WithAo};
@@ -160,4 +160,66 @@ pub fn seal(segment: &mut [u8], key: &Entry, ends: &Ends, extension: u32) {
     };
     let mac = mac::mac(&entry, ends, extension, &carrier);
     segment[ao.at + 4..ao.at + 4 + mac.len()].copy_from_slice(&mac);
+}
+
+/// An option of four bytes whose last two may be any, to be found again by [`balance`].
+pub const WORD: [u8; 4] = [254, 4, 0, 0];
+
+/// Where [`WORD`] stands in a segment's options, at a word, so that its last two bytes are one of the sum's.
+fn word_at(segment: &[u8]) -> Option<usize> {
+    let header = Header::read(segment)?.bytes();
+    let is = |at: &usize| segment[*at..*at + 2] == WORD[..2];
+    (20..header - 3).step_by(2).find(is).map(|at| at + 2)
+}
+
+/// Chooses the last bytes of [`WORD`] so that all but the checksum sums to FFFF: 0000 and FFFF are then both
+/// right. Where the MAC leaves options out, it stays what it is.
+pub fn balance(segment: &mut [u8], source: &[u8], destination: &[u8]) {
+    let Some(at) = word_at(segment) else { return };
+    segment[16..18].fill(0);
+    segment[at..at + 2].fill(0);
+    put_word(segment, !sum(source, destination, segment));
+}
+
+/// Puts these bytes last into [`WORD`].
+pub fn put_word(segment: &mut [u8], word: u16) {
+    if let Some(at) = word_at(segment) {
+        segment[at..at + 2].copy_from_slice(&word.to_be_bytes());
+    }
+}
+
+/// Puts in the right checksum, now and then the other one where there are two.
+pub fn put_checksum(random: &mut Prng, segment: &mut [u8], source: &[u8], destination: &[u8]) {
+    if segment.len() < 18 {
+        return;
+    }
+    segment[16..18].fill(0);
+    let right = !sum(source, destination, segment);
+    let both = right == 0 && random.one_in(2);
+    let right = if both { 0xffff } else { right };
+    segment[16..18].copy_from_slice(&right.to_be_bytes());
+}
+
+/// Makes a right checksum wrong, most times: by one bit, by one, by the order of its bytes, or by what is
+/// written where none is computed; or changes a bit of what it is the sum of.
+pub fn spoil_checksum(random: &mut Prng, segment: &mut [u8]) {
+    if segment.len() < 18 {
+        return random.flip(segment);
+    }
+    let right = u16::from_be_bytes([segment[16], segment[17]]);
+    let wrong = match random.below(10) {
+        0..=2 => right ^ 1 << random.below(16),
+        3 => right.wrapping_add(1),
+        4 => right.wrapping_sub(1),
+        5 => right.swap_bytes(),
+        6 => 0,
+        7 => 0xffff,
+        8 => {
+            let last = segment.len() - 1;
+            segment[last] ^= 1 << random.below(8);
+            return;
+        }
+        _ => return random.flip(segment),
+    };
+    segment[16..18].copy_from_slice(&wrong.to_be_bytes());
 }

@@ -72,7 +72,7 @@ pub fn any_state(random: &mut Prng, pair: &Pair) -> State {
         state.signing_reference = state.our_isn as u64;
     }
     state.accepted = count(random);
-    state.drops = [0; 10].map(|_: u64| count(random));
+    state.drops = state.drops.map(|_| count(random));
     if !random.one_in(20) {
         state.put_pair(pair);
     }

@@ -4,6 +4,7 @@
 
 use crate::aim::{self, Aim, At};
 use crate::prng::Prng;
+use crate::segments;
 use crate::states::{any_state, number, reference};
 use crate::tables;
 use kit::segment::{ACK, SYN};
@@ -231,7 +232,8 @@ impl End {
         Ok(Some(outcome.out[..outcome.value() as usize].to_vec()))
     }
 
-    /// One of the segments on the way arrives, perhaps damaged; it may arrive again.
+    /// One of the segments on the way arrives, perhaps damaged, its checksum then as it was or right again; it
+    /// may arrive again.
     fn receive(
         &mut self,
         random: &mut Prng,
@@ -252,12 +254,16 @@ impl End {
                 let header = 4 * usize::from(segment[12] >> 4);
                 random.flip(&mut segment[..header]);
             }
-            2 => random.flip(&mut segment[16..18]),
+            2 => segments::spoil_checksum(random, &mut segment),
             3 => segment.truncate(random.below(segment.len() + 1)),
             4 | 5 => {
                 sent.swap_remove(which);
             }
             _ => {}
+        }
+        if random.one_in(2) {
+            let (source, destination) = (&self.pair.remote, &self.pair.local);
+            segments::put_checksum(random, &mut segment, source, destination);
         }
         self.make(&self.arrives(Function::Judge, &segment), caller)
     }

@@ -1,4 +1,5 @@
-//! What the calls answer: a verdict, or a refusal with its number. Document 01, "Numbers given back".
+//! What the calls answer: a verdict, or a refusal with its number. Document 01, "Numbers given back", and
+//! document 02.
 
 use std::fmt;
 
@@ -41,7 +42,7 @@ macro_rules! refusals {
         table { $($at:literal $entry_fault:ident $entry_words:literal)* }
         other { $($number:literal $fault:ident $words:literal)* }
     ) => {
-        /// Why a call refused, one case for each number of document 01.
+        /// Why a call refused, one case for each number of documents 01 and 02.
         ///
         /// It is shown as its number and what that means:
         ///
@@ -81,7 +82,7 @@ macro_rules! refusals {
                 }
             }
 
-            /// Document 01's number.
+            /// Document 01's or 02's number.
             pub fn number(&self) -> u8 {
                 match *self {
                     $(Refusal::$entry_fault { .. } => $at,)*
@@ -122,7 +123,7 @@ refusals! {
         17 IdClash "a socket pair exists that this entry and an earlier one both match, and they share SendID or RecvID"
     }
     other {
-        18 State "the state is not 152 bytes long, or its family is neither 4 (IPv4) nor 6 (IPv6)"
+        18 State "the state is not 160 bytes long, or its family is neither 4 (IPv4) nor 6 (IPv6)"
         19 AddressSizes "the addresses are not both 4 or both 16 bytes long"
         20 Size "the segment's length or data offset is bad"
         21 Options "the segment's options are malformed"
@@ -142,6 +143,7 @@ refusals! {
         35 NoEntry "no entry that matches the pair has the outgoing SendID (opening, signing) or the RecvID to ask for"
         36 SignPosition "signing: the sequence number has no position, or a SYN's (bare or with ACK) is not our ISN"
         37 OutputTooShort "signing: the output is too short"
+        40 Checksum "the segment's checksum is wrong"
     }
 }
 
@@ -192,12 +194,12 @@ impl Answer {
 mod tests {
     use super::*;
 
-    /// Every number of document 01 has a case of its own, which says that number and its meaning,
+    /// Every number of documents 01 and 02 has a case of its own, which says that number and its meaning,
     /// as README.md does.
     #[test]
     fn every_number() {
         let mut meanings = Vec::new();
-        for number in 10..=37 {
+        for number in (10..=37).chain([40]) {
             let refusal = Refusal::new(number, 3);
             assert_ne!(refusal, Refusal::Other(number));
             assert_eq!(refusal.number(), number);
@@ -211,7 +213,7 @@ mod tests {
             let readme = include_str!("../../../README.md");
             assert!(readme.contains(&format!("\n| {number} | {meaning} |\n")));
         }
-        for number in (2..10).chain(38..=255) {
+        for number in (2..10).chain(38..40).chain(41..=255) {
             assert_eq!(Refusal::new(number, 3), Refusal::Other(number));
             assert_eq!(Refusal::new(number, 3).number(), number);
         }

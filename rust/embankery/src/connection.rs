@@ -61,25 +61,44 @@ impl Octets {
 /// use embankery::{judge_syn, Entry, KeyTable, Refusal, UnknownKeyId, Verdict};
 ///
 /// let table = KeyTable::new([&Entry::ipv4().remote([10, 0, 0, 0], 8).key(b"key").build()?])?;
+/// let (here, peer, other) = ([192, 0, 2, 1], [10, 0, 0, 1], [192, 0, 2, 9]);
+/// # fn summed(source: [u8; 4], destination: [u8; 4], segment: &[u8]) -> Vec<u8> {
+/// #     let length = segment.len() as u8;
+/// #     let bytes = [&source[..], &destination, &[0, 6, 0, length], segment].concat();
+/// #     let words = bytes.chunks(2).map(|pair| u32::from(pair[0]) << 8 | u32::from(pair[1]));
+/// #     let sum: u32 = words.sum();
+/// #     let mut segment = segment.to_vec();
+/// #     segment[16..18].copy_from_slice(&(!(sum % 0xffff) as u16).to_be_bytes());
+/// #     segment
+/// # }
+/// // `summed` puts in the checksum.
 /// let mut syn = [0; 20];
 /// syn[12] = 0x50; // data offset: five words
 /// syn[13] = 0x02; // SYN
 ///
 /// // An entry matches peers from 10.0.0.0/8, so these must sign.
-/// let verdict = judge_syn(&table, [10, 0, 0, 1], [192, 0, 2, 1], &syn, UnknownKeyId::Drop);
+/// let arrives = summed(peer, here, &syn);
+/// let verdict = judge_syn(&table, peer, here, &arrives, UnknownKeyId::Drop);
 /// assert_eq!(verdict, Verdict::Drop(Refusal::OptionMissing));
 ///
 /// // None matches other peers, so TCP may go on without TCP-AO.
-/// let verdict = judge_syn(&table, [192, 0, 2, 9], [192, 0, 2, 1], &syn, UnknownKeyId::Drop);
+/// let arrives = summed(other, here, &syn);
+/// let verdict = judge_syn(&table, other, here, &arrives, UnknownKeyId::Drop);
 /// assert_eq!(verdict, Verdict::Pass);
 ///
 /// // With TCP-AO and a KeyID that no entry has: dropped where an entry matches, whatever is chosen.
 /// let mut syn = [syn.to_vec(), vec![29, 16, 7, 7], vec![0; 12]].concat();
 /// syn[12] = 0x90; // data offset: nine words
-/// let verdict = judge_syn(&table, [10, 0, 0, 1], [192, 0, 2, 1], &syn, UnknownKeyId::Pass);
+/// let arrives = summed(peer, here, &syn);
+/// let verdict = judge_syn(&table, peer, here, &arrives, UnknownKeyId::Pass);
 /// assert_eq!(verdict, Verdict::Drop(Refusal::UnknownKeyId));
-/// let verdict = judge_syn(&table, [192, 0, 2, 9], [192, 0, 2, 1], &syn, UnknownKeyId::Pass);
+/// let arrives = summed(other, here, &syn);
+/// let verdict = judge_syn(&table, other, here, &arrives, UnknownKeyId::Pass);
 /// assert_eq!(verdict, Verdict::Pass);
+///
+/// // With a wrong checksum nothing else is looked at.
+/// let verdict = judge_syn(&table, other, here, &syn, UnknownKeyId::Pass);
+/// assert_eq!(verdict, Verdict::Drop(Refusal::Checksum));
 /// # Ok::<(), embankery::Refusal>(())
 /// ```
 pub fn judge_syn(
@@ -160,14 +179,14 @@ const ACCEPTED: usize = 64;
 const DROPS: usize = 72;
 
 /// The drops that are counted, in the order of their counts.
-const COUNTED: [u8; 10] = [20, 21, 22, 23, 24, 25, 26, 27, 28, 29];
+const COUNTED: [u8; 11] = [20, 21, 22, 23, 24, 25, 26, 27, 28, 29, 40];
 
 /// No option makes a header longer than by the whole option area.
 const LONGEST_OPTIONS: usize = 40;
 
 impl Connection {
     /// How many bytes a state has.
-    pub const BYTES: usize = 152;
+    pub const BYTES: usize = 160;
 
     /// Opens actively: a bare SYN with the sequence number `isn` may then be signed, under the
     /// entry that has this SendID. Refused with 35 if no entry that matches has it, with 19 if one
@@ -241,8 +260,11 @@ impl Connection {
     /// While the connection is opening, an accepted SYN+ACK opens it: that sets the peer's ISN and both
     /// references, to the ISNs, and clears the counts. Once open, acceptance sets the arriving
     /// direction's reference to the larger of the old one and the segment's position, and is counted.
-    /// In both cases it may change the outgoing key. A drop 20 to 29 changes nothing but, once open,
+    /// In both cases it may change the outgoing key. A drop 20 to 29 or 40 changes nothing but, once open,
     /// its count. Addresses of two families get 19, which is not counted.
+    ///
+    /// The checksum is tested first, over the addresses that are given here: a segment that was damaged on
+    /// the way gets 40, one that was forged, with a right checksum, 29.
     pub fn judge(
         &mut self,
         table: &KeyTable,
@@ -261,8 +283,8 @@ impl Connection {
     }
 
     /// Signs a segment that has neither TCP-AO nor TCP MD5. It gets longer by TCP-AO: 4 bytes and the MAC
-    /// of the outgoing key's entry, filled up to whole words. The result's checksum is zero: the sum is
-    /// the caller's to fill in.
+    /// of the outgoing key's entry, filled up to whole words. The result's checksum is right, over the
+    /// connection's own addresses; the one that the segment has does not matter.
     pub fn sign(&mut self, table: &KeyTable, segment: &[u8]) -> Result<Vec<u8>, Refusal> {
         // Longer segments are refused before the output's length matters.
         let longest = segment.len().min(usize::from(u16::MAX));
@@ -312,7 +334,7 @@ impl Connection {
     }
 
     /// A connection from its bytes. Bytes that every call would refuse with 18 are refused with 18:
-    /// those that are not 152, or whose family is neither IPv4 nor IPv6. All others are a state, so
+    /// those that are not 160, or whose family is neither IPv4 nor IPv6. All others are a state, so
     /// an old copy is one too: it takes back the references, keys and counts.
     ///
     /// ```
@@ -403,7 +425,7 @@ impl Connection {
     }
 
     /// How many segments were dropped with this number since opening, if it is one of those
-    /// counted: 20 to 29.
+    /// counted: 20 to 29, and 40.
     pub fn dropped(&self, number: u8) -> Option<u64> {
         let slot = COUNTED.iter().position(|counted| *counted == number)?;
         Some(u64::from_be_bytes(self.field(DROPS + 8 * slot)))

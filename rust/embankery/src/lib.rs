@@ -15,8 +15,8 @@
 //!
 //! # What is not promised
 //!
-//! Nothing is promised of how long a call takes. Keys are not wiped from memory. The TCP checksum,
-//! TCP's own rules and the exchange of keys are the caller's.
+//! Nothing is promised of how long a call takes. Keys are not wiped from memory. TCP's own rules and the
+//! exchange of keys are the caller's.
 
 #![deny(unsafe_code)]
 #![warn(missing_docs)]

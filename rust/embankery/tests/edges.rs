@@ -7,7 +7,7 @@ use common::{kinds, octets, segment, Ends, FIRST_KIND, IDS, ISNS, PORTS};
 use embankery::raw::{self, c};
 use embankery::{Refusal, Verdict};
 use kit::pointers::{Buffer, Buffers, Calls};
-use kit::segment::{ACK, SYN};
+use kit::segment::{summed, ACK, SYN};
 use kit::Function::{Ask, CheckTable, Judge, JudgeSyn, OpenActive, OpenPassive, Sign};
 use kit::{calls_of, word, Bytes, Call, Function, State};
 
@@ -86,6 +86,11 @@ impl Given {
             setting: 1,
             nulls: false,
         }
+    }
+
+    /// An arriving segment with its right checksum.
+    fn summed(&self, segment: &[u8]) -> Vec<u8> {
+        summed(&self.source, &self.destination, segment)
     }
 
     fn ptr(&self, lent: &[u8]) -> *const u8 {
@@ -281,7 +286,7 @@ fn counted(g: &Given, number: u8) {
     let (answer, _, state) = g.call(Judge);
     assert_eq!(answer, word(number, 0));
     let mut expected = State::read(&g.state).unwrap();
-    expected.drops[usize::from(number - 20)] += 1;
+    expected.drops[State::place(number).unwrap()] += 1;
     assert_eq!(state, expected.bytes());
 }
 
@@ -397,6 +402,7 @@ fn wrong_key_ids() {
     for key_id in [IDS[0] - 1, IDS[0] + 1, 255] {
         let mut syn = good.syn.clone();
         syn[22] = key_id;
+        let syn = good.summed(&syn);
         for setting in 0..=255 {
             let with = |table: &[u8]| Given {
                 table: table.to_vec(),
@@ -546,11 +552,13 @@ fn longest_segments() {
         assert_eq!(ends.judge(&longest), Verdict::Accept { extension: 0 });
         let mut damaged = longest.clone();
         damaged[65_534] ^= 1;
-        assert_eq!(ends.judge(&damaged), Verdict::Drop(Refusal::MacDiffers));
+        assert_eq!(ends.judge(&damaged), Verdict::Drop(Refusal::Checksum));
+        let forged = ends.summed(&damaged);
+        assert_eq!(ends.judge(&forged), Verdict::Drop(Refusal::MacDiffers));
         let longer = [longest, vec![0]].concat();
         assert_eq!(ends.judge(&longer), Verdict::Drop(Refusal::Size));
         // Without TCP-AO, a segment of 65,535 bytes is looked at to its end all the same.
-        let unsigned = plain(65_535);
+        let unsigned = ends.summed(&plain(65_535));
         assert_eq!(ends.judge(&unsigned), Verdict::Drop(Refusal::OptionMissing));
     }
 }
@@ -736,17 +744,24 @@ mod last_byte {
                 ..good.clone()
             });
         }
+        // With a wrong checksum, and with a right one, by which more is read.
         for len in 0..=good.arriving.len() {
-            all(&Given {
-                arriving: good.arriving[..len].to_vec(),
-                ..good.clone()
-            });
+            let cut = &good.arriving[..len];
+            for arriving in [cut.to_vec(), good.summed(cut)] {
+                all(&Given {
+                    arriving,
+                    ..good.clone()
+                });
+            }
         }
         for len in 0..=good.syn.len() {
-            all(&Given {
-                syn: good.syn[..len].to_vec(),
-                ..good.clone()
-            });
+            let cut = &good.syn[..len];
+            for syn in [cut.to_vec(), good.summed(cut)] {
+                all(&Given {
+                    syn,
+                    ..good.clone()
+                });
+            }
         }
         for len in 0..=20 {
             all(&Given {
@@ -779,7 +794,7 @@ mod last_byte {
             }
             let flags = [ACK, SYN, SYN | ACK][round % 3];
             all(&Given {
-                arriving: segment(PORTS, ISNS[0] + 1, flags, &options, &[]),
+                arriving: good.summed(&segment(PORTS, ISNS[0] + 1, flags, &options, &[])),
                 leaving: segment([PORTS[1], PORTS[0]], ISNS[1], flags, &options, &[]),
                 ..good.clone()
             });

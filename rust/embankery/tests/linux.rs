@@ -12,7 +12,7 @@ use std::net::{IpAddr, SocketAddr};
 /// Whether each of document 02's tickets that a case needs has landed.
 const TICKET_4: bool = true; // the MAC's length by entry
 const TICKET_13: bool = true; // HMAC-SHA-256
-const TICKET_5: bool = false; // the checksum, without which the signed segments have zero
+const TICKET_5: bool = true; // the checksum, without which the signed segments have zero
 const TICKET_9: bool = false; // TCP MD5, for which `replay` must then open and sign otherwise
 
 /// Every case of the file, how many segments it has, and whether it is run.

@@ -198,14 +198,19 @@ fn numbers_of_a_verdict() {
         (Refusal::MacDiffers, changed(35, &[!signed[35]])),
     ];
     for (i, (refusal, arriving)) in cases.iter().enumerate() {
-        assert_eq!(ends.judge(arriving), Verdict::Drop(*refusal));
+        let arriving = ends.summed(arriving);
+        assert_eq!(ends.judge(&arriving), Verdict::Drop(*refusal));
         assert_eq!(refusal.number(), 20 + i as u8);
         assert_eq!(ends.ends[1].dropped(refusal.number()), Some(1));
     }
+    let damaged = changed(35, &[!signed[35]]);
+    assert_eq!(ends.judge(&damaged), Verdict::Drop(Refusal::Checksum));
+    assert_eq!(Refusal::Checksum.number(), 40);
     assert_eq!(ends.judge(&signed), Verdict::Accept { extension: 0 });
     let end = &mut ends.ends[1];
     assert_eq!(end.accepted(), 1);
-    assert!(end.drops().eq((20..=29).map(|number| (number, 1))));
+    let counted = (20..=29).chain([40]);
+    assert!(end.drops().eq(counted.map(|number| (number, 1))));
     assert_eq!(end.dropped(19), None);
     assert_eq!(end.dropped(30), None);
 
@@ -261,6 +266,7 @@ fn what_signing_adds() {
         let plain = |options: usize| segment(PORTS, ISNS[0] + 1, ACK, &vec![1; options], b"data");
         let signed = ends.sign(&plain(8)).unwrap();
         assert_eq!(signed.len(), plain(8).len() + added);
+        assert_eq!(signed, ends.summed(&signed));
         let length = 4 + kind.mac_length.unwrap_or(12);
         assert_eq!(signed[20..24], [29, length, IDS[0], IDS[1]]);
         assert_eq!(signed[20 + added..], plain(8)[20..]);
@@ -305,9 +311,11 @@ fn what_a_bare_syn_gets() {
     let none = KeyTable::new([]).unwrap();
     let mut damaged = ends.syn.clone();
     damaged[35] ^= 1;
+    let forged = ends.summed(&damaged);
     let mut unknown = ends.syn.clone();
     unknown[22] = IDS[0] + 1;
-    let plain = segment(PORTS, ISNS[0], SYN, &[], &[]);
+    let unknown = ends.summed(&unknown);
+    let plain = ends.summed(&segment(PORTS, ISNS[0], SYN, &[], &[]));
     let wide = Entry::ipv4().send_id(IDS[1]).recv_id(IDS[0]).key(b"key");
     let wide = KeyTable::new([&wide.build().unwrap()]).unwrap();
     let accepted = Verdict::Accept { extension: 0 };
@@ -316,9 +324,21 @@ fn what_a_bare_syn_gets() {
         (&ends.tables[1], &ends.syn, UnknownKeyId::Pass, accepted),
         (
             &ends.tables[1],
-            &damaged,
+            &forged,
             UnknownKeyId::Pass,
             Verdict::Drop(Refusal::MacDiffers),
+        ),
+        (
+            &ends.tables[1],
+            &damaged,
+            UnknownKeyId::Pass,
+            Verdict::Drop(Refusal::Checksum),
+        ),
+        (
+            &none,
+            &damaged,
+            UnknownKeyId::Pass,
+            Verdict::Drop(Refusal::Checksum),
         ),
         (
             &ends.tables[1],
@@ -356,7 +376,7 @@ fn fields_of_a_state() {
             "[2021:2223:2425:2627:2829:2a2b:2c2d:2e2f]:1543",
         ),
     ] {
-        let mut bytes: [u8; 152] = std::array::from_fn(|i| i as u8);
+        let mut bytes: [u8; 160] = std::array::from_fn(|i| i as u8);
         bytes[0] = family;
         let state = Connection::from_bytes(&bytes).unwrap();
         assert_eq!(state.local(), local.parse::<SocketAddr>().unwrap());
@@ -369,16 +389,17 @@ fn fields_of_a_state() {
         assert_eq!(state.accepted(), 0x4041424344454647);
         assert_eq!(state.dropped(20), Some(0x48494A4B4C4D4E4F));
         assert_eq!(state.dropped(29), Some(0x9091929394959697));
+        assert_eq!(state.dropped(40), Some(0x98999A9B9C9D9E9F));
         assert_eq!(state.as_bytes(), &bytes);
         bytes[1] = 2;
         assert!(!Connection::from_bytes(&bytes).unwrap().is_open());
     }
     for family in (0..=255).filter(|family| ![4, 6].contains(family)) {
-        let mut bytes = [4; 152];
+        let mut bytes = [4; 160];
         bytes[0] = family;
         assert_eq!(Connection::from_bytes(&bytes), Err(Refusal::State));
     }
-    for len in (0..=300).filter(|len| *len != 152) {
+    for len in (0..=300).filter(|len| *len != 160) {
         assert_eq!(Connection::from_bytes(&vec![4; len]), Err(Refusal::State));
     }
 }
@@ -455,6 +476,9 @@ fn any_bytes() {
             segment[at] = bytes.byte();
         }
         segment.truncate(bytes.below(segment.len() + 1));
+        if bytes.below(2) == 0 {
+            segment = ends.summed(&segment);
+        }
         let mut state = good.clone();
         for _ in 0..bytes.below(6) {
             let at = bytes.below(state.len());

@@ -262,8 +262,8 @@ pub const FAULTS: &[Planted] = &[
         file: "mac.rs",
         function: "fn message(",
         edits: &[Instead(
-            "pseudo_header(ends, segment.len())",
-            "pseudo_header(ends, covered.len() + data.len())",
+            "pseudo_header(ends.source, ends.destination, segment.len())",
+            "pseudo_header(ends.source, ends.destination, covered.len() + data.len())",
         )],
     },
     Planted {
@@ -344,12 +344,12 @@ pub const FAULTS: &[Planted] = &[
     },
     Planted {
         name: "PairBeforeOptions",
-        does: "23 before 21 and 22.",
+        does: "23 before 40, 21 and 22.",
         breaks: "\"The first that applies, in this order, is given\"",
         file: "calls.rs",
         function: "fn take_arrival(",
         edits: &[Before(
-            "// 20, 21, 22.",
+            "// 20, 40, 21, 22.",
             "let header = Header::read(segment).ok_or(Refusal::of(20))?;
             if arriving_pair(source, destination, &header) != pair { return Err(Refusal::of(23)); }",
         )],
@@ -1009,7 +1009,7 @@ pub const FAULTS: &[Planted] = &[
         function: "fn open_by_syn_ack(",
         edits: &[
             Instead("state.accepted = 0", ""),
-            Instead("state.drops = [0; 10]", ""),
+            Instead("state.drops = [0; COUNTED.len()]", ""),
         ],
     },
     Planted {
@@ -1018,7 +1018,10 @@ pub const FAULTS: &[Planted] = &[
         breaks: "\"the segment that opens is not counted\"",
         file: "calls.rs",
         function: "fn open_by_syn_ack(",
-        edits: &[Behind("state.drops = [0; 10];", "state.count_accept();")],
+        edits: &[Behind(
+            "state.drops = [0; COUNTED.len()];",
+            "state.count_accept();",
+        )],
     },
     // Counts.
     Planted {
@@ -1188,12 +1191,229 @@ pub const FAULTS: &[Planted] = &[
         edits: &[Instead("segment[12] & 0x0f", "0")],
     },
     Planted {
-        name: "ChecksumKept",
-        does: "The checksum stays as it was.",
-        breaks: "\"and writes checksum zero\"",
+        name: "OldChecksumSummed",
+        does: "The checksum that the segment came with is in the sum of the new one.",
+        breaks: "\"The signer now writes the right TCP checksum\"",
         file: "calls.rs",
         function: "fn sign(",
-        edits: &[Instead("signed[16..18].fill(0)", "")],
+        edits: &[Instead("signed[CHECKSUM].fill(0)", "")],
+    },
+    // The checksum: Ticket 5.
+    Planted {
+        name: "ChecksumZeroWritten",
+        does: "Signing writes checksum zero, as before Ticket 5.",
+        breaks: "\"The signer now writes the right TCP checksum\"",
+        file: "calls.rs",
+        function: "fn sign(",
+        edits: &[Instead("right.to_be_bytes()", "[0, 0]")],
+    },
+    Planted {
+        name: "ChecksumBeforeMac",
+        does: "The checksum is computed while the MAC's bytes are zero.",
+        breaks: "\"the right TCP checksum\"; \"'checksum zero' holds only for the bytes under the MAC\"",
+        file: "calls.rs",
+        function: "fn sign(",
+        edits: &[Instead(
+            "checksum::checksum(pair.local, pair.remote, &signed)",
+            "let mut early = signed.clone();
+            early[mac_at..mac_at + mac.len()].fill(0);
+            checksum::checksum(pair.local, pair.remote, &early)",
+        )],
+    },
+    Planted {
+        name: "ChecksumOfUnsigned",
+        does: "The checksum is that of the segment without TCP-AO.",
+        breaks: "\"the right TCP checksum over the pseudo-header\"",
+        file: "calls.rs",
+        function: "fn sign(",
+        edits: &[Instead(
+            "checksum::checksum(pair.local, pair.remote, &signed)",
+            "let mut plain = segment.to_vec();
+            plain[CHECKSUM].fill(0);
+            checksum::checksum(pair.local, pair.remote, &plain)",
+        )],
+    },
+    Planted {
+        name: "ZeroWrittenAsOnes",
+        does: "A checksum of 0000 is written as FFFF, as in UDP.",
+        breaks: "RFC 1071: \"the 1's complement of this sum is placed in the checksum field\"",
+        file: "checksum.rs",
+        function: "fn checksum(",
+        edits: &[Instead(
+            "!sum(source, destination, segment)",
+            "match !sum(source, destination, segment) { 0 => 0xffff, right => right }",
+        )],
+    },
+    Planted {
+        name: "ChecksumUnderMac",
+        does: "The checksum is under the MAC as it came.",
+        breaks: "\"the TCP header with checksum and MAC bytes zero\"",
+        file: "mac.rs",
+        function: "fn message(",
+        edits: &[Instead("zeroed[CHECKSUM].fill(0)", "")],
+    },
+    Planted {
+        name: "OddByteInLowHalf",
+        does: "A last odd byte is the low half of its word.",
+        breaks: "RFC 1071: \"Adjacent octets to be checksummed are paired\"; a last odd byte is followed by a zero byte",
+        file: "checksum.rs",
+        function: "fn ones_complement_sum(",
+        edits: &[Instead(
+            "u16::from_be_bytes([high, low])",
+            "if pair.len() == 2 { u16::from_be_bytes([high, low]) } else { high as u16 }",
+        )],
+    },
+    Planted {
+        name: "OddByteLeftOut",
+        does: "A last odd byte is not in the sum.",
+        breaks: "\"for both families and odd lengths\"",
+        file: "checksum.rs",
+        function: "fn ones_complement_sum(",
+        edits: &[Instead("bytes.chunks(2)", "bytes[..bytes.len() / 2 * 2].chunks(2)")],
+    },
+    Planted {
+        name: "CarryDropped",
+        does: "The carry does not come back in.",
+        breaks: "\"one's complement sum\"",
+        file: "checksum.rs",
+        function: "fn plus(",
+        edits: &[Instead("sum + 1", "sum")],
+    },
+    Planted {
+        name: "SumWithoutPseudoHeader",
+        does: "The sum is over the segment alone.",
+        breaks: "\"one's complement sum, pseudo-header and checksum included\"",
+        file: "checksum.rs",
+        function: "fn sum(",
+        edits: &[Instead(
+            "pseudo_header(source, destination, segment.len())",
+            "pseudo_header(source, destination, segment.len())[..0].to_vec()",
+        )],
+    },
+    Planted {
+        name: "SumOverStateAddresses",
+        does: "On a connection, the sum is over the state's addresses, not over those that came.",
+        breaks: "\"Arriving segments whose one's complement sum, pseudo-header and checksum included\"",
+        file: "calls.rs",
+        function: "fn take_arrival(",
+        edits: &[Instead(
+            "readable(source, destination, segment)",
+            "readable(pair.remote, pair.local, segment)",
+        )],
+    },
+    Planted {
+        name: "ChecksumBeforeSize",
+        does: "40 before 20.",
+        breaks: "\"tested after 20 and before 21\"",
+        file: "calls.rs",
+        function: "fn readable(",
+        edits: &[Before(
+            "// 20: \"bad length or offset\".",
+            "if checksum::sum(source, destination, segment) != 0xffff { return Err(Refusal::of(40)); }",
+        )],
+    },
+    Planted {
+        name: "ChecksumAfterOptions",
+        does: "40 after 21.",
+        breaks: "\"tested after 20 and before 21\"",
+        file: "calls.rs",
+        function: "fn readable(",
+        edits: &[Before(
+            "// 40: \"Arriving segments",
+            "read_options(segment, &header).ok_or(Refusal::of(21))?;",
+        )],
+    },
+    Planted {
+        name: "ChecksumAfterConflict",
+        does: "40 after 22, where that applies; before 21.",
+        breaks: "\"tested after 20 and before 21\"",
+        file: "calls.rs",
+        function: "fn readable(",
+        edits: &[Before(
+            "// 40: \"Arriving segments",
+            "if let Some(options) = read_options(segment, &header) {
+                if options.ao_count + options.md5_count >= 2 && options.ao_count >= 1 {
+                    return Err(Refusal::of(22));
+                }
+            }",
+        )],
+    },
+    Planted {
+        name: "ChecksumOfSynNotTested",
+        does: "Judging without a state does not give 40.",
+        breaks: "\"Arriving segments ... are dropped with 40\"",
+        file: "calls.rs",
+        function: "fn judge_syn(",
+        edits: &[Instead(
+            "take_syn(table, source, destination, segment, setting)",
+            "let mut right = segment.to_vec();
+            if let (true, 4 | 16) = (right.len() >= 20, source.len()) {
+                right[CHECKSUM].fill(0);
+                let sum = checksum::checksum(source, destination, &right);
+                right[CHECKSUM].copy_from_slice(&sum.to_be_bytes());
+            }
+            take_syn(table, source, destination, &right, setting)",
+        )],
+    },
+    Planted {
+        name: "ChecksumOfOpeningNotTested",
+        does: "The passive opening does not give 40.",
+        breaks: "\"A second call takes the same SYN and our ISN, judges it again\"",
+        file: "calls.rs",
+        function: "fn open_passive(",
+        edits: &[Instead(
+            "take_syn(table, source, destination, segment, setting)",
+            "let mut right = segment.to_vec();
+            if let (true, 4 | 16) = (right.len() >= 20, source.len()) {
+                right[CHECKSUM].fill(0);
+                let sum = checksum::checksum(source, destination, &right);
+                right[CHECKSUM].copy_from_slice(&sum.to_be_bytes());
+            }
+            take_syn(table, source, destination, &right, setting)",
+        )],
+    },
+    Planted {
+        name: "ZeroChecksumTaken",
+        does: "A checksum of 0000 counts as none, as in UDP.",
+        breaks: "\"is not FFFF are dropped with 40\"",
+        file: "calls.rs",
+        function: "fn readable(",
+        edits: &[Instead(
+            "checksum::sum(source, destination, segment) != 0xffff",
+            "segment[CHECKSUM] != [0, 0] && checksum::sum(source, destination, segment) != 0xffff",
+        )],
+    },
+    Planted {
+        name: "OnlySignersChecksumTaken",
+        does: "40 unless the checksum is the one that signing writes: FFFF is not taken for 0000.",
+        breaks: "\"whose one's complement sum ... is not FFFF are dropped with 40\"",
+        file: "calls.rs",
+        function: "fn readable(",
+        edits: &[Instead(
+            "checksum::sum(source, destination, segment) != 0xffff",
+            "let mut blank = segment.to_vec();
+            blank[CHECKSUM].fill(0);
+            segment[CHECKSUM] != checksum::checksum(source, destination, &blank).to_be_bytes()",
+        )],
+    },
+    Planted {
+        name: "ChecksumNotCounted",
+        does: "40 is not counted.",
+        breaks: "\"the counted drops and their sum include it\"",
+        file: "calls.rs",
+        function: "fn judge(",
+        edits: &[Instead("state.is_open()", "state.is_open() && refusal.number != 40")],
+    },
+    Planted {
+        name: "ChecksumCountedAsMac",
+        does: "40 is counted among 29's.",
+        breaks: "\"add one to that number's count\"; 40's count stands behind 29's",
+        file: "calls.rs",
+        function: "fn judge(",
+        edits: &[Instead(
+            "after.count_drop(refusal.number)",
+            "after.count_drop(if refusal.number == 40 { 29 } else { refusal.number })",
+        )],
     },
     Planted {
         name: "AskOnlyOnceOpen",

@@ -72,10 +72,12 @@ pub fn check(tree: &Tree) -> Report {
     compare(README, &readme(text(README)), &header, &mut faults);
     compare(WRAPPER, &wrapper(text(WRAPPER)), &refusals, &mut faults);
     if !(10..=37)
-        .chain(0..=1)
+        .chain([0, 1, 40])
         .all(|number| header.contains_key(&number))
     {
-        faults.push(format!("{HEADER} does not have each of 0, 1 and 10 to 37"));
+        faults.push(format!(
+            "{HEADER} does not have each of 0, 1, 10 to 37 and 40"
+        ));
     }
     Report {
         summary: format!("{} numbers in header, README and wrapper", header.len()),

@@ -53,6 +53,12 @@ impl Function {
         !matches!(self, Function::CheckTable | Function::JudgeSyn)
     }
 
+    /// Whether it takes a segment that arrives.
+    pub fn takes_arrival(self) -> bool {
+        use Function::{Judge, JudgeSyn, OpenPassive};
+        matches!(self, JudgeSyn | OpenPassive | Judge)
+    }
+
     pub fn takes_addresses(self) -> bool {
         !matches!(self, Function::CheckTable | Function::Sign | Function::Ask)
     }

@@ -1,7 +1,7 @@
 //! Socket pairs, and one end of a connection.
 
 use crate::calls::{number, value, Boundary};
-use crate::segment::Segment;
+use crate::segment::{summed, Segment};
 use crate::state::State;
 
 /// A socket pair as one end holds it. Addresses have 4 or 16 bytes.
@@ -64,6 +64,11 @@ impl End {
             data: data.to_vec(),
             ..Segment::default()
         }
+    }
+
+    /// A segment from the peer with its right checksum.
+    pub fn arriving(&self, segment: &[u8]) -> Vec<u8> {
+        summed(&self.pair.remote, &self.pair.local, segment)
     }
 
     pub fn open_active(&mut self, isn: u32, send_id: u8) -> u64 {

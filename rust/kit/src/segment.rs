@@ -1,4 +1,4 @@
-//! TCP segments (RFC 793) and the option TCP-AO.
+//! TCP segments (RFC 793), their checksum and the option TCP-AO.
 
 pub const FIN: u8 = 0x01;
 pub const SYN: u8 = 0x02;
@@ -84,6 +84,34 @@ impl Segment {
             ..self
         }
     }
+}
+
+/// The one's complement sum of a segment behind its pseudo-header (RFC 793, RFC 8200): FFFF if the checksum
+/// in it is right. Words are added up whole and the carries at the end, in one go.
+pub fn sum(source: &[u8], destination: &[u8], segment: &[u8]) -> u16 {
+    let words = |bytes: &[u8]| -> u64 {
+        let word = |pair: &[u8]| u64::from(pair[0]) << 8 | u64::from(*pair.get(1).unwrap_or(&0));
+        bytes.chunks(2).map(word).sum()
+    };
+    // The protocol, 6, and the length, whose upper half is zero or not there.
+    let rest = 6 + segment.len() as u64;
+    let total = words(source) + words(destination) + rest + words(segment);
+    match (total % 0xffff, total) {
+        (0, 0) => 0,
+        (0, _) => 0xffff,
+        (sum, _) => sum as u16,
+    }
+}
+
+/// The segment with its right checksum, if it has room for one.
+pub fn summed(source: &[u8], destination: &[u8], segment: &[u8]) -> Vec<u8> {
+    let mut segment = segment.to_vec();
+    if segment.len() >= 18 {
+        segment[16..18].fill(0);
+        let right = !sum(source, destination, &segment);
+        segment[16..18].copy_from_slice(&right.to_be_bytes());
+    }
+    segment
 }
 
 /// TCP-AO of this length, 4 or more, whose MAC is zero.

@@ -22,12 +22,28 @@ pub struct State {
     pub signing_reference: u64,
     pub arriving_reference: u64,
     pub accepted: u64,
-    /// The counts of drops 20 to 29.
-    pub drops: [u64; 10],
+    /// The counts of drops, in the order of [`State::COUNTED`].
+    pub drops: [u64; State::COUNTED.len()],
 }
 
 impl State {
-    pub const BYTES: usize = 152;
+    pub const BYTES: usize = 160;
+
+    /// The drops that are counted once open.
+    pub const COUNTED: [u8; 11] = [20, 21, 22, 23, 24, 25, 26, 27, 28, 29, 40];
+
+    /// Where a drop's count stands among the counts, if it is counted.
+    pub fn place(number: u8) -> Option<usize> {
+        let is = |counted: &u8| *counted == number;
+        State::COUNTED.iter().position(is)
+    }
+
+    /// Adds one to this number's count, if the connection is open and the number is counted.
+    pub fn count_drop(&mut self, number: u8) {
+        if let (true, Some(place)) = (self.is_open(), State::place(number)) {
+            self.drops[place] = self.drops[place].saturating_add(1);
+        }
+    }
 
     /// The empty state but for the family and the pair.
     pub fn of_pair(pair: &Pair) -> State {

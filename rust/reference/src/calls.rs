@@ -1,15 +1,17 @@
 //! The calls, with values in and out.
 //!
 //! In each call the numbers are looked for in the order of document 01's table, one after another:
-//! "The first that applies, in this order, is given". 32 is "tested now after 35" (Ticket 4).
+//! "The first that applies, in this order, is given". 32 is "tested now after 35" (Ticket 4), and 40
+//! "tested after 20 and before 21" (Ticket 5).
 
 use crate::answer::{Refusal, Verdict};
+use crate::checksum::{self, CHECKSUM};
 use crate::mac::{self, Ends};
 use crate::position::{extension, moved, position};
 use crate::segment::{
     read_options, AoOption, Header, Options, WithAo, KIND_NO_OPERATION, KIND_TCP_AO, OPTIONS_AT,
 };
-use crate::state::{State, STAGE_OPEN};
+use crate::state::{State, COUNTED, STAGE_OPEN};
 use crate::table::{self, any_matches, by_recv_id, by_send_id, Entry, Pair};
 
 /// Checks a table (10 to 17) and says how many entries it has.
@@ -62,7 +64,7 @@ pub enum Setting {
     Drop,
 }
 
-/// Judges a bare SYN without a state (19, 10 to 17, 20, 21, 22, 24, 25, 26, 27, 29).
+/// Judges a bare SYN without a state (19, 10 to 17, 20, 40, 21, 22, 24, 25, 26, 27, 29).
 ///
 /// "Passive: a bare SYN is judged without a state."
 pub fn judge_syn(
@@ -133,8 +135,8 @@ fn take_syn<'t>(
     // 19 and 10 to 17.
     let entries = addresses_then_table(source, destination, table)?;
 
-    // 20, 21, 22.
-    let (header, options) = readable(segment)?;
+    // 20, 40, 21, 22.
+    let (header, options) = readable(source, destination, segment)?;
 
     // 24: "wrong segment for the stage". "a bare SYN is judged without a state."
     if !header.is_bare_syn() {
@@ -202,7 +204,7 @@ fn unknown_key_id(entries: &[Entry], pair: &Pair, setting: Setting) -> Result<()
     }
 }
 
-/// Judges a segment that arrives on a connection, opening or open (18, 19, 10 to 17, 20 to 29).
+/// Judges a segment that arrives on a connection, opening or open (18, 19, 10 to 17, 20, 40, 21 to 29).
 pub fn judge(
     table: &[u8],
     source: &[u8],
@@ -215,8 +217,9 @@ pub fn judge(
         Ok(extension) => Verdict::Accept(extension),
         Err(refusal) => {
             // "A refusal leaves outputs and state alike, except that drops 20 to 29 on an open
-            // connection add one to that number's count."
-            if state.is_open() && (20..=29).contains(&refusal.number) {
+            // connection add one to that number's count." Ticket 5: "the counted drops and their sum
+            // include" 40.
+            if state.is_open() {
                 after.count_drop(refusal.number);
             }
             Verdict::Drop(refusal)
@@ -243,8 +246,8 @@ fn take_arrival(
     // 19 and 10 to 17.
     let entries = addresses_then_table(source, destination, table)?;
 
-    // 20, 21, 22.
-    let (header, options) = readable(segment)?;
+    // 20, 40, 21, 22.
+    let (header, options) = readable(source, destination, segment)?;
 
     // 23: "pair is not the state's".
     if arriving_pair(source, destination, &header) != pair {
@@ -324,7 +327,7 @@ fn open_by_syn_ack(sequence: u32, state: &mut State) {
     state.signing_reference = state.our_isn as u64;
     state.arriving_reference = sequence as u64;
     state.accepted = 0;
-    state.drops = [0; 10];
+    state.drops = [0; COUNTED.len()];
 }
 
 /// "After any acceptance: if RNextKeyID differs from the outgoing SendID, and an entry matching the
@@ -350,7 +353,8 @@ pub struct Signed {
 /// "Signing puts TCP-AO directly after byte 20, the old options behind it, raises the data offset
 /// by 4, and writes checksum zero. KeyID is the outgoing SendID, RNextKeyID the asked RecvID." Ticket 4:
 /// "The signer pads the option, directly behind it, with kind 1 bytes to the next multiple of four", "the
-/// data offset rises by the words of the padded option".
+/// data offset rises by the words of the padded option". Ticket 5: "The signer now writes the right TCP
+/// checksum over the pseudo-header, for both families and odd lengths."
 pub fn sign(table: &[u8], segment: &[u8], room: usize, state: &State) -> Result<Signed, Refusal> {
     // 18: "state's family is neither IPv4 nor IPv6".
     let pair = state.pair().ok_or(Refusal::of(18))?;
@@ -428,7 +432,7 @@ pub fn sign(table: &[u8], segment: &[u8], room: usize, state: &State) -> Result<
     signed.resize(20 + padded_bytes, KIND_NO_OPERATION);
     signed.extend_from_slice(&segment[20..]);
     signed[12] = (signed_offset as u8) << 4 | segment[12] & 0x0f;
-    signed[16..18].fill(0);
+    signed[CHECKSUM].fill(0);
 
     // "Open: ... signed with both ISNs." "For a bare SYN (SYN set, ACK clear) the destination ISN
     // is zero."
@@ -452,6 +456,10 @@ pub fn sign(table: &[u8], segment: &[u8], room: usize, state: &State) -> Result<
     let mac = mac::mac(&entry, &ends, extension(x), &carrier);
     let mac_at = ao.at + AoOption::FRONT;
     signed[mac_at..mac_at + mac.len()].copy_from_slice(&mac);
+
+    // The checksum, over all that is sent: the MAC is in already.
+    let right = checksum::checksum(pair.local, pair.remote, &signed);
+    signed[CHECKSUM].copy_from_slice(&right.to_be_bytes());
 
     // "An accepted or signed segment sets its direction's reference to the larger of the old one
     // and X."
@@ -501,10 +509,20 @@ fn addresses_then_table<'t>(
     table::read(table)
 }
 
-/// 20, 21 and 22 of an arriving segment.
-fn readable(segment: &[u8]) -> Result<(Header, Options), Refusal> {
+/// 20, 40, 21 and 22 of an arriving segment, with the addresses that it came with.
+fn readable(
+    source: &[u8],
+    destination: &[u8],
+    segment: &[u8],
+) -> Result<(Header, Options), Refusal> {
     // 20: "bad length or offset".
     let header = Header::read(segment).ok_or(Refusal::of(20))?;
+
+    // 40: "Arriving segments whose one's complement sum, pseudo-header and checksum included, is not
+    // FFFF are dropped with 40, tested after 20 and before 21".
+    if checksum::sum(source, destination, segment) != 0xffff {
+        return Err(Refusal::of(40));
+    }
 
     // 21: "malformed options".
     let options = read_options(segment, &header).ok_or(Refusal::of(21))?;

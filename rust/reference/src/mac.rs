@@ -1,5 +1,6 @@
 //! "Traffic keys" and "What the MAC covers".
 
+use crate::checksum::CHECKSUM;
 use crate::crypto;
 use crate::segment::{AoOption, WithAo};
 use crate::table::{Algorithm, Entry};
@@ -77,9 +78,10 @@ pub fn message(covers_options: bool, ends: &Ends, extension: u32, carrier: &With
     } = carrier;
     let (header_part, data) = segment.split_at(header.bytes());
 
-    // "the TCP header with checksum and MAC bytes zero".
+    // "the TCP header with checksum and MAC bytes zero". Ticket 5: "Document 01's 'checksum zero' holds
+    // only for the bytes under the MAC."
     let mut zeroed = header_part.to_vec();
-    zeroed[16..18].fill(0);
+    zeroed[CHECKSUM].fill(0);
     zeroed[ao.at + AoOption::FRONT..ao.at + ao.length].fill(0);
 
     let covered = if covers_options {
@@ -91,18 +93,18 @@ pub fn message(covers_options: bool, ends: &Ends, extension: u32, carrier: &With
     let mut bytes = Vec::with_capacity(44 + segment.len());
     bytes.extend_from_slice(&extension.to_be_bytes());
     // "with the whole segment's length".
-    bytes.extend_from_slice(&pseudo_header(ends, segment.len()));
+    bytes.extend_from_slice(&pseudo_header(ends.source, ends.destination, segment.len()));
     bytes.extend_from_slice(&covered);
     bytes.extend_from_slice(data);
     bytes
 }
 
 /// "the IP pseudo-header as for the checksum": RFC 793 for IPv4, RFC 2460 section 8.1 for IPv6.
-pub fn pseudo_header(ends: &Ends, length: usize) -> Vec<u8> {
+pub fn pseudo_header(source: &[u8], destination: &[u8], length: usize) -> Vec<u8> {
     let mut bytes = Vec::with_capacity(40);
-    bytes.extend_from_slice(ends.source);
-    bytes.extend_from_slice(ends.destination);
-    if ends.source.len() == 4 {
+    bytes.extend_from_slice(source);
+    bytes.extend_from_slice(destination);
+    if source.len() == 4 {
         // Zero, protocol, TCP length.
         bytes.extend_from_slice(&[0, 6]);
         bytes.extend_from_slice(&(length as u16).to_be_bytes());

@@ -1,15 +1,19 @@
-//! A connection's state, as a struct and as `BOUNDARY.md`'s 152 bytes.
+//! A connection's state, as a struct and as `BOUNDARY.md`'s 160 bytes.
 
 use crate::table::Pair;
 
 /// How many bytes a state has at the boundary.
-pub const STATE_BYTES: usize = 152;
+pub const STATE_BYTES: usize = 160;
+
+/// The drops that are counted, in the order of their counts: "drops 20 to 29"; Ticket 5, of 40: "the
+/// counted drops and their sum include it", and its count stands behind 29's.
+pub const COUNTED: [u8; 11] = [20, 21, 22, 23, 24, 25, 26, 27, 28, 29, 40];
 
 /// The stage of an open connection. "1 open, any other value opening".
 pub const STAGE_OPEN: u8 = 1;
 
-/// A connection's state. "Every one of the 2^1216 values is a state: a field is never 'invalid',
-/// and reading and writing it back gives the same bytes."
+/// A connection's state. "Every value of these bytes is a state: a field is never 'invalid', and reading
+/// and writing it back gives the same bytes."
 #[derive(Clone, Copy, Debug, PartialEq, Eq)]
 pub struct State {
     /// "family: 4, 6; any other value is what 18 refuses".
@@ -38,8 +42,8 @@ pub struct State {
     pub arriving_reference: u64,
     /// The count of acceptances.
     pub accepted: u64,
-    /// The counts of drops 20 to 29.
-    pub drops: [u64; 10],
+    /// The counts of drops, in the order of [`COUNTED`].
+    pub drops: [u64; COUNTED.len()],
 }
 
 impl State {
@@ -58,7 +62,7 @@ impl State {
         signing_reference: 0,
         arriving_reference: 0,
         accepted: 0,
-        drops: [0; 10],
+        drops: [0; COUNTED.len()],
     };
 
     /// Whether the connection is open.
@@ -98,13 +102,15 @@ impl State {
         self.accepted = self.accepted.saturating_add(1);
     }
 
-    /// "drops 20 to 29 on an open connection add one to that number's count."
+    /// "drops 20 to 29 on an open connection add one to that number's count", and 40; others have none.
     pub fn count_drop(&mut self, number: u8) {
-        let count = &mut self.drops[(number - 20) as usize];
-        *count = count.saturating_add(1);
+        if let Some(place) = COUNTED.iter().position(|counted| *counted == number) {
+            let count = &mut self.drops[place];
+            *count = count.saturating_add(1);
+        }
     }
 
-    /// Reads a state; nothing if there are not 152 bytes.
+    /// Reads a state; nothing if there are not 160 bytes.
     pub fn from_bytes(bytes: &[u8]) -> Option<State> {
         if bytes.len() != STATE_BYTES {
             return None;
@@ -126,7 +132,7 @@ impl State {
             signing_reference: eight(48),
             arriving_reference: eight(56),
             accepted: eight(64),
-            drops: [0; 10],
+            drops: [0; COUNTED.len()],
         };
         state.local.copy_from_slice(&bytes[16..32]);
         state.remote.copy_from_slice(&bytes[32..48]);

@@ -5,6 +5,7 @@ mod common;
 
 use common::*;
 use faulty::Fault;
+use kit::segment::summed;
 use kit::State;
 
 struct Random(u64);
@@ -64,6 +65,10 @@ fn disturbed(random: &mut Random, case: &Case) -> Case {
                 disturb(random, &mut call.destination);
             }
             disturb(random, &mut call.segment);
+            // Else most would end at 40.
+            if random.below(4) > 0 {
+                call.segment = summed(&call.source, &call.destination, &call.segment);
+            }
         }
         Function::Sign => {
             disturb(random, &mut call.segment);
@@ -91,9 +96,9 @@ fn every_call_returns() {
         let allowed: Vec<u8> = match case.call.function {
             Function::CheckTable => vec![0],
             Function::OpenActive => vec![0, 18, 19, 35],
-            Function::JudgeSyn => vec![0, 1, 19, 20, 21, 22, 24, 25, 26, 27, 29],
-            Function::OpenPassive => vec![0, 1, 18, 19, 20, 21, 22, 24, 25, 26, 27, 29],
-            Function::Judge => [0].into_iter().chain(18..=29).collect(),
+            Function::JudgeSyn => vec![0, 1, 19, 20, 21, 22, 24, 25, 26, 27, 29, 40],
+            Function::OpenPassive => vec![0, 1, 18, 19, 20, 21, 22, 24, 25, 26, 27, 29, 40],
+            Function::Judge => [0, 40].into_iter().chain(18..=29).collect(),
             Function::Sign => [0, 18].into_iter().chain(30..=37).collect(),
             Function::Ask => vec![0, 18, 35],
         };
@@ -102,7 +107,7 @@ fn every_call_returns() {
         if number != 0 && !(10..=17).contains(&number) {
             assert_eq!(outcome.word >> 32, 0);
         }
-        let counted = (20..=29).contains(&number) && case.call.function == Function::Judge;
+        let counted = State::place(number).is_some() && case.call.function == Function::Judge;
         if number == 1 && case.call.function == Function::OpenPassive {
             assert_eq!(outcome.state, [0; State::BYTES]);
         } else if number != 0 && !counted {

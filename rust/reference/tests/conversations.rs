@@ -34,8 +34,8 @@ fn exchange_in_both_directions() {
                 assert_eq!(a.state().accepted, step as u64);
                 assert_eq!(b.state().accepted, step as u64);
             }
-            assert_eq!(a.state().drops, [0; 10]);
-            assert_eq!(b.state().drops, [0; 10]);
+            assert_eq!(a.state().drops, [0; kit::State::COUNTED.len()]);
+            assert_eq!(b.state().drops, [0; kit::State::COUNTED.len()]);
         }
     }
 }
@@ -72,7 +72,7 @@ fn any_order_over_the_rollover() {
                 for index in 0..39 {
                     let at = index * stride % 39;
                     for (_, forged) in &forgeries[2 * at..2 * at + 2] {
-                        assert_eq!(b.judge(forged), 29);
+                        assert_eq!(b.judge(&b.arriving(forged)), 29);
                     }
                     for _ in 0..2 {
                         let (x, segment) = &true_ones[at];
@@ -221,6 +221,8 @@ fn forgeries_while_opening() {
     let syn = a.sign(A_ISN, SYN, b"");
     let mut forged = syn.clone();
     forged[30] ^= 1;
+    assert_eq!(b.judge_syn(&forged, 1), 40);
+    let forged = b.arriving(&forged);
     assert_eq!(b.judge_syn(&forged, 1), 29);
     let before = b.state.clone();
     assert_eq!(b.open_passive(&forged, B_ISN, 1), 29);
@@ -230,9 +232,10 @@ fn forgeries_while_opening() {
     let mut forged = syn_ack.clone();
     forged[30] ^= 1;
     let before = a.state.clone();
-    assert_eq!(a.judge(&forged), 29);
+    assert_eq!(a.judge(&forged), 40);
+    assert_eq!(a.judge(&a.arriving(&forged)), 29);
     assert_eq!(a.judge(&syn), 23);
     assert_eq!(a.state, before);
     assert_eq!(a.judge(&syn_ack), 0);
-    assert_eq!(a.state().drops, [0; 10]);
+    assert_eq!(a.state().drops, [0; kit::State::COUNTED.len()]);
 }

@@ -16,8 +16,7 @@ fn the_answer_word() {
     assert_eq!(c::word(0, u32::MAX), 0xffff_ffff_0000_0000);
 }
 
-/// "Every one of the 2^1216 values is a state: ... reading and writing it back gives the same
-/// bytes."
+/// "Every value of these bytes is a state: ... reading and writing it back gives the same bytes."
 #[test]
 fn reading_and_writing_a_state() {
     let mut bytes = [0u8; STATE_BYTES];
@@ -55,6 +54,7 @@ fn the_places_of_the_fields() {
     assert_eq!(state.accepted, 0x4041424344454647);
     assert_eq!(state.drops[0], 0x48494a4b4c4d4e4f);
     assert_eq!(state.drops[9], 0x9091929394959697);
+    assert_eq!(state.drops[10], 0x98999a9b9c9d9e9f);
 }
 
 /// What the openings write, to the byte.
@@ -126,7 +126,7 @@ fn opening_from_any_state() {
     state.signing_reference = u64::MAX;
     state.arriving_reference = u64::MAX;
     state.accepted = 5;
-    state.drops = [6; 10];
+    state.drops = [6; kit::State::COUNTED.len()];
     state.asked_recv_id = 77;
     state.local[4..].fill(8);
     state.remote[4..].fill(9);
@@ -138,7 +138,7 @@ fn opening_from_any_state() {
     expected.signing_reference = A_ISN as u64;
     expected.arriving_reference = B_ISN as u64;
     expected.accepted = 0;
-    expected.drops = [0; 10];
+    expected.drops = [0; kit::State::COUNTED.len()];
     expected.outgoing_send_id = 3; // by the key rule
     assert_eq!(a.state(), expected);
 }
@@ -159,6 +159,7 @@ fn refused_openings_by_value() {
         (&[], Setting::Pass, Verdict::Pass),
         (&[], Setting::Drop, dropped),
     ] {
+        let unknown = b.arriving(&unknown);
         let judged = calls::judge_syn(table, &A4, &B4, &unknown, setting);
         assert_eq!(judged, verdict);
         let opened = calls::open_passive(table, &A4, &B4, &unknown, 7, setting);
@@ -173,6 +174,7 @@ fn a_reused_buffer() {
     let (a, mut b) = opened(&A4, &B4);
     let old = b.state.clone();
     let unknown = a.segment(A_ISN, SYN, b"").ao(16, 99, 0).bytes();
+    let unknown = b.arriving(&unknown);
     for setting in [0, 1] {
         assert_eq!(b.open_passive(&unknown, B_ISN, setting), 26);
         assert_eq!(b.state, old);
@@ -204,7 +206,7 @@ fn signing_writes_its_length() {
         assert_eq!(signed[..12], segment[..12]);
         assert_eq!(signed[12], 0xbb);
         assert_eq!(signed[13..16], segment[13..16]);
-        assert_eq!(signed[16..18], [0, 0]);
+        assert_eq!(kit::segment::sum(&A4, &B4, signed), 0xffff);
         assert_eq!(signed[18..20], segment[18..20]);
         assert_eq!(signed[20..24], [29, 16, 1, 2]);
         assert_eq!(signed[36..], segment[20..]);
@@ -239,14 +241,19 @@ fn counts_stop() {
     let mut state = a.state();
     state.accepted = u64::MAX - 1;
     state.drops[0] = u64::MAX - 1;
+    state.drops[10] = u64::MAX - 1;
     a.set(state);
+    let mut damaged = segment.clone();
+    damaged[17] ^= 1;
     for _ in 0..3 {
         assert_eq!(a.judge(&segment), 0);
         assert_eq!(a.judge(&[]), 20);
+        assert_eq!(a.judge(&damaged), 40);
     }
     assert_eq!(a.state().accepted, u64::MAX);
     assert_eq!(a.state().drops[0], u64::MAX);
-    assert_eq!(a.state().drops[1..], [0; 9]);
+    assert_eq!(a.state().drops[1..10], [0; 9]);
+    assert_eq!(a.state().drops[10], u64::MAX);
 }
 
 /// "These give how many bytes they wrote at the front of `out`: 20, 20, 16, 16, 32, 32". "Where `out` is

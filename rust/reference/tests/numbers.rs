@@ -7,8 +7,8 @@ use kit::State;
 use std::collections::{BTreeMap, BTreeSet};
 
 /// Each directed case gives its number and value; a refusal leaves the buffers as they were, "except
-/// that drops 20 to 29 on an open connection add one to that number's count." An opening whose SYN is
-/// only passed leaves the empty state.
+/// that drops 20 to 29 on an open connection add one to that number's count", and 40. An opening whose SYN
+/// is only passed leaves the empty state.
 #[test]
 fn each_case_gives_its_number() {
     for case in cases() {
@@ -26,11 +26,8 @@ fn each_case_gives_its_number() {
             state.fill(0);
         }
         if let Some(mut counted) = judged_state(&case.call) {
-            if counted.is_open() && (20..=29).contains(&number) {
-                let count = &mut counted.drops[number as usize - 20];
-                *count = count.saturating_add(1);
-                state = counted.bytes();
-            }
+            counted.count_drop(number);
+            state = counted.bytes();
         }
         assert_eq!(outcome.state, state, "{call}: {}", case.name);
         assert!(outcome.out.iter().all(|byte| *byte == 0xee));
@@ -57,19 +54,19 @@ fn each_number_of_each_call_is_met() {
     }
     let tables: Vec<u8> = (10..=17).collect();
     let set = |others: &[u8]| -> BTreeSet<u8> { tables.iter().chain(others).copied().collect() };
-    let syn = [0, 1, 19, 20, 21, 22, 24, 25, 26, 27, 29];
+    let syn = [0, 1, 19, 20, 21, 22, 24, 25, 26, 27, 29, 40];
     assert_eq!(met["check_table"], set(&[0]));
     assert_eq!(met["open_active"], set(&[0, 18, 19, 35]));
     assert_eq!(met["judge_syn"], set(&syn));
     assert_eq!(met["open_passive"], set(&[&syn[..], &[18]].concat()));
-    let judged: Vec<u8> = [0].into_iter().chain(18..=29).collect();
+    let judged: Vec<u8> = [0, 40].into_iter().chain(18..=29).collect();
     assert_eq!(met["judge"], set(&judged));
     let signed: Vec<u8> = [0, 18].into_iter().chain(30..=37).collect();
     assert_eq!(met["sign"], set(&signed));
     assert_eq!(met["ask"], set(&[0, 18, 35]));
 }
 
-/// While opening, each of 20 to 29 is met but 28, which an opening connection does not give.
+/// While opening, each of 20 to 29 and 40 is met but 28, which an opening connection does not give.
 #[test]
 fn numbers_of_an_opening_connection() {
     let mut met = BTreeSet::new();
@@ -78,7 +75,7 @@ fn numbers_of_an_opening_connection() {
             met.insert(number(run(&case).word));
         }
     }
-    for expected in (10..=17).chain(20..=27).chain([0, 29]) {
+    for expected in (10..=17).chain(20..=27).chain([0, 29, 40]) {
         assert!(met.contains(&expected), "{expected}");
     }
     assert!(!met.contains(&28));

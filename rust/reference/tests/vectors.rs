@@ -242,7 +242,7 @@ fn packets() -> Vec<Packet> {
         .collect()
 }
 
-/// Traffic key and MAC of all 32 packets.
+/// Traffic key, checksum and MAC of all 32 packets.
 #[test]
 fn rfc_9235_keys_and_macs() {
     let packets = packets();
@@ -259,6 +259,9 @@ fn rfc_9235_keys_and_macs() {
             "{}",
             packet.section
         );
+        // As printed, or computed anew where that was wrong, as the file says.
+        let sum = reference::checksum::sum(&packet.source, &packet.destination, &packet.segment);
+        assert_eq!(sum, 0xffff, "{}", packet.section);
         assert_eq!(
             mac::mac(&entry, &ends, 0, &packet.carrier()),
             packet.mac(),
@@ -348,16 +351,25 @@ fn signs_alike(end: &mut End, packet: &Packet) {
         "{}",
         packet.section
     );
-    assert_eq!(signed[16..18], [0, 0]);
+    let Packet {
+        source,
+        destination,
+        segment,
+        ..
+    } = packet;
+    assert_eq!(kit::segment::sum(source, destination, &signed), 0xffff);
     if packet.flags == 0 {
         assert_eq!(&signed[24..36], packet.mac(), "{}", packet.section);
+        // The same words in another order: the same checksum.
+        assert_eq!(signed[16..18], segment[16..18], "{}", packet.section);
     } else {
         assert_ne!(&signed[24..36], packet.mac(), "{}", packet.section);
     }
 }
 
-/// A packet with one bit changed, tried in each byte, is dropped, unless the bit is in the checksum
-/// or, where options are left out, changes another option without making it malformed.
+/// A packet with one bit changed, tried in each byte, has a wrong checksum. With a right one again it is
+/// dropped, unless the bit was in the checksum or, where options are left out, changes another option without
+/// making it malformed.
 fn every_byte_counts(opened: &End, packet: &Packet) {
     let ao = packet.carrier().ao;
     let header_bytes = packet.header().bytes();
@@ -367,6 +379,10 @@ fn every_byte_counts(opened: &End, packet: &Packet) {
         let in_other_option =
             (20..header_bytes).contains(&at) && !(ao.at..ao.at + ao.length).contains(&at);
         let left_out = (16..18).contains(&at) || (packet.flags == 0 && in_other_option);
+        let answer = number(opened.clone().judge(&segment));
+        let size = Header::read(&segment).is_none();
+        assert_eq!(answer, if size { 20 } else { 40 });
+        let segment = opened.arriving(&segment);
         let answer = number(opened.clone().judge(&segment));
         if left_out && !in_other_option {
             assert_eq!(answer, 0, "{} byte {at}", packet.section);

@@ -2,7 +2,7 @@
 #![allow(dead_code)] // each test file uses a part
 
 use embankery::{Algorithm, Connection, Covered, Entry, KeyTable, UnknownKeyId, Verdict};
-use kit::segment::{ACK, SYN};
+use kit::segment::{summed, ACK, SYN};
 use kit::Segment;
 use std::net::IpAddr;
 
@@ -152,6 +152,12 @@ impl Ends {
     /// End 0 signs.
     pub fn sign(&mut self, segment: &[u8]) -> Result<Vec<u8>, embankery::Refusal> {
         self.ends[0].sign(&self.tables[0], segment)
+    }
+
+    /// A segment from end 0 to end 1 with its right checksum.
+    pub fn summed(&self, segment: &[u8]) -> Vec<u8> {
+        let [source, destination] = self.addresses.map(octets);
+        summed(&source, &destination, segment)
     }
 
     /// End 1 judges what comes from end 0.

@@ -73,7 +73,7 @@ pub fn opening(scene: &Scene, list: &mut List) {
         signing_reference: 0x7_0000_0000,
         arriving_reference: 0x9_0000_0000,
         accepted: 12,
-        drops: [3; 10],
+        drops: [3; State::COUNTED.len()],
         ..opening.state()
     };
     odd.local[9] = 1;
@@ -155,7 +155,7 @@ pub fn open(scene: &Scene, list: &mut List) {
     } = scene;
     let full = State {
         accepted: u64::MAX,
-        drops: [u64::MAX; 10],
+        drops: [u64::MAX; State::COUNTED.len()],
         ..a.state()
     };
     let full = full.bytes();

@@ -1,6 +1,7 @@
 //! The directed cases: every number of every call, and every rule that a planted fault turns round.
 
 pub mod ask;
+pub mod checksum;
 pub mod inputs;
 pub mod judge;
 pub mod key_ids;
@@ -12,7 +13,7 @@ pub mod table;
 
 use super::calls::Case;
 use super::ends::*;
-use kit::segment::{ACK, SYN};
+use kit::segment::{summed, ACK, SYN};
 use kit::{Call, End, Entry, Function, Segment, State};
 use reference::mac::Ends;
 
@@ -40,6 +41,11 @@ pub fn cases() -> Vec<Case> {
     mac_lengths::signing(&scene, &mut list);
     mac_lengths::largest(&scene, &mut list);
     sha256::calls(&scene, &mut list);
+    checksum::wrong(&scene, &mut list);
+    checksum::order(&scene, &mut list);
+    checksum::other_addresses(&scene, &mut list);
+    checksum::lengths(&mut list);
+    checksum::zero(&mut list);
     ask::ids(&scene, &mut list);
     list.0
 }
@@ -164,12 +170,13 @@ pub fn active(send_id: u8) -> Call {
     }
 }
 
-/// A segment from A arrives at B, which listens.
+/// A segment from A arrives at B, which listens; with its right checksum, as in all calls here that take an
+/// arriving segment.
 pub fn judge_syn(segment: &[u8], setting: u8) -> Call {
     Call {
         source: A4.to_vec(),
         destination: B4.to_vec(),
-        segment: segment.to_vec(),
+        segment: summed(&A4, &B4, segment),
         byte: setting,
         ..Call::new(Function::JudgeSyn, &[])
     }
@@ -189,7 +196,7 @@ pub fn judge(segment: &[u8]) -> Call {
     Call {
         source: B4.to_vec(),
         destination: A4.to_vec(),
-        segment: segment.to_vec(),
+        segment: summed(&B4, &A4, segment),
         ..Call::new(Function::Judge, &[])
     }
 }
@@ -214,11 +221,20 @@ pub fn ask(recv_id: u8) -> Call {
     }
 }
 
-/// A call with other addresses.
+/// A call with other addresses; the segment's checksum is right for these.
 pub fn with_addresses(call: Call, source: &[u8], destination: &[u8]) -> Call {
     Call {
         source: source.to_vec(),
         destination: destination.to_vec(),
+        segment: summed(source, destination, &call.segment),
+        ..call
+    }
+}
+
+/// A call with this segment, whatever its checksum.
+pub fn as_it_is(call: Call, segment: &[u8]) -> Call {
+    Call {
+        segment: segment.to_vec(),
         ..call
     }
 }
