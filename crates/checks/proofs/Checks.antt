@@ -25,19 +25,19 @@ use Rattle.octets.specs.Tests.{first}
 use Rattle.octets.specs.TestLaws.{NoneApplies, none-split, eachGives}
 use Rattle.rules.specs.GroupLaws.{sized-of}
 use Rattle.rules.specs.Mac.{Flow}
-use Rattle.rules.specs.Connection.{sized, arrivalPair, arrivingSyn}
-use Rattle.rules.specs.Calls.{isRefused, keyTests, addressTests, tableTests, inputTests, stateTests, familyTests, lengthTests}
-use Rattle.checks.specs.Groups.{goodAt, arrivingOn}
+use Rattle.rules.specs.Connection.{sized, arrivalOf, arrivalPair, arrivingSyn}
+use Rattle.rules.specs.Calls.{isRefused, keyTests, addressTests, tableTests, inputTests, stateTests, familyTests, lengthTests, sumTests}
+use Rattle.checks.specs.Groups.{intactTests, goodAt, arrivingOn}
 use Rattle.checks.specs.GroupLaws.{isFinal, refusal-final}
 use Rattle.checks.specs.Begin.{Begins}
 use Rattle.checks.specs.declared.begun.Begun.{Begun}
 
 -- no group gives Good
 module _ (t : Tables) (a b s : List ℕ) where
-  pub early-syn-final : eachGives isFinal (inputTests t a b ++ lengthTests 20 s) ≡ true
+  pub early-syn-final : eachGives isFinal (inputTests t a b ++ intactTests (arrivalOf a b s)) ≡ true
   early-syn-final = rw (refusal-final (checked t))
 
-  pub early-final : (l : Connection) → eachGives isFinal (stateTests t a b l ++ lengthTests 20 s) ≡ true
+  pub early-final : (l : Connection) → eachGives isFinal (stateTests t a b l ++ intactTests (arrivalOf a b s)) ≡ true
   early-final l = early-syn-final
 
   -- what they leave
@@ -47,18 +47,18 @@ module _ (t : Tables) (a b s : List ℕ) where
   pub input-valid : NoneApplies (inputTests t a b) → isRefused (checked t) ≡ false
   input-valid n = none-split (addressTests a b) (tableTests t) n .1 .0
 
-  module _ (n : NoneApplies (inputTests t a b ++ lengthTests 20 s)) where
-    abbrev parts : NoneApplies (inputTests t a b) × NoneApplies (lengthTests 20 s)
-    parts = none-split (inputTests t a b) (lengthTests 20 s) n
+  module _ (n : NoneApplies (inputTests t a b ++ intactTests (arrivalOf a b s))) where
+    abbrev parts : NoneApplies (inputTests t a b) × NoneApplies (intactTests (arrivalOf a b s))
+    parts = none-split (inputTests t a b) (intactTests (arrivalOf a b s)) n
 
     pub early-input : sized a b ≡ true
     early-input = input-sized (parts .0)
 
     pub early-left : (isRefused (checked t) ≡ false) × (wellSized s ≡ true)
-    early-left = (input-valid (parts .0), sized-of 20 s (parts .1))
+    early-left = (input-valid (parts .0), sized-of 20 s (none-split (lengthTests 20 s) (sumTests (arrivalOf a b s)) (parts .1) .0))
 
-  pub state-left : (l : Connection) → NoneApplies (stateTests t a b l ++ lengthTests 20 s) → NoneApplies (inputTests t a b ++ lengthTests 20 s)
-  state-left l n = none-split (familyTests l) (inputTests t a b ++ lengthTests 20 s) n .1
+  pub state-left : (l : Connection) → NoneApplies (stateTests t a b l ++ intactTests (arrivalOf a b s)) → NoneApplies (inputTests t a b ++ intactTests (arrivalOf a b s))
+  state-left l n = none-split (familyTests l) (inputTests t a b ++ intactTests (arrivalOf a b s)) n .1
 
 -- the entry for a KeyID: in a table that is not refused its MAC has 12 bytes, and where none is found, 0
 module _ (t : Tables) (p : Pair) (id : ℕ) where

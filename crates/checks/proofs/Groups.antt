@@ -18,7 +18,7 @@ use Rattle.rules.specs.Connection.{Arrival, arrivalPair, arriving, arrivingSyn,
 use Rattle.rules.specs.Calls.{unrefused, Groups, judgeGroups, synGroups}
 use Rattle.checks.specs.Groups.{early, formed, untilMac, goodAt, arrivingOn}
 use Rattle.checks.specs.GroupLaws.{Else, else-final, stop}
-use Rattle.checks.specs.Begin.{Begins, Nothing, Judges, JudgesSyn, Keyed, KeyedSyn}
+use Rattle.checks.specs.Begin.{Begins, Judges, JudgesSyn, Keyed, KeyedSyn}
 use Rattle.checks.specs.BeginLaws.{nothing-begins}
 use Rattle.checks.specs.declared.begun.Begun.{Begun}
 use Rattle.checks.proofs.Checks.{early-input, flow-back}
@@ -27,18 +27,18 @@ use Rattle.checks.proofs.Checks.{early-input, flow-back}
 module _ (g : Groups) (o : Outcome) where
   seams : first (untilMac g) o ≡ first (early g) (first (formed g) (first (g .key) o))
   seams =
-      first-joined (g .input ∷ g .size ∷ []) (g .form ∷ g .arrival ∷ g .key ∷ []) o
+      first-joined (g .input ∷ g .size ∷ g .sum ∷ []) (g .form ∷ g .arrival ∷ g .key ∷ []) o
       ∙ ap (first (early g)) (first-joined (g .form ∷ g .arrival ∷ []) (g .key ∷ []) o ∙ ap (first (formed g)) (first-append (g .key) [] o))
 
   module _ (e : Entry) (f : Flow) (s : List ℕ) (b : Begun) where
-    at-early : {x : Outcome} → Nothing x b → x ≡ first (early g) unrefused → Else x → Begins (first (untilMac g) o) e f s b
+    at-early : {x : Outcome} → b .outcome ≡ x → x ≡ first (early g) unrefused → Else x → Begins (first (untilMac g) o) e f s b
     at-early {x} n q h = nothing-begins e f s n (stop (early g) _ q h ∙ sym seams) (else-final x h)
 
     module _ (n : NoneApplies (early g)) where
       past-early : first (formed g) (first (g .key) o) ≡ first (untilMac g) o
       past-early = sym (first-none (early g) _ n) ∙ sym seams
 
-      at-formed : {x : Outcome} → Nothing x b → x ≡ first (formed g) unrefused → Else x → Begins (first (untilMac g) o) e f s b
+      at-formed : {x : Outcome} → b .outcome ≡ x → x ≡ first (formed g) unrefused → Else x → Begins (first (untilMac g) o) e f s b
       at-formed {x} w q h = nothing-begins e f s w (stop (formed g) _ q h ∙ past-early) (else-final x h)
 
       at-key : NoneApplies (formed g) → Begins (first (g .key) o) e f s b → Begins (first (untilMac g) o) e f s b
@@ -55,11 +55,11 @@ module _ (t : Tables) (l : Connection) (reference : ℕ) (a : Arrival) (b : Begu
   abbrev entry : Entry
   entry = recvEntry t (l .pair) (keyId (a .segment)) .entry
 
-  pub begin-early : {x : Outcome} → Nothing x b → x ≡ first (early groups) unrefused → Else x → Judges t l reference a b
+  pub begin-early : {x : Outcome} → b .outcome ≡ x → x ≡ first (early groups) unrefused → Else x → Judges t l reference a b
   begin-early w g e = at-early groups answer entry (arriving l (a .segment)) (a .segment) b w g e
 
   module _ (n : NoneApplies (early groups)) where
-    pub begin-formed : {x : Outcome} → Nothing x b → x ≡ first (formed groups) unrefused → Else x → Judges t l reference a b
+    pub begin-formed : {x : Outcome} → b .outcome ≡ x → x ≡ first (formed groups) unrefused → Else x → Judges t l reference a b
     begin-formed w g e = at-formed groups answer entry (arriving l (a .segment)) (a .segment) b n w g e
 
     pub begin-keyed : NoneApplies (formed groups) → Keyed t l reference (a .segment) b → Judges t l reference a b
@@ -76,11 +76,11 @@ module _ (t : Tables) (a : Arrival) (strict : Bool) (b : Begun) where
   abbrev synEntry : Entry
   synEntry = recvEntry t (arrivalPair a) (keyId (a .segment)) .entry
 
-  pub syn-early : {x : Outcome} → Nothing x b → x ≡ first (early synGroup) unrefused → Else x → JudgesSyn t a strict b
+  pub syn-early : {x : Outcome} → b .outcome ≡ x → x ≡ first (early synGroup) unrefused → Else x → JudgesSyn t a strict b
   syn-early w g e = at-early synGroup synAnswer synEntry (arrivingSyn a) (a .segment) b w g e
 
   module _ (n : NoneApplies (early synGroup)) where
-    pub syn-formed : {x : Outcome} → Nothing x b → x ≡ first (formed synGroup) unrefused → Else x → JudgesSyn t a strict b
+    pub syn-formed : {x : Outcome} → b .outcome ≡ x → x ≡ first (formed synGroup) unrefused → Else x → JudgesSyn t a strict b
     syn-formed w g e = at-formed synGroup synAnswer synEntry (arrivingSyn a) (a .segment) b n w g e
 
     -- the code has the pair p, and the flow from it; by the definition the flow of a bare SYN is made of the arrival itself

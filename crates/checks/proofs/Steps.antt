@@ -1,13 +1,14 @@
 -- What the steps of a judging that has begun come to (src/begun.rt). Assumes nothing.
-use Prim.Native.Nat.{ℕ, _+_, _-_, _≤_}
+use Prim.Native.Nat.{ℕ, _+_, _-_, _≤_, min}
 use mathlib.Core.Path.{_≡_, refl, sym, ap, _∙_}
 use mathlib.Core.Bool.{Bool, true, false, cond, not}
 use mathlib.Core.List.{List, _++_}
 use mathlib.Core.Logic.{inl, inr}
 use native.Mathlib.Omega.{arith}
-use lib.ListN.{length, take, drop, replicate, length-drop}
-use lib.Seq.{paste, take-length, take-at, length-take-le}
-use borrow.Author.Tests.{not-true, not-false}
+use lib.ListN.{length, take, drop, replicate, length-drop, drop-of-length-le}
+use lib.Dec.{leb}
+use lib.Seq.{paste, take-all, take-length, take-at, length-take-le}
+use borrow.Author.Tests.{leb-true, leb-false, not-true, not-false}
 use Rattle.wire.specs.Bytes.{sameBytes}
 use Rattle.wire.specs.Header.{headerEnd, wellSized}
 use Rattle.wire.specs.declared.options.Occurrence.{Occurrence}
@@ -22,7 +23,7 @@ use Rattle.traffic.specs.Padded.{padded, digestRoom}
 use Rattle.traffic.specs.MacContext.{MacView, macView, macStart, macAbsorb, macFinished}
 use Rattle.traffic.specs.declared.context.MacContext.{MacContext}
 use Rattle.checks.specs.GroupLaws.{Else}
-use Rattle.checks.specs.Begin.{Begins, Fed, agrees, ended}
+use Rattle.checks.specs.Begin.{Begins, Fed, macLength, agrees, ended}
 use Rattle.checks.specs.declared.begun.Begun.{Begun}
 use Rattle.checks.proofs.Keyed.{Lies, lies}
 
@@ -42,13 +43,12 @@ module _ (x rnext : ℕ) (e : Entry) (f : Flow) (s : List ℕ) {o : Occurrence} 
   ready-is ends extends counts macs carries =
       record {
         outcome = refl;
-        short = short;
         ready = λ y r g.
             let at : x ≡ y = cc in
             record {
-              inside = lies s formed is .segment;
               ids = refl;
               bytes = refl;
+              short = short;
               carried = ap (λ (j : ℕ). take j k) (sym all) ∙ carries ∙ (λ i. take (cut i) (drop (20 + is i .at + 4) s));
               mac = macs ∙ (λ i. macAbsorb (macStart (e .secret .algorithm) (padded digestRoom (trafficKey (e .secret) f)))
                   (front (e .secret) f ((extends ∙ ap extensionOf at) i) (20 + is i .at) (length s) (take (ends i) s)));
@@ -71,9 +71,10 @@ ended-else Passed same e = refl
 ended-else (Bad n i) same e = refl
 
 module _ (b : Begun) (v : MacView) {x r : ℕ} (g : b .outcome ≡ Good x r) {tag : List ℕ} (fin : tag ≡ macFinished v) {same : Bool}
-    (is : same ≡ sameBytes (take (b .«mac_bytes») (b .carried)) (take (b .«mac_bytes») tag)) where
+    {n : ℕ} (counts : n ≡ macLength (b .«mac_bytes»))
+    (is : same ≡ sameBytes (take n (b .carried)) (take n tag)) where
   agreed : same ≡ agrees b v
-  agreed = is ∙ ap (λ (t : List ℕ). sameBytes (take (b .«mac_bytes») (b .carried)) (take (b .«mac_bytes») t)) fin
+  agreed = is ∙ (λ i. sameBytes (take (counts i) (b .carried)) (take (counts i) (fin i)))
 
   pub end-29 : not same ≡ true → refuse 29 ≡ ended (b .outcome) (agrees b v)
   end-29 h = sym (λ i. ended (g i) ((sym agreed ∙ not-true same h) i))
@@ -81,8 +82,18 @@ module _ (b : Begun) (v : MacView) {x r : ℕ} (g : b .outcome ≡ Good x r) {ta
   pub end-good : not same ≡ false → b .outcome ≡ ended (b .outcome) (agrees b v)
   end-good h = g ∙ sym (λ i. ended (g i) ((sym agreed ∙ not-false same h) i))
 
+-- the data, from where they begin
+pub data-is : (s : List ℕ) (e : ℕ) {n : ℕ} → n ≡ min e (length s) → take (length s - n) (drop n s) ≡ drop e s
+data-is s e {n = n} is = take-all (length s - n) (drop n s) (omega (arith, length-drop n s)) ∙ ap (λ (k : ℕ). drop k s) is ∙ go (leb e (length s)) refl
+  where
+    go : (b : Bool) → leb e (length s) ≡ b → drop (min e (length s)) s ≡ drop e s
+    go true q = let m : min e (length s) ≡ e = omega (arith, leb-true e (length s) q) in ap (λ (k : ℕ). drop k s) m
+    go false q =
+        let h = leb-false e (length s) q in
+        drop-of-length-le s {i = min e (length s)} (omega arith) ∙ sym (drop-of-length-le s {i = e} (omega arith))
+
 -- data, then the end
 pub fed-ends : (b d : Begun) {x y : List ℕ} → Fed b x d → x ≡ y → {r : Outcome} → r ≡ ended (d .outcome) (agrees d (macView (d .mac)))
     → r ≡ ended (b .outcome) (agrees b (macAbsorb (macView (b .mac)) y))
 fed-ends b d f e q =
-    q ∙ (λ i. ended (f .outcome i) (sameBytes (take (f .bytes i) (f .carried i)) (take (f .bytes i) (macFinished ((f .mac ∙ ap (macAbsorb (macView (b .mac))) e) i)))))
+    q ∙ (λ i. ended (f .outcome i) (sameBytes (take (macLength (f .bytes i)) (f .carried i)) (take (macLength (f .bytes i)) (macFinished ((f .mac ∙ ap (macAbsorb (macView (b .mac))) e) i)))))

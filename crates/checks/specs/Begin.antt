@@ -1,6 +1,6 @@
 -- Judging that has begun (src/begun.rt): what a value of the code's Begun stands for, once all is tested that needs no data. A reader need
 -- not believe these: the calls cite the crate `rules` alone.
-use Prim.Native.Nat.{ℕ, _≤_}
+use Prim.Native.Nat.{ℕ, _≤_, min}
 use mathlib.Core.Path.{_≡_}
 use mathlib.Core.Bool.{Bool, cond}
 use mathlib.Core.List.{List}
@@ -32,21 +32,16 @@ fronted e f x s =
 
 -- what waits for the data, at the position x under the entry e
 pub record Ready (x : ℕ) (e : Entry) (f : Flow) (s : List ℕ) (b : Begun) : Type 0 where
-  pub inside : headerEnd s ≤ length s
   pub ids : b .ids ≡ e .ids
   pub bytes : b .«mac_bytes» ≡ e .secret .«mac_bytes»
+  pub short : b .«mac_bytes» ≤ 16
   pub carried : take (b .«mac_bytes») (b .carried) ≡ macIn s
   pub mac : macView (b .mac) ≡ fronted e f x s
 
 -- o is the outcome of all that needs no data; only where it is Good does the rest mean something
 pub record Begins (o : Outcome) (e : Entry) (f : Flow) (s : List ℕ) (b : Begun) : Type 0 where
   pub outcome : b .outcome ≡ o
-  pub short : b .«mac_bytes» ≤ 16
   pub ready : (x r : ℕ) → o ≡ Good x r → Ready x e f s b
-
-pub record Nothing (o : Outcome) (b : Begun) : Type 0 where
-  pub outcome : b .outcome ≡ o
-  pub short : b .«mac_bytes» ≤ 16
 
 -- with a state; of a bare SYN without one
 abbrev pub Judges : Tables → Connection → ℕ → Arrival → Begun → Type 0
@@ -81,9 +76,13 @@ pub record Fed (b : Begun) (d : List ℕ) (c : Begun) : Type 0 where
   pub carried : c .carried ≡ b .carried
   pub mac : macView (c .mac) ≡ macAbsorb (macView (b .mac)) d
 
+-- how many bytes of a MAC are compared: what its length says, but never more than there is room for
+abbrev pub macLength : ℕ → ℕ
+macLength n = min n 16
+
 -- 29, where nothing came before it
 abbrev pub agrees : Begun → MacView → Bool
-agrees b v = sameBytes (take (b .«mac_bytes») (b .carried)) (take (b .«mac_bytes») (macFinished v))
+agrees b v = sameBytes (take (macLength (b .«mac_bytes»)) (b .carried)) (take (macLength (b .«mac_bytes»)) (macFinished v))
 
 abbrev pub ended : Outcome → Bool → Outcome
 ended (Good x r) same = cond same (Good x r) (refuse 29)

@@ -1,5 +1,5 @@
 -- Begin, data and end are the whole: what they come to is the first of all tests that applies. Assumes nothing.
-use Prim.Native.Nat.{ℕ, _≤_}
+use Prim.Native.Nat.{ℕ}
 use mathlib.Core.Path.{_≡_, refl, sym, ap, ap₂, _∙_, subst}
 use mathlib.Core.Bool.{Bool, true, false, cond, not}
 use mathlib.Core.List.{List, [], _∷_}
@@ -27,15 +27,15 @@ use Rattle.traffic.specs.MacContext.{macView, macAbsorb, macFinished}
 use Rattle.traffic.specs.TagLaws.{tagged, tag-mac}
 use Rattle.checks.specs.Groups.{untilMac, goodAt}
 use Rattle.checks.specs.GroupLaws.{isFinal, Else, else-final, final-kept, refusal-final}
-use Rattle.checks.specs.Begin.{Ready, Begins, Nothing, Judges, JudgesSyn, agrees, ended}
+use Rattle.checks.specs.Begin.{Ready, Begins, Judges, JudgesSyn, macLength, agrees, ended}
 use Rattle.checks.specs.declared.begun.Begun.{Begun}
 
 -- a number that was given begins nothing
-pub nothing-begins : {x o : Outcome} (e : Entry) (f : Flow) (s : List ℕ) {b : Begun} → Nothing x b → x ≡ o → isFinal x ≡ true → Begins o e f s b
+pub nothing-begins : {x o : Outcome} (e : Entry) (f : Flow) (s : List ℕ) {b : Begun} → b .outcome ≡ x → x ≡ o → isFinal x ≡ true
+    → Begins o e f s b
 nothing-begins e f s n q h =
     record {
-      outcome = n .outcome ∙ q;
-      short = n .short;
+      outcome = n ∙ q;
       ready = λ y r g. let z : _≡_ {A = ℕ} 0 1 = cc (ap isFinal (q ∙ g)) in absurd (omega arith);
     }
 
@@ -46,18 +46,22 @@ flip false x y = refl
 -- the groups with and without the last
 whole : (g : Groups) (o : Outcome) → first (inOrder g) o ≡ first (untilMac g) (first (g .mac) o)
 whole g o =
-    first-joined (g .input ∷ g .size ∷ g .form ∷ g .arrival ∷ g .key ∷ []) (g .mac ∷ []) o ∙ ap (first (untilMac g)) (first-append (g .mac) [] o)
+    first-joined (g .input ∷ g .size ∷ g .sum ∷ g .form ∷ g .arrival ∷ g .key ∷ []) (g .mac ∷ []) o
+    ∙ ap (first (untilMac g)) (first-append (g .mac) [] o)
 
 -- a MAC that the data end is the segment's
-module _ (x : ℕ) (e : Entry) (f : Flow) (s : List ℕ) (b : Begun) (short : b .«mac_bytes» ≤ 16) (ready : Ready x e f s b) where
-  mac-ends : take (b .«mac_bytes») (macFinished (macAbsorb (macView (b .mac)) (drop (headerEnd s) s))) ≡ segmentMac (e .secret) f (extensionOf x) (aoAt s) s
+module _ (x : ℕ) (e : Entry) (f : Flow) (s : List ℕ) (b : Begun) (ready : Ready x e f s b) where
+  cut : macLength (b .«mac_bytes») ≡ b .«mac_bytes»
+  cut = omega (arith, ready .short)
+
+  mac-ends : take (macLength (b .«mac_bytes»)) (macFinished (macAbsorb (macView (b .mac)) (drop (headerEnd s) s))) ≡ segmentMac (e .secret) f (extensionOf x) (aoAt s) s
   mac-ends =
-      ap (λ (n : ℕ). take n (macFinished (macAbsorb (macView (b .mac)) (drop (headerEnd s) s)))) (ready .bytes)
+      ap (λ (n : ℕ). take n (macFinished (macAbsorb (macView (b .mac)) (drop (headerEnd s) s)))) (cut ∙ ready .bytes)
       ∙ ap (take (e .secret .«mac_bytes»)) (tagged (e .secret) f (front (e .secret) f (extensionOf x) (aoAt s) (length s) (take (headerEnd s) s)) (drop (headerEnd s) s) (ready .mac) refl refl)
-      ∙ tag-mac (e .secret) f (extensionOf x) (aoAt s) s (omega (arith, ready .bytes))
+      ∙ tag-mac (e .secret) f (extensionOf x) (aoAt s) s (omega (arith, ready .bytes, ready .short))
 
   pub agreed : agrees b (macAbsorb (macView (b .mac)) (drop (headerEnd s) s)) ≡ sameBytes (macIn s) (segmentMac (e .secret) f (extensionOf x) (aoAt s) s)
-  agreed = ap₂ sameBytes (ready .carried) mac-ends
+  agreed = ap₂ sameBytes (ap (λ (n : ℕ). take n (b .carried)) cut ∙ ready .carried) mac-ends
 
 -- what was accepted was ready
 pub ended-good : (o : Outcome) (same : Bool) {x r : ℕ} → ended o same ≡ Good x r → o ≡ Good x r
@@ -79,7 +83,7 @@ module _ (g : Groups) (p : Place) (e : Entry) (f : Flow) (s : List ℕ) (mac : g
           let none = none-applied isFinal (untilMac g) (goodAt p s) final (ap isFinal h) in
           let k : Good x r ≡ goodAt p s = sym h ∙ first-none (untilMac g) (goodAt p s) none in
           let at : x ≡ value p = cc in
-          let same = agreed x e f s b (begins .short) (begins .ready x r h) ∙ ap (λ (y : ℕ). sameBytes (macIn s) (segmentMac (e .secret) f (extensionOf y) (aoAt s) s)) at in
+          let same = agreed x e f s b (begins .ready x r h) ∙ ap (λ (y : ℕ). sameBytes (macIn s) (segmentMac (e .secret) f (extensionOf y) (aoAt s) s)) at in
           gave ∙ ap₂ ended (begins .outcome ∙ h) same
           ∙ ap (λ (y : Outcome). cond (sameBytes (macIn s) (segmentMac (e .secret) f (extensionOf (value p)) (aoAt s) s)) y (refuse 29)) k
           ∙ flip (sameBytes (macIn s) (segmentMac (e .secret) f (extensionOf (value p)) (aoAt s) s)) (goodAt p s) (refuse 29)
@@ -114,7 +118,3 @@ module _ (t : Tables) (a : Arrival) (strict : Bool) (b : Begun) (begins : Judges
   -- the entry found is the one that opens
   pub syn-ids : {x r : ℕ} → o ≡ Good x r → b .ids ≡ recvEntry t (arrivalPair a) (keyId (a .segment)) .entry .ids
   syn-ids g = begins .ready _ _ (sym (begins .outcome) ∙ ended-good (b .outcome) _ (sym gave ∙ g)) .ids
-
--- before the end: a segment that waits for its data has them
-pub waits : {o : Outcome} {e : Entry} {f : Flow} {s : List ℕ} {b : Begun} → Begins o e f s b → (x r : ℕ) → b .outcome ≡ Good x r → headerEnd s ≤ length s
-waits begins x r g = begins .ready x r (sym (begins .outcome) ∙ g) .inside

@@ -16,8 +16,12 @@ use Rattle.rules.specs.declared.Connection.{Connection}
 use Rattle.octets.specs.Tests.{Test, test, tests, joined}
 use Rattle.rules.specs.Mac.{Flow}
 use Rattle.rules.specs.Segment.{rnextKeyId}
-use Rattle.rules.specs.Connection.{localAddress, remoteAddress, isOpen, value}
-use Rattle.rules.specs.Calls.{refuse, Groups}
+use Rattle.rules.specs.Connection.{Arrival, localAddress, remoteAddress, isOpen, value}
+use Rattle.rules.specs.Calls.{refuse, lengthTests, sumTests, Groups}
+
+-- 20, then 40: whether the segment came whole
+abbrev pub intactTests : Arrival → List (Test Outcome)
+intactTests a = lengthTests 20 (a .segment) ++ sumTests a
 
 -- 22 by its two numbers: so many TCP-AO, so many MD5
 abbrev pub countTests : ℕ → ℕ → List (Test Outcome)
@@ -47,16 +51,16 @@ headerSynTests h = test (refuse 24) (not (h .syn && not (h .ack))) ∷ []
 abbrev pub headerArrivalTests : Connection → List ℕ → List ℕ → Header → List (Test Outcome)
 headerArrivalTests l source destination h = headerPairTests (l .pair) source destination h ++ headerStageTests l h
 
--- The seams at which the code cuts: what the input and the size decide; what the header's form, pair and stage decide; key; MAC.
+-- The seams at which the code cuts: what the input, the size and the sum decide; what the header's form, pair and stage decide; key; MAC.
 abbrev pub early : Groups → List (Test Outcome)
-early g = joined (g .input ∷ g .size ∷ [])
+early g = joined (g .input ∷ g .size ∷ g .sum ∷ [])
 
 abbrev pub formed : Groups → List (Test Outcome)
 formed g = joined (g .form ∷ g .arrival ∷ [])
 
 -- all that needs no data: every test but 29
 abbrev pub untilMac : Groups → List (Test Outcome)
-untilMac g = joined (g .input ∷ g .size ∷ g .form ∷ g .arrival ∷ g .key ∷ [])
+untilMac g = joined (g .input ∷ g .size ∷ g .sum ∷ g .form ∷ g .arrival ∷ g .key ∷ [])
 
 -- "'source' is whoever sent the segment": our remote side
 abbrev pub arrivingOn : Pair → ℕ → ℕ → Flow

@@ -3,7 +3,7 @@
 // reference.
 ghost use mathlib.Core.Path.{_≡_};
 ghost use mathlib.Core.Bool.{true, false};
-ghost use Prim.Native.Nat.{ℕ, _+_, _≤_};
+ghost use Prim.Native.Nat.{_+_, _≤_, min};
 ghost use lib.ListN.{length, take, drop};
 ghost use Rattle.wire.specs.Header.{headerEnd, wellSized};
 ghost use Rattle.octets.specs.Tests.{first};
@@ -14,7 +14,7 @@ ghost use Rattle.traffic.specs.Flow.{flowOf};
 ghost use Rattle.traffic.specs.MacContext.{macView, macAbsorb};
 ghost use Rattle.checks.specs.Groups.{goodAt};
 ghost use Rattle.checks.specs.GroupLaws.{isFinal};
-ghost use Rattle.checks.specs.Begin.{Begins, Nothing, Fed, agrees, ended};
+ghost use Rattle.checks.specs.Begin.{Begins, Fed, macLength, agrees, ended};
 use keys::entry::Entry;
 use keys::entry::Ids;
 use keys::table::Found;
@@ -40,7 +40,7 @@ pub struct Begun {
 
 // A number that was given.
 pub(crate) fn nothing(outcome: Outcome) -> Begun
-    ensures { λ r. ⌜ Nothing outcome r ⌝ }
+    ensures { λ r. ⌜ r .outcome ≡ outcome ⌝ }
 {
     Begun {
         outcome,
@@ -119,6 +119,13 @@ pub(crate) fn by_key(
     ready(x, rnext, entry, flow, option, segment)
 }
 
+// How many bytes of a MAC are compared: what its length says, but never more than there is room for.
+fn mac_length(n: u8) -> usize
+    ensures { λ r. ⌜ r ≡ macLength n ⌝ }
+{
+    if n < 16 { n as usize } else { 16 }
+}
+
 impl Begun {
     // The next piece of the data.
     pub fn data(self, data: &[u8]) -> Self
@@ -139,7 +146,6 @@ impl Begun {
 
     // 29: every byte is compared.
     pub fn end(self) -> Outcome
-        requires { ⌜ self .«mac_bytes» ≤ 16 ⌝ }
         ensures { λ r. ⌜ r ≡ ended (self .outcome) (agrees self (macView (self .mac))) ⌝ }
     {
         let outcome = self.outcome;
@@ -148,7 +154,7 @@ impl Begun {
         };
         let mac = self.mac;
         let carried = self.carried;
-        let n = self.mac_bytes as usize;
+        let n = mac_length(self.mac_bytes);
         let tag = mac.finish();
         if !same_throughout(&carried[..n], &tag[..n]) {
             return Outcome::Bad(29, 0);
@@ -157,9 +163,20 @@ impl Begun {
     }
 }
 
+// Where the data begin: behind the header, or at the end of a segment that is shorter than it says.
+fn data_start(segment: &[u8]) -> usize
+    ensures { λ r. ⌜ r ≡ min (headerEnd (now (segment .entry))) (length (now (segment .entry))) ⌝ }
+{
+    let end = wire::header::header_end(segment);
+    if end < segment.len() {
+        end
+    } else {
+        segment.len()
+    }
+}
+
 // Data and end, of a segment that is there whole.
 pub fn finished(begun: Begun, segment: &[u8]) -> Outcome
-    requires { ⌜ (begun .«mac_bytes» ≤ 16) × ((x r : ℕ) → begun .outcome ≡ Good x r → headerEnd (now segment) ≤ length (now segment)) ⌝ }
     ensures { λ r. ⌜ r
         ≡ ended (begun .outcome)
         (agrees begun (macAbsorb (macView (begun .mac)) (drop (headerEnd (now (segment .entry))) (now (segment .entry))))) ⌝ }
@@ -168,6 +185,6 @@ pub fn finished(begun: Begun, segment: &[u8]) -> Outcome
     let Outcome::Good(_, _) = outcome else {
         return outcome;
     };
-    let end = wire::header::header_end(segment);
-    begun.data(&segment[end..]).end()
+    let start = data_start(segment);
+    begun.data(&segment[start..]).end()
 }

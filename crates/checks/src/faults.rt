@@ -1,12 +1,13 @@
-// The tests that come before a key is looked at: document 01, "Numbers given back", 10 to 24. One function for each group of the crate
+// The tests that come before a key is looked at: document 01, "Numbers given back", 10 to 24 and 40. One function for each group of the crate
 // `rules`; where none of its tests applies, it gives Good(0, 0), of which nothing is made. Assumes nothing.
 ghost use mathlib.Core.Path.{_≡_};
 ghost use mathlib.Core.Bool.{not, _&&_};
 ghost use mathlib.Core.List.{_++_};
 ghost use Rattle.octets.specs.Tests.{first};
 ghost use Rattle.rules.specs.Segment.{isBareSyn};
-ghost use Rattle.rules.specs.Calls.{unrefused, familyTests, addressTests, tableTests, inputTests, stateTests, lengthTests};
-ghost use Rattle.checks.specs.Groups.{countTests, optionTests, headerPairTests, headerStageTests, headerSynTests, headerArrivalTests};
+ghost use Rattle.rules.specs.Connection.{arrivalOf};
+ghost use Rattle.rules.specs.Calls.{unrefused, familyTests, addressTests, tableTests, inputTests, stateTests, lengthTests, sumTests};
+ghost use Rattle.checks.specs.Groups.{intactTests, countTests, optionTests, headerPairTests, headerStageTests, headerSynTests, headerArrivalTests};
 use keys::entry::Pair;
 use keys::table::Loaded;
 use rules::Connection;
@@ -108,6 +109,29 @@ fn length_faults(segment: &[u8]) -> Outcome
     Outcome::Good(0, 0)
 }
 
+// 40: "one's complement sum, pseudo-header and checksum included, is not FFFF", between the addresses that came.
+fn sum_faults(source: &[u8], destination: &[u8], segment: &[u8]) -> Outcome
+    ensures { λ r. ⌜ r
+        ≡ first (sumTests (arrivalOf (now (source .entry)) (now (destination .entry)) (now (segment .entry)))) unrefused ⌝ }
+{
+    if traffic::sums::segment_sum(source, destination, segment) != 65535 {
+        return Outcome::Bad(40, 0);
+    }
+    Outcome::Good(0, 0)
+}
+
+// 20, then 40: the sum is of at most 65,535 bytes.
+fn intact_faults(source: &[u8], destination: &[u8], segment: &[u8]) -> Outcome
+    ensures { λ r. ⌜ r
+        ≡ first (intactTests (arrivalOf (now (source .entry)) (now (destination .entry)) (now (segment .entry)))) unrefused ⌝ }
+{
+    let size = length_faults(segment);
+    let Outcome::Good(_, _) = size else {
+        return size;
+    };
+    sum_faults(source, destination, segment)
+}
+
 // 21: "malformed options"; 22.
 fn form_faults(options: Options) -> Outcome
     ensures { λ r. ⌜ r ≡ first (optionTests options) unrefused ⌝ }
@@ -195,7 +219,7 @@ fn arrival_faults(conn: Connection, source: &[u8], destination: &[u8], header: H
     stage_faults(conn, header)
 }
 
-// With a state, up to 20: the input, and the segment's size.
+// With a state, up to 40: the input, and the segment's size and sum.
 pub fn early_faults(
     table: &[u8],
     source: &[u8],
@@ -205,13 +229,13 @@ pub fn early_faults(
 ) -> Outcome
     ensures { λ r. ⌜ r
         ≡ first (stateTests (now (table .entry)) (now (source .entry)) (now (destination .entry)) conn
-        ++ lengthTests 20 (now (segment .entry))) unrefused ⌝ }
+        ++ intactTests (arrivalOf (now (source .entry)) (now (destination .entry)) (now (segment .entry)))) unrefused ⌝ }
 {
     let state = state_faults(table, source, destination, conn);
     let Outcome::Good(_, _) = state else {
         return state;
     };
-    length_faults(segment)
+    intact_faults(source, destination, segment)
 }
 
 // 21 to 24: form, pair and stage.
@@ -231,13 +255,13 @@ pub fn formed_faults(conn: Connection, source: &[u8], destination: &[u8], header
 pub fn early_syn_faults(table: &[u8], source: &[u8], destination: &[u8], segment: &[u8]) -> Outcome
     ensures { λ r. ⌜ r
         ≡ first (inputTests (now (table .entry)) (now (source .entry)) (now (destination .entry))
-        ++ lengthTests 20 (now (segment .entry))) unrefused ⌝ }
+        ++ intactTests (arrivalOf (now (source .entry)) (now (destination .entry)) (now (segment .entry)))) unrefused ⌝ }
 {
     let input = input_faults(table, source, destination);
     let Outcome::Good(_, _) = input else {
         return input;
     };
-    length_faults(segment)
+    intact_faults(source, destination, segment)
 }
 
 pub fn formed_syn_faults(header: Header) -> Outcome

@@ -29,19 +29,16 @@ use Rattle.rules.specs.PositionLaws.{complete, sound}
 use Rattle.octets.specs.TestLaws.{NoneApplies, none-append}
 use Rattle.rules.specs.GroupLaws.{first-clear}
 use Rattle.rules.specs.Segment.{keyId, isBareSyn}
+use Rattle.rules.specs.Checksum.{sumsRight}
 use Rattle.rules.specs.Connection.{sized, Arrival, localAddress, remoteAddress, arrivalPair, isOpen, arriving, arrivingSyn, leaving}
 use Rattle.rules.specs.Connection.{placeOn, value, extensionOf}
 use Rattle.rules.specs.Calls.{refuse, familyTests, addressTests, tableTests, inputTests, pairTests, stageTests, keyTests, macTests}
 use Rattle.rules.specs.Calls.{judgeGroups, check, synMissing, synUnknown, synGroups, checkSyn}
-use Rattle.rules.specs.Ends.{Typed, Allowed, Facing, OtherEnd, SignedAt, TrueSegment}
+use Rattle.rules.specs.Ends.{Typed, Allowed, Facing, OtherEnd, rechecked, Delivered, SignedAt, TrueSegment}
 use Rattle.rules.specs.Demand3.{Within}
 use Rattle.rules.specs.RoundTripLaws.{Arrived}
-use Rattle.rules.specs.DeliveryLaws.{signs, mac, segment, reads}
+use Rattle.rules.specs.DeliveryLaws.{address-length, signs, mac, segment, reads}
 use Rattle.rules.specs.AcceptanceLaws.{sequence-below, agree-of, syn-at, none-20, none-21, none-10, keyed}
-
--- the addresses of a pair are of one size
-address-length : (f : ℕ) (a : List ℕ) → length a ≡ 16 → length (take (width f) a) ≡ width f
-address-length f a h = length-take-le (width f) a (omega (arith, width-le f))
 
 sized-by : (f : ℕ) (a b : List ℕ) → length a ≡ width f → length b ≡ width f → sized a b ≡ true
 unfolding width
@@ -65,7 +62,8 @@ family-by f n a h = go (eqb f 4) (eqb f 6) refl refl
 module _ (q : State) (e : Entry) (x : ℕ) (b : List ℕ) (g : SignedAt q e x b) (c d : ℕ)
     (t : Tables) (valid : ValidTable t) (l : Connection) (allowed : Allowed l) (local : length (l .pair .local) ≡ 16) (remote : length (l .pair .remote) ≡ 16)
     (facing : Facing (l .pair) (q .conn .pair)) (i : ℕ) (ours : Entry) (among : EntryAt (entries t) i ours)
-    (mirror : Mirror (l .pair) (q .conn .pair) ours e) where
+    (mirror : Mirror (l .pair) (q .conn .pair) ours e)
+    (right : sumsRight (remoteAddress (l .pair)) (localAddress (l .pair)) (segment q e x b g c d) ≡ true) where
   abbrev came : List ℕ
   came = segment q e x b g c d
 
@@ -96,6 +94,7 @@ module _ (q : State) (e : Entry) (x : ℕ) (b : List ℕ) (g : SignedAt q e x b)
             (none-append (addressTests (remoteAddress (l .pair)) (localAddress (l .pair))) (tableTests t)
             (ap not (sized-by (l .pair .family) (remoteAddress (l .pair)) (localAddress (l .pair)) (address-length (l .pair .family) (l .pair .remote) remote) (address-length (l .pair .family) (l .pair .local) local)), tt) (none-10 t valid));
         size = none-20 q e x b g c d;
+        sum = (ap not right, tt);
         form = none-21 q e x b g c d;
         arrival = none-append (pairTests (l .pair) comes) (stageTests l came) pair (stage, tt);
         key = keys .0;
@@ -235,15 +234,17 @@ module _ (q : State) (typed : Typed q) (opening : isOpen (q .conn) ≡ false) (e
         recv-found t (arrivalPair synArrival) (keyId syn-came) i ours valid among (mirror .here)
         (mirror .received ∙ ap (λ (f : Entry). f .ids .send) (sym (g .under)) ∙ send-holder (g .table) (q .conn .pair) (q .«send_id») (signs q e x b g .entry) .1 ∙ sym (syn-read .reads .key))
 
-    pub syn-accepted : checkSyn t synArrival strict ≡ Good (q .conn .isn) (q .«ask_id»)
+    pub syn-accepted : sumsRight (synArrival .source) (synArrival .destination) (synArrival .segment) ≡ true
+        → checkSyn t synArrival strict ≡ Good (q .conn .isn) (q .«ask_id»)
     unfolding checkSyn
-    syn-accepted =
+    syn-accepted right =
         first-clear (synGroups t synArrival strict) _
         (record {
           input =
               none-append (addressTests (synArrival .source) (synArrival .destination)) (tableTests t)
               (ap not (sized-by (q .conn .pair .family) (synArrival .source) (synArrival .destination) (address-length (q .conn .pair .family) (q .conn .pair .local) (typed .local)) (address-length (q .conn .pair .family) (q .conn .pair .remote) (typed .remote))), tt) (none-10 t valid);
           size = none-20 q e x b g c d;
+          sum = (ap not right, tt);
           form = none-21 q e x b g c d;
           arrival = (ap not ((λ j. syn-read .its-syn j && not (syn-read .its-ack j)) ∙ bare), tt);
           key = keys .0;
@@ -273,11 +274,16 @@ module _ (q : State) (typed : Typed q) (opening : isOpen (q .conn) ≡ false) (e
             (recvEntry t (arrivalPair synArrival) (keyId syn-came)) (agree-of (arrivalPair synArrival) (q .conn .pair) ours e mirror)
             syn-found flow (ap extensionOf (syn-number ∙ sym (syn-at q e x b g its-syn)))
 
+-- the checksum of what was delivered
+pub came-right : {source destination bytes : List ℕ} (a : Arrival) (v : Delivered source destination bytes a)
+    → sumsRight source destination (rechecked (v .high) (v .low) bytes) ≡ true
+came-right a v = sym (λ j. sumsRight (v .from j) (v .to j) (v .segment j)) ∙ v .right
+
 -- A true segment of demand 3 is such a one.
 pub true-good : (t : Tables) → ValidTable t → (l : Connection) → Allowed l → length (l .pair .local) ≡ 16 → length (l .pair .remote) ≡ 16
     → (reference : ℕ) (a : Arrival) (x r : ℕ) → TrueSegment t l a x r → Within reference x → check t l reference a ≡ Good x r
 true-good t valid l allowed local remote reference a x r s near =
     let v = s .delivered in
     ap (check t l reference) (λ j. record { source = v .from j; destination = v .to j; segment = v .segment j })
-    ∙ open-accepted (s .peer) (s .theirs) x (s .bytes) (s .signed) (v .high) (v .low) t valid l allowed local remote (s .other .pair) (s .place) (s .ours) (s .among) (s .mirror) (s .typed) (s .other) reference near
+    ∙ open-accepted (s .peer) (s .theirs) x (s .bytes) (s .signed) (v .high) (v .low) t valid l allowed local remote (s .other .pair) (s .place) (s .ours) (s .among) (s .mirror) (came-right a v) (s .typed) (s .other) reference near
     ∙ ap (Good x) (s .asks)

@@ -31,6 +31,7 @@ use Rattle.rules.specs.declared.Done.the-variants as D
 use Rattle.rules.specs.declared.Settled.{Settled}
 use Rattle.octets.specs.Tests.{Test, test, tests, joined, first}
 use Rattle.rules.specs.Mac.{Flow, segmentMac}
+use Rattle.rules.specs.Checksum.{sumsRight, withChecksum}
 use Rattle.rules.specs.Segment.{malformed, ao, md5, aoAt, keyId, rnextKeyId, macIn, isBareSyn, optionBytes, signedWith}
 use Rattle.rules.specs.Connection.{sized, pairOf, Arrival, arrivalPair, localAddress, remoteAddress, isOpen, arriving, leaving}
 use Rattle.rules.specs.Connection.{arrivingSyn, placeOn, located, value, extensionOf, nextKey, opened, opening, empty, withAccepted}
@@ -71,6 +72,11 @@ stateTests t a b l = familyTests l ++ inputTests t a b
 -- 20, or 30 when signing: "bad length or offset"
 abbrev pub lengthTests : ℕ → List ℕ → List (Test Outcome)
 lengthTests n s = tests (refuse n) (sizeFaults s)
+
+-- 40, Ticket 5: "Arriving segments whose one's complement sum, pseudo-header and checksum included, is not FFFF are dropped with 40, tested
+-- after 20 and before 21": between the addresses that came
+abbrev pub sumTests : Arrival → List (Test Outcome)
+sumTests a = test (refuse 40) (not (sumsRight (a .source) (a .destination) (a .segment))) ∷ []
 
 -- 21: "malformed options"; 22: "two TCP-AO, or TCP-AO and MD5 together"
 abbrev pub formTests : List ℕ → List (Test Outcome)
@@ -119,6 +125,7 @@ macTests e f x s = test (refuse 29) (macDiffers e f x s) ∷ []
 pub record Groups : Type 0 where
   pub input : List (Test Outcome)
   pub size : List (Test Outcome)
+  pub sum : List (Test Outcome)
   pub form : List (Test Outcome)
   pub arrival : List (Test Outcome)
   pub key : List (Test Outcome)
@@ -126,7 +133,7 @@ pub record Groups : Type 0 where
 
 -- what is tested of the segment, once the input is right; all of it
 abbrev pub segmentGroups : Groups → List (List (Test Outcome))
-segmentGroups g = g .size ∷ g .form ∷ g .arrival ∷ g .key ∷ g .mac ∷ []
+segmentGroups g = g .size ∷ g .sum ∷ g .form ∷ g .arrival ∷ g .key ∷ g .mac ∷ []
 
 abbrev pub inOrder : Groups → List (Test Outcome)
 inOrder g = joined (g .input ∷ segmentGroups g)
@@ -139,6 +146,7 @@ judgeGroups t l reference a =
     record {
       input = stateTests t (a .source) (a .destination) l;
       size = lengthTests 20 (a .segment);
+      sum = sumTests a;
       form = formTests (a .segment);
       arrival = arrivalTests l a;
       key =
@@ -171,6 +179,7 @@ synGroups t a strict =
     record {
       input = inputTests t (a .source) (a .destination);
       size = lengthTests 20 (a .segment);
+      sum = sumTests a;
       form = formTests (a .segment);
       arrival = synTests (a .segment);
       key =
@@ -311,12 +320,17 @@ unfoldable pub checkSign : Tables → List ℕ → ℕ → State → Outcome
 checkSign t s room q =
     first (signTests t s room q (outgoing t q)) (Good (value (placeOn (q .conn) (q .sent) (sequence s))) (q .«ask_id»))
 
--- "KeyID is the outgoing SendID, RNextKeyID the asked RecvID." The MAC is that of the segment with zeros in its place.
-unfoldable pub signedSegment : Entry → State → ℕ → List ℕ → List ℕ
-signedSegment e q x s =
+-- "KeyID is the outgoing SendID, RNextKeyID the asked RecvID." The MAC is that of the segment with zeros in its place. The checksum is
+-- still zero: Ticket 5, "Document 01's 'checksum zero' holds only for the bytes under the MAC".
+unfoldable pub authenticated : Entry → State → ℕ → List ℕ → List ℕ
+authenticated e q x s =
     signedWith (q .«send_id») (q .«ask_id»)
     (segmentMac (e .secret) (leaving (q .conn)) (extensionOf x) 20
     (signedWith (q .«send_id») (q .«ask_id») (replicate (e .secret .«mac_bytes») 0) s)) s
+
+-- what is sent has the right checksum, between the state's own addresses
+unfoldable pub signedSegment : Entry → State → ℕ → List ℕ → List ℕ
+signedSegment e q x s = withChecksum (localAddress (q .conn .pair)) (remoteAddress (q .conn .pair)) (authenticated e q x s)
 
 -- "Signing writes only the signed length's bytes of the output."
 abbrev pub written : List ℕ → List ℕ → List ℕ

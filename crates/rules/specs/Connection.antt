@@ -123,9 +123,9 @@ stop = 2 ^ 64 - 1
 abbrev pub bump : ℕ → ℕ
 bump n = cond (ltb n stop) (n + 1) n
 
--- the drops that are counted, "20 to 29", each in a place of its own
+-- the drops that are counted, "20 to 29", each in a place of its own; Ticket 5: "the counted drops and their sum include" 40
 abbrev pub countedNumbers : List ℕ
-countedNumbers = 20 ∷ 21 ∷ 22 ∷ 23 ∷ 24 ∷ 25 ∷ 26 ∷ 27 ∷ 28 ∷ 29 ∷ []
+countedNumbers = 20 ∷ 21 ∷ 22 ∷ 23 ∷ 24 ∷ 25 ∷ 26 ∷ 27 ∷ 28 ∷ 29 ∷ 40 ∷ []
 
 abbrev pub slots : ℕ
 slots = length countedNumbers

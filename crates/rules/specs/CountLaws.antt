@@ -4,12 +4,12 @@ use Prim.Native.Nat.{ℕ, zero, suc, _+_, _-_, _≤_, _<_, min, max}
 use mathlib.Core.Path.{_≡_, refl, ap, sym, _∙_}
 use mathlib.Core.Logic.{_⊎_, inl, inr, ⊎-elim}
 use mathlib.Core.Bool.{Bool, true, false, cond}
-use mathlib.Core.List.{List, [], _∷_}
+use mathlib.Core.List.{List, [], _∷_, _++_}
 use native.Mathlib.Omega.{arith}
 use lib.ListN.{length, getD, set, length-set}
 use lib.Seq.{getD-set-same, getD-set-other}
 use lib.Dec.{ltb, eqb}
-use borrow.Author.Tests.{ltb-true, ltb-false, eqb-true, eqb-false}
+use borrow.Author.Tests.{ltb-true, ltb-false, eqb-true, eqb-false, ne-eqb}
 use Rattle.octets.specs.Each.{Each}
 use Rattle.rules.specs.declared.Place.{Place}
 use Rattle.rules.specs.declared.Place.the-variants.{At, Nowhere}
@@ -93,33 +93,46 @@ unfolding slot
 slot-one n m e f q = sym (place-is n countedNumbers e) ∙ ap (λ (i : ℕ). getD countedNumbers i 0) q ∙ place-is m countedNumbers f
 
 -- by numbers, as the code goes
-in-row : (k a n : ℕ) → a ≤ n → n < a + k → placeIn n (row a k) ≡ At (n - a)
+in-row : (k a n : ℕ) (r : List ℕ) → a ≤ n → n < a + k → placeIn n (row a k ++ r) ≡ At (n - a)
 unfolding row
-in-row zero a n h l = absurd (omega arith)
-in-row (suc k) a n h l = go (eqb n a) refl (λ p q. in-row k (a + 1) n p q)
+in-row zero a n r h l = absurd (omega arith)
+in-row (suc k) a n r h l = go (eqb n a) refl (λ p q. in-row k (a + 1) n r p q)
   where
-    go : (b : Bool) → eqb n a ≡ b → (a + 1 ≤ n → n < a + 1 + k → placeIn n (row (a + 1) k) ≡ At (n - (a + 1))) → placeIn n (row a (suc k)) ≡ At (n - a)
+    go : (b : Bool) → eqb n a ≡ b → (a + 1 ≤ n → n < a + 1 + k → placeIn n (row (a + 1) k ++ r) ≡ At (n - (a + 1)))
+        → placeIn n (row a (suc k) ++ r) ≡ At (n - a)
     go true q ih = let e = eqb-true n a q in rw (q, row) (ap At (omega arith))
     go false q ih =
         let d : a + 1 ≤ n = pos a n h (eqb-false n a q) in
         rw (q, row) (ap later (ih d (omega arith)) ∙ ap At (omega arith))
 
-not-in-row : (k a n : ℕ) → (n < a) ⊎ (a + k ≤ n) → placeIn n (row a k) ≡ Nowhere
-unfolding row
-not-in-row zero a n h = refl
-not-in-row (suc k) a n h = go (eqb n a) refl (not-in-row k (a + 1) n)
+-- a place, so many elements on
+laterBy : ℕ → Place → Place
+laterBy zero p = p
+laterBy (suc k) p = later (laterBy k p)
+
+past-row : (k a n : ℕ) (r : List ℕ) → (n < a) ⊎ (a + k ≤ n) → placeIn n (row a k ++ r) ≡ laterBy k (placeIn n r)
+unfolding row laterBy
+past-row zero a n r h = refl
+past-row (suc k) a n r h = go (eqb n a) refl (past-row k (a + 1) n r)
   where
-    go : (b : Bool) → eqb n a ≡ b → ((n < a + 1) ⊎ (a + 1 + k ≤ n) → placeIn n (row (a + 1) k) ≡ Nowhere) → placeIn n (row a (suc k)) ≡ Nowhere
+    go : (b : Bool) → eqb n a ≡ b → ((n < a + 1) ⊎ (a + 1 + k ≤ n) → placeIn n (row (a + 1) k ++ r) ≡ laterBy k (placeIn n r))
+        → placeIn n (row a (suc k) ++ r) ≡ laterBy (suc k) (placeIn n r)
     go true q ih = let e = eqb-true n a q in absurd (⊎-elim (λ (l : n < a). omega arith) (λ (l : a + suc k ≤ n). omega arith) h)
     go false q ih = rw (q, row) (ap later (ih (⊎-elim (λ (l : n < a). inl (omega arith)) (λ (l : a + suc k ≤ n). inr (omega arith)) h)))
 
 pub slot-is : (n : ℕ) → 20 ≤ n → n < 30 → slot n ≡ At (n - 20)
 unfolding slot row
-slot-is n h l = in-row 10 20 n h (omega arith)
+slot-is n h l = in-row 10 20 n (40 ∷ []) h (omega arith)
 
-pub slot-none : (n : ℕ) → (n < 20) ⊎ (30 ≤ n) → slot n ≡ Nowhere
-unfolding slot row
-slot-none n h = not-in-row 10 20 n (⊎-elim (λ (l : n < 20). inl l) (λ (l : 30 ≤ n). inr (omega arith)) h)
+pub slot-40 : slot 40 ≡ At 10
+unfolding slot
+slot-40 = refl
+
+pub slot-none : (n : ℕ) → (n < 20) ⊎ (30 ≤ n) → (n ≡ 40 → ⊥) → slot n ≡ Nowhere
+unfolding slot row laterBy
+slot-none n h d =
+    past-row 10 20 n (40 ∷ []) (⊎-elim (λ (l : n < 20). inl l) (λ (l : 30 ≤ n). inr (omega arith)) h)
+    ∙ ap (λ (b : Bool). laterBy 10 (cond b (At 0) Nowhere)) (ne-eqb n 40 d)
 
 pub length-count : (n : ℕ) (ds : List ℕ) → length (countDrop n ds) ≡ length ds
 unfolding countDrop

@@ -1,28 +1,36 @@
 -- What the signing call wrote, as it arrives: what the receiver reads in it, and that its MAC is the one it carries.
 use Prim.Native.Nat.{ℕ, _+_, _-_, _≤_}
 use mathlib.Core.Path.{_≡_, ap, ap₂, sym, _∙_, subst, subst⁻¹}
-use mathlib.Core.Bool.{false}
+use mathlib.Core.Bool.{true, false}
 use mathlib.Core.List.{List}
 use native.Mathlib.Omega.{arith}
 use lib.ListN.{length, take, drop, replicate}
-use lib.Seq.{take-at}
+use lib.Seq.{take-at, length-take-le}
 use lib.Dec.{ltb}
 use borrow.Author.Tests.{le-ltb}
 use Rattle.wire.specs.Header.{dataOffset, headerEnd}
 use Rattle.keys.specs.declared.entry.Entry.{Entry}
 use Rattle.keys.specs.declared.entry.Secret.{Secret}
+use Rattle.keys.specs.Entry.{width}
+use Rattle.keys.specs.EntryLaws.{width-le}
 use Rattle.keys.specs.Table.{Tables}
 use Rattle.rules.specs.declared.Outcome.{Outcome}
 use Rattle.rules.specs.declared.State.{State}
 use Rattle.rules.specs.Mac.{Flow, applied, trafficKey, segmentMac}
 use Rattle.rules.specs.MacLaws.{length-mac, Agree, mac-agree}
 use Rattle.rules.specs.Segment.{optionBytes, signedWith}
-use Rattle.rules.specs.Connection.{leaving, value, extensionOf}
-use Rattle.rules.specs.Calls.{outgoing, addedBytes, signedSegment, written, outputBy, output}
-use Rattle.rules.specs.Ends.{SignedAt, rechecked}
+use Rattle.rules.specs.Checksum.{sumsRight, withChecksum}
+use Rattle.rules.specs.ChecksumLaws.{length-checked, checked-again, checked-right}
+use Rattle.rules.specs.Connection.{localAddress, remoteAddress, leaving, value, extensionOf}
+use Rattle.rules.specs.Calls.{outgoing, addedBytes, authenticated, signedSegment, written, outputBy, output}
+use Rattle.rules.specs.Ends.{Typed, SignedAt, rechecked}
 use Rattle.rules.specs.RoundTripLaws.{Arrived, arrival, covers, length-signed}
 use Rattle.rules.specs.SigningLaws.{Signs, signs-good, signed-good}
 use Rattle.rules.specs.GrowthLaws.{short-found}
+
+-- the addresses of a pair are of one size
+pub address-length : (f : ℕ) (a : List ℕ) → length a ≡ 16 → length (take (width f) a) ≡ width f
+address-length f a h = length-take-le (width f) a (omega (arith, width-le f))
 
 -- what was signed, by the outgoing entry: it has as many bytes as the answer says
 module _ (t : Tables) (s out : List ℕ) (q : State) (signs : Signs t s out q) (x : ℕ) where
@@ -32,14 +40,21 @@ module _ (t : Tables) (s out : List ℕ) (q : State) (signs : Signs t s out q) (
   short-of : entry .secret .«mac_bytes» ≤ 16
   short-of = short-found t (q .conn .pair) (q .«send_id») (signs .valid) (signs .entry)
 
-  pub signed-long : length (signedSegment entry q x s) ≡ length s + addedBytes entry
-  unfolding signedSegment
-  signed-long =
+  authenticated-long : length (authenticated entry q x s) ≡ length s + addedBytes entry
+  unfolding authenticated
+  authenticated-long =
       let n = entry .secret .«mac_bytes» in
       let z = signedWith (q .«send_id») (q .«ask_id») (replicate n 0) s in
       let m = segmentMac (entry .secret) (leaving (q .conn)) (extensionOf x) 20 z in
       let l : length m ≡ n = length-mac (entry .secret) (leaving (q .conn)) (extensionOf x) 20 z short-of in
       length-signed s (signs .fresh) 0 0 (q .«send_id») (q .«ask_id») m ∙ ap (λ (n : ℕ). length s + optionBytes n) l
+
+  pub signed-long : length (signedSegment entry q x s) ≡ length s + addedBytes entry
+  unfolding signedSegment
+  signed-long =
+      let l = authenticated-long in
+      let f = signs .fresh .long in
+      length-checked _ _ (authenticated entry q x s) (omega arith) ∙ l
 
 module _ (q : State) (e : Entry) (x : ℕ) (b : List ℕ) (g : SignedAt q e x b) where
   abbrev s : List ℕ
@@ -71,19 +86,39 @@ module _ (q : State) (e : Entry) (x : ℕ) (b : List ℕ) (g : SignedAt q e x b)
   abbrev carried : List ℕ
   carried = signedWith (q .«send_id») (q .«ask_id») mac s
 
+  length-carried : length carried ≡ length s + optionBytes (length mac)
+  length-carried = length-signed s (signs .fresh) 0 0 (q .«send_id») (q .«ask_id») mac
+
+  enough : 18 ≤ length carried
+  enough = let l = length-carried in let f = signs .fresh .long in omega arith
+
+  abbrev checked : List ℕ
+  checked = withChecksum (localAddress (q .conn .pair)) (remoteAddress (q .conn .pair)) carried
+
   -- the bytes are those of the definition
-  wrote-is : b ≡ carried
-  unfolding output signedSegment
+  pub wrote-is : b ≡ checked
+  unfolding output signedSegment authenticated
   wrote-is =
       let o = signed-good (g .table) s (g .out) q (length b) (g .answer) in
       let p = signs-good (g .table) s (g .out) q (o .0) (o .1) (o .2) in
       let v : o .0 ≡ x = sym (p .1) ∙ ap value (g .position) in
-      let l : length carried ≡ length b =
-      length-signed s (signs .fresh) 0 0 (q .«send_id») (q .«ask_id») mac ∙ ap (λ (n : ℕ). length s + n) (sym added-is) ∙ o .3 in
+      let l : length checked ≡ length b =
+      length-checked _ _ carried enough ∙ length-carried ∙ ap (λ (n : ℕ). length s + n) (sym added-is) ∙ o .3 in
       g .wrote
       ∙ ap (λ (z : Outcome). take (length b) (outputBy q s (g .out) (outgoing (g .table) q .entry) z)) (o .2)
       ∙ ap₂ (λ (f : Entry) (y : ℕ). take (length b) (written (signedSegment f q y s) (g .out))) (g .under) v
-      ∙ take-at carried (drop (length carried) (g .out)) (length b) l
+      ∙ take-at checked (drop (length checked) (g .out)) (length b) l
+
+  -- Ticket 5: with the right checksum, between the state's own addresses
+  pub wrote-right : Typed q → sumsRight (localAddress (q .conn .pair)) (remoteAddress (q .conn .pair)) b ≡ true
+  wrote-right typed =
+      ap (sumsRight (localAddress (q .conn .pair)) (remoteAddress (q .conn .pair))) wrote-is
+      ∙ checked-right (localAddress (q .conn .pair)) (remoteAddress (q .conn .pair)) carried enough
+      (address-length (q .conn .pair .family) (q .conn .pair .local) (typed .local)
+      ∙ sym (address-length (q .conn .pair .family) (q .conn .pair .remote) (typed .remote)))
+
+  pub wrote-long : 18 ≤ length b
+  wrote-long = subst⁻¹ (λ (l : List ℕ). 18 ≤ length l) wrote-is (subst⁻¹ (λ (n : ℕ). 18 ≤ n) (length-checked _ _ carried enough) enough)
 
   -- with any checksum
   module _ (c d : ℕ) where
@@ -91,7 +126,7 @@ module _ (q : State) (e : Entry) (x : ℕ) (b : List ℕ) (g : SignedAt q e x b)
     segment = rechecked c d b
 
     segment-is : segment ≡ rechecked c d carried
-    segment-is = ap (rechecked c d) wrote-is
+    segment-is = ap (rechecked c d) wrote-is ∙ checked-again _ _ carried enough c d
 
     pub reads : Arrived s segment (q .«send_id») (q .«ask_id») mac
     reads =

@@ -1,7 +1,7 @@
 -- Demand 2, as statements: "What one end signs, the other end of that connection accepts intact if it holds the mirrored key in a valid
 -- table, stands at the stage for such a segment and, once open, has a reference less than 2^31 from the true 64-bit position."
--- One statement for each way that a segment can go, for the signed bytes with any checksum in them, about what the calls return; then the
--- three steps of an opening. Demand2Laws proves them.
+-- First that the signed bytes themselves arrive with a right checksum; then one statement for each way that a segment can go, for the
+-- signed bytes with any right checksum in them, about what the calls return; then the three steps of an opening. Demand2Laws proves them.
 use Prim.Native.Nat.{ℕ}
 use mathlib.Core.Path.{_≡_}
 use mathlib.Core.Bool.{Bool, true, false}
@@ -14,6 +14,7 @@ use Rattle.rules.specs.declared.Verdict.the-variants.{Accept}
 use Rattle.rules.specs.declared.State.{State}
 use Rattle.rules.specs.Connection.{Arrival, localAddress, remoteAddress, arrivalPair, isOpen, extensionOf, nextKey, opened}
 use Rattle.rules.specs.Connection.{withAccepted}
+use Rattle.rules.specs.Checksum.{sumsRight}
 use Rattle.rules.specs.Calls.{judged, judgedSyn, openedPassively}
 use Rattle.rules.specs.Ends.{Typed, Allowed, Facing, OtherEnd, Delivered, SignedAt, Holds}
 use Rattle.rules.specs.Demand3.{Within}
@@ -24,6 +25,22 @@ Coming p b a = Delivered (remoteAddress p) (localAddress p) b a
 
 abbrev pub Going : Pair → List ℕ → Arrival → Type 0
 Going p b a = Delivered (localAddress p) (remoteAddress p) b a
+
+-- Ticket 5: "The signer now writes the right TCP checksum over the pseudo-header", between the state's own addresses
+abbrev pub SignedRight : Type 0
+SignedRight = (q : State) (e : Entry) (x : ℕ) (b : List ℕ) → Typed q → SignedAt q e x b
+    → sumsRight (localAddress (q .conn .pair)) (remoteAddress (q .conn .pair)) b ≡ true
+
+-- The very bytes that were written, from the sender's address to the address of its peer: what each statement below is told to be given.
+abbrev pub sent : State → List ℕ → Arrival
+sent q b = record { source = localAddress (q .conn .pair); destination = remoteAddress (q .conn .pair); segment = b }
+
+abbrev pub SentComes : Type 0
+SentComes = (q : State) (e : Entry) (x : ℕ) (b : List ℕ) → Typed q → SignedAt q e x b → (p : Pair) → Facing p (q .conn .pair)
+    → Coming p b (sent q b)
+
+abbrev pub SentGoes : Type 0
+SentGoes = (q : State) (e : Entry) (x : ℕ) (b : List ℕ) → Typed q → SignedAt q e x b → Going (q .conn .pair) b (sent q b)
 
 -- Once open: accepted with the sender's extension. The reference becomes the larger, the key rule applies, and one acceptance more is
 -- counted.

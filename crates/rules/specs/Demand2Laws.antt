@@ -4,6 +4,7 @@ use mathlib.Core.Path.{_≡_, refl, ap, sym, _∙_, subst⁻¹, subst₂}
 use mathlib.Core.Bool.{Bool, true, false}
 use mathlib.Core.List.{List}
 use native.Mathlib.Omega.{arith}
+use lib.ListN.{getD}
 use Rattle.wire.specs.Header.{syn}
 use Rattle.keys.specs.declared.entry.Entry.{Entry}
 use Rattle.keys.specs.declared.table.Found.{Found}
@@ -21,9 +22,10 @@ use Rattle.rules.specs.Connection.{Arrival, localAddress, remoteAddress,
 use Rattle.rules.specs.Connection.{withAccepted}
 use Rattle.rules.specs.Calls.{check, checkSyn, verdictOf, indexOf, judgedBy, judged, judgedSyn, openedBy, openedPassively}
 use Rattle.rules.specs.Ends.{Typed, Facing, OtherEnd, Delivered, SignedAt, Holds, rechecked}
-use Rattle.rules.specs.Demand2.{OpenSegment, SynAck, BareSyn, BareSynOpens, OpenedTogether}
-use Rattle.rules.specs.DeliveryLaws.{signs}
-use Rattle.rules.specs.AcceptedLaws.{open-accepted, syn-ack-accepted, syn-facing, syn-found, syn-accepted}
+use Rattle.rules.specs.Demand2.{SignedRight, SentComes, SentGoes, OpenSegment, SynAck, BareSyn, BareSynOpens, OpenedTogether}
+use Rattle.rules.specs.ChecksumLaws.{rechecked-self}
+use Rattle.rules.specs.DeliveryLaws.{signs, wrote-right, wrote-long}
+use Rattle.rules.specs.AcceptedLaws.{came-right, open-accepted, syn-ack-accepted, syn-facing, syn-found, syn-accepted}
 
 -- an arrival is what was delivered
 came : {source destination bytes : List ℕ} (a : Arrival) (v : Delivered source destination bytes a)
@@ -44,17 +46,42 @@ judged-opening : (t : Tables) (p : State) (a : Arrival) (x r : ℕ) → isOpen (
 unfolding judged
 judged-opening t p a x r opening e = ap (judgedBy t p) e ∙ rw opening
 
+pub signed-right : SignedRight
+signed-right q e x b typed g = wrote-right q e x b g typed
+
+pub sent-comes : SentComes
+sent-comes q e x b typed g p facing =
+    record {
+      from = sym (facing .remote);
+      to = sym (facing .local);
+      high = getD b 16 0;
+      low = getD b 17 0;
+      segment = sym (rechecked-self b (wrote-long q e x b g));
+      right = signed-right q e x b typed g;
+    }
+
+pub sent-goes : SentGoes
+sent-goes q e x b typed g =
+    record {
+      from = refl;
+      to = refl;
+      high = getD b 16 0;
+      low = getD b 17 0;
+      segment = sym (rechecked-self b (wrote-long q e x b g));
+      right = signed-right q e x b typed g;
+    }
+
 pub open-segment : OpenSegment
 open-segment q e x b a t p tq tp allowed other g v h near =
     judged-open t p a x (q .«ask_id») (other .here)
     (ap (check t (p .conn) (p .seen)) (came a v)
-    ∙ open-accepted q e x b g (v .high) (v .low) t (h .valid) (p .conn) allowed (tp .local) (tp .remote) (other .pair) (h .place) (h .ours) (h .among) (h .mirror) tq other (p .seen) near)
+    ∙ open-accepted q e x b g (v .high) (v .low) t (h .valid) (p .conn) allowed (tp .local) (tp .remote) (other .pair) (h .place) (h .ours) (h .among) (h .mirror) (came-right a v) tq other (p .seen) near)
 
 pub syn-ack : SynAck
 syn-ack q e x b a t p tq tp allowed there here facing isn g its-syn v h =
     judged-opening t p a (q .conn .isn) (q .«ask_id») here
     (ap (check t (p .conn) (p .seen)) (came a v)
-    ∙ syn-ack-accepted q e x b g (v .high) (v .low) t (h .valid) (p .conn) allowed (tp .local) (tp .remote) facing (h .place) (h .ours) (h .among) (h .mirror) tq there here isn its-syn (p .seen))
+    ∙ syn-ack-accepted q e x b g (v .high) (v .low) t (h .valid) (p .conn) allowed (tp .local) (tp .remote) facing (h .place) (h .ours) (h .among) (h .mirror) (came-right a v) tq there here isn its-syn (p .seen))
     ∙ (λ j. record {
       verdict = Accept (low-extension (q .conn .isn) (tq .isn) j);
       index = 0;
@@ -71,7 +98,7 @@ module _ (q : State) (e : Entry) (x : ℕ) (b : List ℕ) (a : Arrival) (t : Tab
       → (checkSyn t z strict ≡ Good (q .conn .isn) (q .«ask_id»)) × (recvEntry t (arrivalPair z) (keyId (z .segment)) .entry ≡ h .ours))
       (came a v)
       (λ m. (
-        syn-accepted q typed opening e x b g (v .high) (v .low) t (h .valid) strict (h .place) (h .ours) (h .among) m,
+        syn-accepted q typed opening e x b g (v .high) (v .low) t (h .valid) strict (h .place) (h .ours) (h .among) m (came-right a v),
         ap (λ (f : Found). f .entry) (syn-found q typed opening e x b g (v .high) (v .low) t (h .valid) strict (h .place) (h .ours) (h .among) m),
       ))
       (h .mirror)

@@ -19,6 +19,7 @@ use Rattle.rules.specs.declared.State.{State}
 use Rattle.rules.specs.declared.Signing.the-variants as S
 use Rattle.rules.specs.declared.Signed.{Signed}
 use Rattle.rules.specs.Mac.{segmentMac}
+use Rattle.rules.specs.Checksum.{sumsRight}
 use Rattle.rules.specs.Segment.{malformed, ao, md5, aoAt, keyId, macIn, isBareSyn}
 use Rattle.rules.specs.Connection.{Arrival, localAddress, remoteAddress, isOpen, arriving, placeOn, slots}
 use Rattle.rules.specs.Calls.{outgoing, signed, output}
@@ -57,7 +58,8 @@ pub record OtherEnd (l m : Connection) : Type 0 where
 abbrev pub rechecked : ℕ → ℕ → List ℕ → List ℕ
 rechecked c d s = take 16 s ++ (c ∷ d ∷ drop 18 s)
 
--- bytes that come from one address to another "as signed, except perhaps for the checksum"
+-- bytes that come from one address to another "as signed, except perhaps for the checksum"; Ticket 5: "True segments in demand 3 pass this
+-- test", so it is a right one
 pub record Delivered (source destination bytes : List ℕ) (a : Arrival) : Type 0 where
   pub from : a .source ≡ source
   pub to : a .destination ≡ destination
@@ -65,6 +67,7 @@ pub record Delivered (source destination bytes : List ℕ) (a : Arrival) : Type 
   pub high : ℕ
   pub low : ℕ
   pub segment : a .segment ≡ rechecked high low bytes
+  pub right : sumsRight (a .source) (a .destination) (a .segment) ≡ true
 
 -- bytes that the signing call wrote, given the state q and some table, segment and output, under the entry e: "A signed segment's true
 -- position is the X it was signed by."
@@ -104,9 +107,11 @@ pub record TrueSegment (t : Tables) (l : Connection) (a : Arrival) (x r : ℕ) :
   pub asks : peer .«ask_id» ≡ r
 
 -- "An arrival verifies if it is no bare SYN, comes with our state's pair, and its MAC bytes are, for some extension, what these rules
--- give under our ISNs and the entry for its KeyID." It has MAC bytes only if none of 20, 21, 22 applies and TCP-AO is there.
+-- give under our ISNs and the entry for its KeyID." It has MAC bytes only if none of 20, 21, 22 applies and TCP-AO is there. Ticket 5: "an
+-- arrival that fails" the test of 40 "verifies under no key".
 pub record Verifies (t : Tables) (l : Connection) (a : Arrival) : Type 0 where
   pub sized : wellSized (a .segment) ≡ true
+  pub summed : sumsRight (a .source) (a .destination) (a .segment) ≡ true
   pub formed : malformed (a .segment) ≡ false
   pub one : ao (a .segment) .count ≡ 1
   pub no-md5 : md5 (a .segment) .count ≡ 0

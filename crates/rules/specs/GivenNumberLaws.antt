@@ -178,9 +178,9 @@ refused-among (judgeSyn t a strict) n e = verdict-among true synNumbers (checkSy
 refused-among (openPassively t a isn strict) n e = verdict-among true synNumbers (checkSyn t a strict) n (checkSyn-only t a strict) e
 refused-among (openActively t local remote localPort remotePort isn sendId) n e = active-among t local remote (pairOf local remote localPort remotePort) isn sendId n e
 
--- between 10 and 37
+-- between 10 and 40
 abbrev pub tabled : ℕ → Bool
-tabled n = leb 10 n && leb n 37
+tabled n = leb 10 n && leb n 40
 
 each-tabled : (c : Request) → every tabled (numbersOf c) ≡ true
 each-tabled (on (judge t a) q) = refl
@@ -190,8 +190,8 @@ each-tabled (judgeSyn t a strict) = refl
 each-tabled (openPassively t a isn strict) = refl
 each-tabled (openActively t local remote localPort remotePort isn sendId) = refl
 
-bounds : (n : ℕ) → tabled n ≡ true → (10 ≤ n) × (n ≤ 37)
-bounds n e = let p = and-true (leb 10 n) (leb n 37) e in (leb-true 10 n (p .0), leb-true n 37 (p .1))
+bounds : (n : ℕ) → tabled n ≡ true → (10 ≤ n) × (n ≤ 40)
+bounds n e = let p = and-true (leb 10 n) (leb n 40) e in (leb-true 10 n (p .0), leb-true n 40 (p .1))
 
 pub refused-bounds : RefusedBounds
 refused-bounds c n e = bounds n (among-every tabled n (numbersOf c) (each-tabled c) (refused-among c n e))

@@ -34,11 +34,11 @@ abbrev pub tableNumbers : List ℕ
 tableNumbers = 10 ∷ 11 ∷ 12 ∷ 13 ∷ 14 ∷ 15 ∷ 16 ∷ 17 ∷ []
 
 abbrev pub judgeNumbers : List ℕ
-judgeNumbers = 18 ∷ 19 ∷ (tableNumbers ++ (20 ∷ 21 ∷ 22 ∷ 23 ∷ 24 ∷ 25 ∷ 26 ∷ 27 ∷ 28 ∷ 29 ∷ []))
+judgeNumbers = 18 ∷ 19 ∷ (tableNumbers ++ (20 ∷ 21 ∷ 22 ∷ 23 ∷ 24 ∷ 25 ∷ 26 ∷ 27 ∷ 28 ∷ 29 ∷ 40 ∷ []))
 
 -- a bare SYN comes without a state, whose family or pair could be another, and has its own number as position: not 18, 23 or 28
 abbrev pub synNumbers : List ℕ
-synNumbers = 19 ∷ (tableNumbers ++ (20 ∷ 21 ∷ 22 ∷ 24 ∷ 25 ∷ 26 ∷ 27 ∷ 29 ∷ []))
+synNumbers = 19 ∷ (tableNumbers ++ (20 ∷ 21 ∷ 22 ∷ 24 ∷ 25 ∷ 26 ∷ 27 ∷ 29 ∷ 40 ∷ []))
 
 abbrev pub signNumbers : List ℕ
 signNumbers = 18 ∷ (tableNumbers ++ (30 ∷ 31 ∷ 32 ∷ 33 ∷ 34 ∷ 35 ∷ 36 ∷ 37 ∷ []))
@@ -73,9 +73,9 @@ isPass (Drop n) = false
 abbrev pub RefusedAmong : Type 0
 RefusedAmong = (c : Request) (n : ℕ) → reply c ≡ D.Refused n → among n (numbersOf c) ≡ true
 
--- so it lies between 10 and 37, and is neither 0 nor 1
+-- so it lies between 10 and 40, and is neither 0 nor 1
 abbrev pub RefusedBounds : Type 0
-RefusedBounds = (c : Request) (n : ℕ) → reply c ≡ D.Refused n → (10 ≤ n) × (n ≤ 37)
+RefusedBounds = (c : Request) (n : ℕ) → reply c ≡ D.Refused n → (10 ≤ n) × (n ≤ 40)
 
 -- what a table gives: at most 64 entries, or 10 to 17 with an index up to 64
 abbrev pub CheckedWithin : Type 0

@@ -17,6 +17,7 @@ use Rattle.rules.specs.Calls.{refuse, lengthTests, Groups, segmentGroups
 pub record Clear (g : Groups) : Type 0 where
   pub input : NoneApplies (g .input)
   pub size : NoneApplies (g .size)
+  pub sum : NoneApplies (g .sum)
   pub form : NoneApplies (g .form)
   pub arrival : NoneApplies (g .arrival)
   pub key : NoneApplies (g .key)
@@ -24,12 +25,13 @@ pub record Clear (g : Groups) : Type 0 where
 
 module _ (g : Groups) where
   pub clear-none : Clear g → NoneApplies (inOrder g)
-  clear-none c = none-joined (g .input ∷ segmentGroups g) (c .input, (c .size, (c .form, (c .arrival, (c .key, (c .mac, tt))))))
+  clear-none c = none-joined (g .input ∷ segmentGroups g) (c .input, (c .size, (c .sum, (c .form, (c .arrival, (c .key, (c .mac, tt)))))))
 
   pub none-clear : NoneApplies (inOrder g) → Clear g
   none-clear n =
       let p = joined-none (g .input ∷ segmentGroups g) n in
-      record { input = p .0; size = p .1 .0; form = p .1 .1 .0; arrival = p .1 .1 .1 .0; key = p .1 .1 .1 .1 .0; mac = p .1 .1 .1 .1 .1 .0 }
+      let s = p .1 .1 .1 in
+      record { input = p .0; size = p .1 .0; sum = p .1 .1 .0; form = s .0; arrival = s .1 .0; key = s .1 .1 .0; mac = s .1 .1 .1 .0 }
 
   -- then what stands behind them is given
   pub first-clear : (o : Outcome) → Clear g → first (inOrder g) o ≡ o

@@ -14,7 +14,7 @@ use Rattle.rules.specs.declared.Verdict.the-variants.{Accept, Pass, Drop
 use Rattle.rules.specs.declared.State.{State}
 use Rattle.rules.specs.Connection.{Arrival, arrivalPair, isOpen, localAddress, remoteAddress, slots}
 use Rattle.rules.specs.Calls.{judgedSyn, signedSegment}
-use Rattle.rules.specs.Ends.{Typed, Delivered, SignedAt, Holds, rechecked, TrueSegment, Verifies}
+use Rattle.rules.specs.Ends.{Typed, Delivered, SignedAt, Holds, TrueSegment, Verifies}
 use Rattle.rules.specs.Demand3.{Arriving, real, other, Given, Demand3}
 use Rattle.rules.specs.Passes.{UnknownKey}
 
@@ -64,10 +64,9 @@ theirPair =
       remote = (10 ∷ 11 ∷ 12 ∷ 13 ∷ []) ++ replicate 12 0;
     }
 
--- bytes as they come to us from the other end, with the checksum 18 52
+-- bytes as they come to us from the other end
 abbrev pub fromThem : List ℕ → Arrival
-fromThem bytes =
-    record { source = 172 ∷ 27 ∷ 28 ∷ 29 ∷ []; destination = 10 ∷ 11 ∷ 12 ∷ 13 ∷ []; segment = rechecked 18 52 bytes }
+fromThem bytes = record { source = 172 ∷ 27 ∷ 28 ∷ 29 ∷ []; destination = 10 ∷ 11 ∷ 12 ∷ 13 ∷ []; segment = bytes }
 
 -- Demand 3. Both ends are open, and the other end is about to pass a rollover.
 
@@ -160,7 +159,7 @@ pub record BareSynNotEmpty : Type 0 where
 abbrev pub unknownSyn : Arrival
 unknownSyn =
     fromThem
-    ((0 ∷ 179 ∷ 233 ∷ 215 ∷ 255 ∷ 255 ∷ 255 ∷ 240 ∷ 0 ∷ 0 ∷ 0 ∷ 0 ∷ 144 ∷ 2 ∷ 128 ∷ 0 ∷ 0 ∷ 0 ∷ 0 ∷ 0 ∷ 29 ∷ 16 ∷ 85 ∷ 61 ∷ [])
+    ((0 ∷ 179 ∷ 233 ∷ 215 ∷ 255 ∷ 255 ∷ 255 ∷ 240 ∷ 0 ∷ 0 ∷ 0 ∷ 0 ∷ 144 ∷ 2 ∷ 128 ∷ 0 ∷ 180 ∷ 184 ∷ 0 ∷ 0 ∷ 29 ∷ 16 ∷ 85 ∷ 61 ∷ [])
     ++ replicate 12 0)
 
 -- our entries match the pair: 26, though the setting says pass. With an empty table the setting decides.

@@ -24,16 +24,19 @@ use Rattle.rules.specs.declared.Outcome.the-variants.{Good}
 use Rattle.rules.specs.declared.Signing.the-variants as S
 use Rattle.rules.specs.declared.State.{State}
 use Rattle.rules.specs.Position.{position}
-use Rattle.rules.specs.Mac.{segmentMac}
+use Rattle.checksum.specs.Checksum.{onesSum, checksummed}
+use Rattle.rules.specs.Checksum.{segmentSum, withChecksum}
+use Rattle.rules.specs.Mac.{pseudoHeader, segmentMac}
 use Rattle.rules.specs.MacLaws.{length-mac}
 use Rattle.rules.specs.Segment.{inserted, withOption, optionBytes, signedWith}
-use Rattle.rules.specs.Connection.{arrivalPair, leaving, extensionOf, placeOn}
-use Rattle.rules.specs.Calls.{outgoing, addedBytes, checkSign, signedSegment, written, signedBy, outputBy, signed, output}
+use Rattle.rules.specs.Connection.{arrivalPair, localAddress, remoteAddress, leaving, extensionOf, placeOn}
+use Rattle.rules.specs.Calls.{outgoing, addedBytes, checkSign, authenticated, signedSegment, written, signedBy, outputBy, signed, output}
 use Rattle.rules.specs.Ends.{Typed, Delivered, Holds, SignedAt, OtherEnd}
 use Rattle.rules.specs.RoundTripLaws.{Fresh, length-signed}
+use Rattle.rules.specs.ChecksumLaws.{length-checked}
 use Rattle.rules.specs.Demand3.{Given}
 use Rattle.rules.specs.OrderLaws.{demand3}
-use Rattle.rules.specs.Demand2Laws.{bare-syn}
+use Rattle.rules.specs.Demand2Laws.{sent-comes, sent-goes, bare-syn}
 use Rattle.rules.specs.Inhabited.{entry4, entry5, ourTable, theirTable, theirEntry, theirShort, ourPair, theirPair, fromThem, ourState, theirs, segment}
 use Rattle.rules.specs.Inhabited.{signedBytes, shortBytes, Arrivals, all, Demand3NotEmpty, opener, synSegment, synBytes, BareSynNotEmpty}
 use Rattle.rules.specs.Inhabited.{unknownSyn, UnknownKeyNotEmpty}
@@ -89,13 +92,20 @@ module _ (e : Entry) (q : State) (s : List ℕ) (x : ℕ) (g : Signs e q s x) wh
   abbrev bytes : List ℕ
   bytes = signedSegment e q x s
 
-  long : length bytes ≡ length s + addedBytes e
-  unfolding signedSegment
-  long =
+  authenticated-long : length (authenticated e q x s) ≡ length s + addedBytes e
+  unfolding authenticated
+  authenticated-long =
       let zeros = signedWith (q .«send_id») (q .«ask_id») (replicate (e .secret .«mac_bytes») 0) s in
       let m = segmentMac (e .secret) (leaving (q .conn)) (extensionOf x) 20 zeros in
       let n = length-mac (e .secret) (leaving (q .conn)) (extensionOf x) 20 zeros (g .short) in
       length-signed s (g .fresh) 0 0 (q .«send_id») (q .«ask_id») m ∙ ap (λ (n : ℕ). length s + optionBytes n) n
+
+  long : length bytes ≡ length s + addedBytes e
+  unfolding signedSegment
+  long =
+      let l = authenticated-long in
+      let f = g .fresh .long in
+      length-checked _ _ (authenticated e q x s) (omega arith) ∙ l
 
   wrote : bytes ≡ take (length bytes) (output theirTable s out q)
   unfolding output
@@ -181,6 +191,16 @@ other-end sendId recvId =
       peer = refl;
     }
 
+-- what the other end wrote comes to us as it was written
+came : (e : Entry) (sendId recvId : ℕ) (g : Signs e (theirs sendId recvId) segment 4294967312)
+    → Delivered (remoteAddress ourPair) (localAddress ourPair) (bytes e (theirs sendId recvId) segment 4294967312 g)
+    (fromThem (bytes e (theirs sendId recvId) segment 4294967312 g))
+unfolding width
+came e sendId recvId g =
+    let q = theirs sendId recvId in
+    sent-comes q e 4294967312 (bytes e q segment 4294967312 g) (typed-theirs sendId recvId) (signing e q segment 4294967312 g) ourPair
+    (other-end sendId recvId .pair)
+
 arrivals : Arrivals
 unfolding optionsOf readFrom width
 arrivals =
@@ -197,7 +217,7 @@ arrivals =
             mirror = mirrored;
             bytes = signedBytes;
             signed = signing theirEntry (theirs 84 61) segment 4294967312 signs;
-            delivered = record { from = refl; to = refl; high = 18; low = 52; segment = refl };
+            delivered = came theirEntry 84 61 signs;
             asks = refl;
           };
       short-arrival =
@@ -212,7 +232,7 @@ arrivals =
             mirror = mirrored-short;
             bytes = shortBytes;
             signed = signing theirShort (theirs 94 71) segment 4294967312 signs-short;
-            delivered = record { from = refl; to = refl; high = 18; low = 52; segment = refl };
+            delivered = came theirShort 94 71 signs-short;
             asks = refl;
           };
       -- the same segment without TCP-AO verifies under no key
@@ -239,11 +259,13 @@ typed-opener : Typed opener
 typed-opener =
     record { sent = omega arith; seen = omega arith; isn = omega arith; peer = omega arith; local = refl; remote = refl; counts = refl }
 
-delivered : Delivered (172 ∷ 27 ∷ 28 ∷ 29 ∷ []) (10 ∷ 11 ∷ 12 ∷ 13 ∷ []) synBytes (fromThem synBytes)
-delivered = record { from = refl; to = refl; high = 18; low = 52; segment = refl }
+delivered : Delivered (localAddress (opener .conn .pair)) (remoteAddress (opener .conn .pair)) synBytes (fromThem synBytes)
+unfolding width
+delivered =
+    sent-goes opener theirEntry 4294967280 synBytes typed-opener (signing theirEntry opener synSegment 4294967280 signs-syn)
 
 held : Holds ourTable (arrivalPair (fromThem synBytes)) theirPair theirEntry
-unfolding signedSegment withOption inserted
+unfolding signedSegment authenticated withOption inserted withChecksum checksummed
 held = record { valid = valid; ours = entryOf (entry4 61 84); place = 0; among = among; mirror = mirrored }
 
 pub bare-syn-not-empty : BareSynNotEmpty
@@ -263,19 +285,19 @@ bare-syn-not-empty =
 -- An unknown KeyID.
 
 with-entry : UnknownKey ourTable unknownSyn
-unfolding optionsOf readFrom agree clearTo macBytes knownKind familyOf extra body width sideOf selectorOf macLength idsOf secretOf entryOf item items
+unfolding segmentSum onesSum pseudoHeader optionsOf readFrom agree clearTo macBytes knownKind familyOf extra body width sideOf selectorOf macLength idsOf secretOf entryOf item items
     entriesOf holds matches share clash numberOf clashing loadedFrom loaded found answers nobody
 with-entry =
-    record { addresses = refl; table = refl; size = refl; options = refl; one = refl; alone = refl; bare = refl; unknown = refl }
+    record { addresses = refl; table = refl; size = refl; sum = refl; options = refl; one = refl; alone = refl; bare = refl; unknown = refl }
 
 matching : anyEntry ourTable (arrivalPair unknownSyn) ≡ true
 unfolding agree knownKind familyOf extra body width sideOf selectorOf idsOf secretOf entryOf item items entriesOf holds matches answers anyOf
 matching = refl
 
 without : UnknownKey [] unknownSyn
-unfolding optionsOf readFrom width items entriesOf loadedFrom loaded found nobody
+unfolding segmentSum onesSum pseudoHeader optionsOf readFrom width items entriesOf loadedFrom loaded found nobody
 without =
-    record { addresses = refl; table = refl; size = refl; options = refl; one = refl; alone = refl; bare = refl; unknown = refl }
+    record { addresses = refl; table = refl; size = refl; sum = refl; options = refl; one = refl; alone = refl; bare = refl; unknown = refl }
 
 unmatching : anyEntry [] (arrivalPair unknownSyn) ≡ false
 unfolding items entriesOf anyOf

@@ -71,6 +71,7 @@ module _ (t : Tables) (l : Connection) (reference : ℕ) (a : Arrival) where
       let equal : macDiffers (recvEntry t (l .pair) (keyId (a .segment)) .entry) (arriving l (a .segment)) (placeOn l reference (sequence (a .segment))) (a .segment) ≡ false = search in
       record {
         sized = sized-of 20 (a .segment) (p .size);
+        summed = not-false _ (p .sum .0);
         formed = search;
         one = one;
         no-md5 = absent (ao (a .segment) .count) (md5 (a .segment) .count) (search) one;
@@ -84,7 +85,7 @@ module _ (t : Tables) (l : Connection) (reference : ℕ) (a : Arrival) where
         mac = eq-of-same _ _ (not-false _ equal);
       }
 
-  -- on a valid table and an allowed family: 19 where the addresses are not both 4 or both 16 bytes, else no drop but 20 to 29, and no pass
+  -- on a valid table and an allowed family: 19 where the addresses are not both 4 or both 16 bytes, else no drop but 20 to 29 and 40, and no pass
   module _ (valid : ValidTable t) (allowed : Allowed l) where
     unsized-19 : sized (a .source) (a .destination) ≡ false → check t l reference a ≡ Bad 19 0
     unfolding check

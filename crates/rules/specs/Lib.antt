@@ -1,5 +1,6 @@
 pub mod Position
 pub mod Mac
+pub mod Checksum
 pub mod Segment
 pub mod Connection
 pub mod Calls
@@ -21,6 +22,7 @@ pub mod Inhabited
 pub mod GroupLaws
 pub mod PositionLaws
 pub mod MacLaws
+pub mod ChecksumLaws
 pub mod JudgeLaws
 pub mod CountLaws
 pub mod RoundTripLaws

@@ -1,7 +1,7 @@
 -- The statements of Passes.antt, proved.
 use Prim.Native.Nat.{ℕ}
 use mathlib.Core.Path.{_≡_, refl, ap, _∙_}
-use mathlib.Core.Bool.{Bool, true, false, cond}
+use mathlib.Core.Bool.{Bool, true, false, cond, not}
 use native.Mathlib.Omega.{arith}
 use borrow.Author.Tests.{not-true}
 use Rattle.octets.specs.Tests.{any}
@@ -15,6 +15,8 @@ use Rattle.rules.specs.declared.Outcome.the-variants.{Good, Passed, Bad}
 use Rattle.rules.specs.declared.Verdict.the-variants.{Pass, Drop}
 use Rattle.rules.specs.Connection.{Arrival, arrivalPair}
 use Rattle.rules.specs.Calls.{refusal, verdictOf, judgeSynTests, checkSyn, judgedSyn, openedPassively}
+use Rattle.rules.specs.Checksum.{segmentSum}
+use Rattle.rules.specs.Sentences.{wrongSum}
 use Rattle.rules.specs.SentenceLaws.{syn-table}
 use Rattle.rules.specs.Passes.{JudgedUnmatched, OpenedUnmatched, UnknownKey, MatchedDropped, SettingDecides}
 
@@ -48,10 +50,12 @@ module _ (t : K.Tables) (a : Arrival) (strict : Bool) where
   -- no test before 26 applies
   module _ (u : UnknownKey t a) where
     unknown-is : checkSyn t a strict ≡ cond (K.anyEntry t (arrivalPair a)) (Bad 26 0) (cond strict (Bad 26 0) Passed)
+    unfolding segmentSum
     unknown-is =
+        let sum : wrongSum a ≡ false = ap not (u .sum) in
         let size : any (sizeFaults (a .segment)) ≡ false = not-true (any (sizeFaults (a .segment))) (u .size) in
         syn-table t a strict
-        ∙ rw (u .addresses, u .table, size, u .options, u .one, u .alone, u .bare, u .unknown)
+        ∙ rw (u .addresses, u .table, size, sum, u .options, u .one, u .alone, u .bare, u .unknown)
 
     matched-26 : K.anyEntry t (arrivalPair a) ≡ true → verdictOf (checkSyn t a strict) ≡ Drop 26
     matched-26 m = rw m at (ap verdictOf unknown-is)

@@ -7,6 +7,7 @@ use Rattle.wire.specs.Header.{wellSized}
 use Rattle.keys.specs.Table.{Tables, checked, recvEntry, anyEntry}
 use Rattle.rules.specs.declared.Verdict.the-variants.{Pass, Drop}
 use Rattle.rules.specs.Segment.{malformed, ao, md5, keyId, isBareSyn}
+use Rattle.rules.specs.Checksum.{sumsRight}
 use Rattle.rules.specs.Connection.{Arrival, sized, arrivalPair}
 use Rattle.rules.specs.Calls.{isRefused, judgedSyn, openedPassively}
 
@@ -23,6 +24,7 @@ pub record UnknownKey (t : Tables) (a : Arrival) : Type 0 where
   pub addresses : sized (a .source) (a .destination) ≡ true
   pub table : isRefused (checked t) ≡ false
   pub size : wellSized (a .segment) ≡ true
+  pub sum : sumsRight (a .source) (a .destination) (a .segment) ≡ true
   pub options : malformed (a .segment) ≡ false
   pub one : ao (a .segment) .count ≡ 1
   pub alone : md5 (a .segment) .count ≡ 0

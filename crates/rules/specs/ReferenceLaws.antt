@@ -24,17 +24,17 @@ use Rattle.octets.specs.Tests.{first}
 use Rattle.octets.specs.TestLaws.{first-none, none-applied}
 use Rattle.rules.specs.Position.{position}
 use Rattle.rules.specs.Segment.{keyId, rnextKeyId}
-use Rattle.rules.specs.Connection.{Arrival, pairOf, arrivalPair, isOpen, placeOn, located, value, bump, stop, countAt, countDrop}
+use Rattle.rules.specs.Connection.{Arrival, pairOf, arrivalPair, isOpen, placeOn, located, value, bump, stop, slot, countAt, countDrop}
 use Rattle.rules.specs.Connection.{nextKey, empty, withDrop, withAsked, opening}
 use Rattle.rules.specs.Calls.{refusal, check, checkSyn, judgeGroups, judgeSynTests, afterJudging, judged, openedPassively, settledBy}
 use Rattle.rules.specs.Calls.{unrefused, openTests, openedActively, askTests, asked, outgoing, checkSign, signedBy, signed}
 use Rattle.rules.specs.JudgeLaws.{none-of}
 use Rattle.rules.specs.SigningLaws.{signs-good, signed-good}
-use Rattle.rules.specs.CountLaws.{slot-is, slot-none}
+use Rattle.rules.specs.CountLaws.{slot-is, slot-40, slot-none}
 use Rattle.rules.specs.GroupLaws.{first-clear, unknown-passes}
 use Rattle.rules.specs.GivenNumberLaws.{ask-not-passed, open-not-passed}
 use Rattle.rules.specs.References.{countUp, zeroCounts, passivelyOpened, SignedOpen, SignedOpening, OpensActively, OpensPassively}
-use Rattle.rules.specs.References.{SynAckOpens, AcceptedOpen, DropCounted, DropUncounted, DropOpening, SigningRefused, Asks}
+use Rattle.rules.specs.References.{SynAckOpens, AcceptedOpen, DropCounted, Drop40Counted, DropUncounted, DropOpening, SigningRefused, Asks}
 use Rattle.rules.specs.References.{AskingRefused, droppedTo}
 
 -- a place that is there
@@ -224,22 +224,30 @@ after-drop t a q n v = go (check t (q .conn) (q .seen) a) refl
     go Passed f = let z : _≡_ {A = ℕ} 0 1 = cc (rw f at v) in absurd (omega arith)
     go (Bad m i) f = let z : m ≡ n = cc (rw f at v) in rw f (ap (λ (k : ℕ). cond (isOpen (q .conn)) (withDrop k q) q) z)
 
-pub drop-counted : DropCounted
+-- a drop whose number has the place i
+counted-at : (t : Tables) (a : Arrival) (q : State) (n i : ℕ) → slot n ≡ At i → isOpen (q .conn) ≡ true
+    → getD (q .drops) i 0 < 18446744073709551616 → judged t a q .verdict ≡ Drop n
+    → judged t a q .state ≡ droppedTo (set (q .drops) i (countUp (getD (q .drops) i 0))) q
 unfolding countDrop
-drop-counted t a q i opens h l v =
-    (rw opens at (after-drop t a q (20 + i) v))
-    ∙ ap (λ (p : Place). droppedTo (countAt p (q .drops)) q) (slot-is (20 + i) (omega arith) (omega arith) ∙ ap At it)
+counted-at t a q n i place opens l v =
+    (rw opens at (after-drop t a q n v))
+    ∙ ap (λ (p : Place). droppedTo (countAt p (q .drops)) q) place
     ∙ ap (λ (n : ℕ). droppedTo (set (q .drops) i n) q) (bump-one (getD (q .drops) i 0) l)
-  where
-    it : 20 + i - 20 ≡ i
-    it = omega arith
+
+pub drop-counted : DropCounted
+drop-counted t a q i opens h l v =
+    let it : 20 + i - 20 ≡ i = omega arith in
+    counted-at t a q (20 + i) i (slot-is (20 + i) (omega arith) (omega arith) ∙ ap At it) opens l v
+
+pub drop-40-counted : Drop40Counted
+drop-40-counted t a q opens l v = counted-at t a q 40 10 slot-40 opens l v
 
 pub drop-uncounted : DropUncounted
 unfolding countDrop
 drop-uncounted t a q n h v = go (isOpen (q .conn)) refl
   where
     go : (b : Bool) → isOpen (q .conn) ≡ b → judged t a q .state ≡ q
-    go true o = (rw o at (after-drop t a q n v)) ∙ ap (λ (p : Place). droppedTo (countAt p (q .drops)) q) (slot-none n (inl h))
+    go true o = (rw o at (after-drop t a q n v)) ∙ ap (λ (p : Place). droppedTo (countAt p (q .drops)) q) (slot-none n (inl h) (λ e. omega arith))
     go false o = rw o at (after-drop t a q n v)
 
 pub drop-opening : DropOpening

@@ -18,9 +18,9 @@ use Rattle.rules.specs.Segment.{keyId, rnextKeyId}
 use Rattle.rules.specs.Connection.{Arrival, pairOf, arrivalPair, isOpen, nextKey}
 use Rattle.rules.specs.Calls.{judged, openedPassively, openedActively, asked, signed}
 
--- ten counts, of the drops 20 to 29: "All are 0 at opening"
+-- eleven counts, of the drops 20 to 29 and 40: "All are 0 at opening"
 abbrev pub zeroCounts : List ℕ
-zeroCounts = 0 ∷ 0 ∷ 0 ∷ 0 ∷ 0 ∷ 0 ∷ 0 ∷ 0 ∷ 0 ∷ 0 ∷ []
+zeroCounts = 0 ∷ 0 ∷ 0 ∷ 0 ∷ 0 ∷ 0 ∷ 0 ∷ 0 ∷ 0 ∷ 0 ∷ 0 ∷ []
 
 -- "Counts of acceptances and of each drop stop at 2^64-1."
 abbrev pub countUp : ℕ → ℕ
@@ -142,8 +142,14 @@ DropCounted = (t : Tables) (a : Arrival) (q : State) (i : ℕ) → isOpen (q .co
     → judged t a q .verdict ≡ Drop (20 + i)
     → judged t a q .state ≡ droppedTo (set (q .drops) i (countUp (getD (q .drops) i 0))) q
 
--- "A refusal leaves outputs and state alike": a drop below 20 (none above 29 is given: RefusedAmong of GivenNumbers.antt), and every
--- drop while opening
+-- Ticket 5: 40 stands behind 29
+abbrev pub Drop40Counted : Type 0
+Drop40Counted = (t : Tables) (a : Arrival) (q : State) → isOpen (q .conn) ≡ true → getD (q .drops) 10 0 < 18446744073709551616
+    → judged t a q .verdict ≡ Drop 40
+    → judged t a q .state ≡ droppedTo (set (q .drops) 10 (countUp (getD (q .drops) 10 0))) q
+
+-- "A refusal leaves outputs and state alike": a drop below 20 (of those above 29 only 40 is given: RefusedAmong of GivenNumbers.antt), and
+-- every drop while opening
 abbrev pub DropUncounted : Type 0
 DropUncounted = (t : Tables) (a : Arrival) (q : State) (n : ℕ) → n < 20 → judged t a q .verdict ≡ Drop n → judged t a q .state ≡ q
 

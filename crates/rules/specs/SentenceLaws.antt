@@ -9,6 +9,7 @@ use lib.Dec.{eqb, ltb}
 use borrow.Author.Tests.{lt-ltb, eq-eqb, eqb-true}
 use Rattle.octets.specs.Tests.{any}
 use Rattle.wire.specs.Header.{sourcePort, destinationPort, sequence, dataOffset, headerEnd, syn}
+use Rattle.checksum.specs.Checksum.{onesSum, checksumOf, checksummed}
 use Rattle.mac.specs.Cmac.{cmac}
 use Rattle.keys.specs.Algorithm.{outputBits}
 use Rattle.keys.specs.declared.entry.Pair.{Pair}
@@ -22,6 +23,7 @@ use Rattle.octets.specs.Tests.{Test, tests, first}
 use Rattle.octets.specs.TestLaws.{first-append}
 use Rattle.rules.specs.Mac.{context, derivationInput, aesKey, applied, trafficKey, pseudoHeader, coveredHeader, front, message}
 use Rattle.rules.specs.Mac.{segmentMac}
+use Rattle.rules.specs.Checksum.{segmentSum, withChecksum}
 use Rattle.rules.specs.Segment.{malformed, ao, md5, keyId, rnextKeyId, isBareSyn, inserted, withOption, optionBytes}
 use Rattle.rules.specs.Connection.{sized, arrivalPair, isOpen, placeOn, located, value}
 use Rattle.rules.specs.Calls.{check, synUnknown, checkSyn, unrefused, checkSign, outgoing}
@@ -31,7 +33,7 @@ use Rattle.rules.specs.RoundTripLaws.{whole-words}
 use Rattle.rules.specs.GrowthLaws.{above-15}
 use Rattle.rules.specs.Sentences.{NumberRow, row, firstOf, badSize, judgeRows, synRows, signRows, entriesRow, JudgeTable, SynTable, SignTable}
 use Rattle.rules.specs.Sentences.{OpenTable, AskTable, EntryOrder, AnswerNumbers, CountsStop, Context, Contexts, TrafficKeys}
-use Rattle.rules.specs.Sentences.{PseudoHeaders, MessageOrder, Lengths, SegmentMacs, SignedExample, PaddedExample, Covered, optionWords}
+use Rattle.rules.specs.Sentences.{PseudoHeaders, MessageOrder, Lengths, SegmentMacs, SignedExample, CheckedExamples, PaddedExample, Covered, optionWords}
 
 -- the tests of rows, one behind another
 abbrev flat : List NumberRow → List (Test Outcome)
@@ -50,7 +52,7 @@ first-flat (r ∷ l) o =
     ∙ ap (cond (any (r .tests)) (r .gives)) (first-flat l o)
 
 pub judge-table : JudgeTable
-unfolding check
+unfolding check segmentSum
 judge-table t l reference a =
     let x = placeOn l reference (sequence (a .segment)) in
     first-flat (judgeRows t l (K.recvEntry t (l .pair) (keyId (a .segment))) x a) (Good (value x) (rnextKeyId (a .segment)))
@@ -64,7 +66,7 @@ unknown-row t p strict = go (K.anyEntry t p) refl
     go false e = cc
 
 pub syn-table : SynTable
-unfolding checkSyn
+unfolding checkSyn segmentSum
 syn-table t a strict =
     rw (unknown-row t (arrivalPair a) strict)
     (first-flat (synRows t strict (K.recvEntry t (arrivalPair a) (keyId (a .segment))) a)
@@ -187,6 +189,10 @@ segment-macs =
       cmac = λ s f e at n segment a m. rw (a, m);
       hmac-256 = λ s f e at n segment a m. rw (a, m);
     }
+
+pub checked-examples : CheckedExamples
+unfolding withChecksum checksummed checksumOf onesSum pseudoHeader
+checked-examples = record { ipv4 = refl; ipv6 = refl }
 
 pub padded-example : PaddedExample
 unfolding withOption inserted

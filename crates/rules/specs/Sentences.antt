@@ -26,6 +26,9 @@ use Rattle.rules.specs.declared.Verdict.the-variants.{Accept, Pass, Drop
 use Rattle.rules.specs.declared.Connection.{Connection}
 use Rattle.rules.specs.declared.State.{State}
 use Rattle.octets.specs.Tests.{first}
+use Rattle.checksum.specs.Checksum.{onesSum}
+use Rattle.rules.specs.Checksum.{withChecksum}
+use Rattle.rules.specs.Ends.{rechecked}
 use Rattle.rules.specs.Mac.{Flow, context, trafficKey, pseudoHeader, coveredHeader, message, segmentMac}
 use Rattle.rules.specs.Segment.{malformed, ao, md5, aoAt, keyId, rnextKeyId, macIn, isBareSyn, signedWith}
 use Rattle.rules.specs.Connection.{Arrival, sized, arrivalPair, localAddress, remoteAddress, isOpen, arriving, leaving, arrivingSyn}
@@ -60,12 +63,17 @@ abbrev pub wrongMac : Entry → Flow → Place → List ℕ → Bool
 wrongMac e f x s = not (sameBytes (macIn s) (segmentMac (e .secret) f (extensionOf (value x)) (aoAt s) s))
 
 -- Judging with a state, its connection l.
+-- 40, Ticket 5: a "one's complement sum, pseudo-header and checksum included," that "is not FFFF"
+abbrev pub wrongSum : Arrival → Bool
+wrongSum a = not (eqb (onesSum (pseudoHeader (a .source) (a .destination) (length (a .segment)) ++ a .segment)) 65535)
+
 abbrev pub judgeRows : K.Tables → Connection → Found → Place → Arrival → List NumberRow
 judgeRows t l found x a =
     row 18 (not (isFamily (l .pair .family)) ∷ [])
     ∷ row 19 (not (sized (a .source) (a .destination)) ∷ [])
     ∷ entriesRow t
     ∷ row 20 (badSize (a .segment))
+    ∷ row 40 (wrongSum a ∷ [])
     ∷ row 21 (malformed (a .segment) ∷ [])
     ∷ row 22 (ltb 1 (ao (a .segment) .count) ∷ (ltb 0 (ao (a .segment) .count) && ltb 0 (md5 (a .segment) .count)) ∷ [])
     ∷ row 23
@@ -95,6 +103,7 @@ synRows t strict found a =
     row 19 (not (sized (a .source) (a .destination)) ∷ [])
     ∷ entriesRow t
     ∷ row 20 (badSize (a .segment))
+    ∷ row 40 (wrongSum a ∷ [])
     ∷ row 21 (malformed (a .segment) ∷ [])
     ∷ row 22 (ltb 1 (ao (a .segment) .count) ∷ (ltb 0 (ao (a .segment) .count) && ltb 0 (md5 (a .segment) .count)) ∷ [])
     ∷ row 24 (not (isBareSyn (a .segment)) ∷ [])
@@ -286,6 +295,12 @@ signedBytes =
 
 abbrev pub SignedExample : Type 0
 SignedExample = signedWith 84 61 mac unsigned ≡ signedBytes
+
+-- Ticket 5: "the right TCP checksum over the pseudo-header, for both families and odd lengths": of these 43 bytes
+pub record CheckedExamples : Type 0 where
+  pub ipv4 : withChecksum (172 ∷ 27 ∷ 28 ∷ 29 ∷ []) (10 ∷ 11 ∷ 12 ∷ 13 ∷ []) signedBytes ≡ rechecked 251 50 signedBytes
+  pub ipv6 : withChecksum ((32 ∷ 1 ∷ []) ++ replicate 13 0 ++ (1 ∷ [])) ((32 ∷ 1 ∷ []) ++ replicate 13 0 ++ (2 ∷ [])) signedBytes
+      ≡ rechecked 153 126 signedBytes
 
 -- Ticket 4: "The signer pads the option, directly behind it, with kind 1 bytes to the next multiple of four", here of a MAC of five bytes;
 -- "the data offset rises by the words of the padded option"

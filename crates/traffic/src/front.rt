@@ -15,14 +15,14 @@ use crate::flow::Flow;
 use keys::entry::Secret;
 
 // RFC 9293 §3.1: zero, protocol 6, length
-fn protocol_and_length(len: usize) -> [u8; 4]
+pub(crate) fn protocol_and_length(len: usize) -> [u8; 4]
     ensures { λ r. ⌜ r ≡ (0 ∷ 6 ∷ []) ++ bytes16 len ⌝ }
 {
     [0, 6, ((len >> 8) % 256) as u8, (len % 256) as u8]
 }
 
 // RFC 8200 §8.1: length, zero, next header 6
-fn length_and_next_header(len: usize) -> [u8; 8]
+pub(crate) fn length_and_next_header(len: usize) -> [u8; 8]
     ensures { λ r. ⌜ r ≡ bytes32 len ++ (0 ∷ 0 ∷ 0 ∷ 6 ∷ []) ⌝ }
 {
     [

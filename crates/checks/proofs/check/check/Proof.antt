@@ -1,11 +1,8 @@
 -- Begin, data and end are the whole.
 use borrow.Author.Needs.{needs}
-use Rattle.checks.specs.BeginLaws.{judge-ends, waits}
+use Rattle.checks.specs.BeginLaws.{judge-ends}
 use Rattle.checks.proofs.check.check.Statement.{statement}
 use Rattle.checks.proofs.check.check.Tie as tie
-
-finished-requires : tie.Need-finished-requires
-finished-requires c κs = (c .begin .ensures .short, waits (c .begin .ensures))
 
 returns : tie.Need-returns
 returns c =
@@ -13,4 +10,4 @@ returns c =
     judge-ends (a .table .now) (a .conn) (a .reference) (record { source = a .source .now; destination = a .destination .now; segment = a .segment .now }) (c .before .begin .result) (c .before .begin .ensures) (c .finished .ensures)
 
 pub check-spec : {M : Type 1} → statement M
-check-spec = tie.close (tie.spec (λ c κs. search needs) finished-requires returns)
+check-spec = tie.close (tie.spec (λ c κs. search needs) (λ c κs. search needs) returns)

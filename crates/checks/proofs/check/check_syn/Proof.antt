@@ -1,11 +1,8 @@
 -- Begin, data and end are the whole.
 use borrow.Author.Needs.{needs}
-use Rattle.checks.specs.BeginLaws.{syn-ends, waits}
+use Rattle.checks.specs.BeginLaws.{syn-ends}
 use Rattle.checks.proofs.check.check_syn.Statement.{statement}
 use Rattle.checks.proofs.check.check_syn.Tie as tie
-
-finished-requires : tie.Need-finished-requires
-finished-requires c κs = (c .begin-syn .ensures .short, waits (c .begin-syn .ensures))
 
 returns : tie.Need-returns
 returns c =
@@ -13,4 +10,4 @@ returns c =
     syn-ends (a .table .now) (record { source = a .source .now; destination = a .destination .now; segment = a .segment .now }) (a .strict) (c .before .begin-syn .result) (c .before .begin-syn .ensures) (c .finished .ensures)
 
 pub check-syn-spec : {M : Type 1} → statement M
-check-syn-spec = tie.close (tie.spec (λ c κs. search needs) finished-requires returns)
+check-syn-spec = tie.close (tie.spec (λ c κs. search needs) (λ c κs. search needs) returns)

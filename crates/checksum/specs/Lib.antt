@@ -1,0 +1,4 @@
+pub mod Checksum
+pub mod Running
+pub mod FoldLaws
+pub mod ChecksumLaws
