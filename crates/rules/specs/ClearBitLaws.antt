@@ -10,7 +10,8 @@ use Rattle.keys.specs.Table.{Tables}
 use Rattle.rules.specs.declared.Outcome.{Outcome}
 use Rattle.rules.specs.declared.Outcome.the-variants.{Good, Passed, Bad}
 use Rattle.rules.specs.declared.State.{State}
-use Rattle.rules.specs.Mac.{Flow, Hidden, leavingHidden, arrivingHidden, front, message, segmentMac}
+use Rattle.rules.specs.declared.Hidden.{Hidden}
+use Rattle.rules.specs.Mac.{Flow, leavingHidden, arrivingHidden, front, message, segmentMac}
 use Rattle.rules.specs.Checksum.{withChecksum}
 use Rattle.rules.specs.Segment.{signedWith}
 use Rattle.rules.specs.Connection.{localAddress, remoteAddress, leaving, extensionOf}

@@ -17,7 +17,8 @@ use Rattle.keys.specs.EntryLaws.{width-le}
 use Rattle.keys.specs.Table.{Tables}
 use Rattle.rules.specs.declared.Outcome.{Outcome}
 use Rattle.rules.specs.declared.State.{State}
-use Rattle.rules.specs.Mac.{Flow, Hidden, leavingHidden, blanked, applied, trafficKey, message, segmentMac}
+use Rattle.rules.specs.declared.Hidden.{Hidden}
+use Rattle.rules.specs.Mac.{Flow, leavingHidden, blanked, applied, trafficKey, message, segmentMac}
 use Rattle.rules.specs.MacLaws.{length-mac, Agree, mac-agree, Alike, blanked-alike}
 use Rattle.rules.specs.Segment.{optionBytes, signedWith}
 use Rattle.rules.specs.Checksum.{sumsRight, withChecksum}

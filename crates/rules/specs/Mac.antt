@@ -13,6 +13,7 @@ use Rattle.wire.specs.Header.{headerEnd}
 use Rattle.keys.specs.declared.entry.Secret.{Secret}
 use Rattle.keys.specs.Algorithm.{outputBits}
 use Rattle.keys.specs.Entry.{keyOf, allOptions, localHidden, remoteHidden}
+use Rattle.rules.specs.declared.Hidden.{Hidden}
 
 -- a segment's two ends: "'source' is whoever sent the segment"
 pub record Flow : Type 0 where
@@ -24,12 +25,8 @@ pub record Flow : Type 0 where
   pub destinationIsn : ℕ
 
 -- Document 02, Ticket 10: "flags 2 for the local and 4 for the remote side, under which that side's address and port count as zero in the
--- traffic key context and in the MAC's pseudo-header and header". Of which sides of a segment this holds:
-pub record Hidden : Type 0 where
-  pub source : Bool
-  pub destination : Bool
-
--- A segment that we sign leaves our local side; one that arrives comes from the remote side.
+-- traffic key context and in the MAC's pseudo-header and header". Of which sides of a segment this holds is `Hidden`: one that we sign
+-- leaves our local side; one that arrives comes from the remote side.
 abbrev pub leavingHidden : Secret → Hidden
 leavingHidden s = record { source = localHidden s; destination = remoteHidden s }
 

@@ -16,7 +16,8 @@ use Rattle.wire.specs.Header.{headerEnd}
 use Rattle.keys.specs.declared.entry.Secret.{Secret}
 use Rattle.keys.specs.Algorithm.{outputBits}
 use Rattle.keys.specs.Entry.{keyOf}
-use Rattle.rules.specs.Mac.{Flow, Hidden, addressUnder, portUnder, blanked, context, derivationInput, aesKey, derivationKey, applied}
+use Rattle.rules.specs.declared.Hidden.{Hidden}
+use Rattle.rules.specs.Mac.{Flow, addressUnder, portUnder, blanked, context, derivationInput, aesKey, derivationKey, applied}
 use Rattle.rules.specs.Mac.{trafficKey, pseudoHeader, portsBlanked, coveredHeader, front, message, segmentMac}
 
 -- every algorithm gives at least 16 bytes

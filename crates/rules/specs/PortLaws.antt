@@ -7,7 +7,7 @@ use native.Mathlib.Omega.{arith}
 use lib.ListN.{length, getD}
 use Rattle.octets.specs.Each.{Octets}
 use Rattle.wire.specs.Header.{sourcePort, destinationPort}
-use Rattle.rules.specs.Mac.{Hidden}
+use Rattle.rules.specs.declared.Hidden.{Hidden}
 use Rattle.rules.specs.MacLaws.{port-under}
 use Rattle.rules.specs.Ends.{rechecked, withPorts}
 

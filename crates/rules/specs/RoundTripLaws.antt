@@ -16,7 +16,8 @@ use Rattle.octets.specs.Octets.{bytes32}
 use Rattle.octets.specs.Each.{Octets}
 use Rattle.keys.specs.declared.entry.Secret.{Secret}
 use Rattle.keys.specs.Entry.{allOptions}
-use Rattle.rules.specs.Mac.{Flow, Hidden, pseudoHeader, blankIf, portsBlanked, zeroed, coveredHeader, front, message}
+use Rattle.rules.specs.declared.Hidden.{Hidden}
+use Rattle.rules.specs.Mac.{Flow, pseudoHeader, blankIf, portsBlanked, zeroed, coveredHeader, front, message}
 use Rattle.rules.specs.Segment.{malformed, ao, md5, keyId, rnextKeyId, macIn, inserted, withOption, padding, optionOf, optionBytes, signedWith, Whole}
 use Rattle.rules.specs.Ends.{rechecked, withPorts}
 use Rattle.rules.specs.PortLaws.{Ports, portsOf, written, unhidden, unhidden-same}

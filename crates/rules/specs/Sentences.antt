@@ -29,7 +29,8 @@ use Rattle.octets.specs.Tests.{first}
 use Rattle.checksum.specs.Checksum.{onesSum}
 use Rattle.rules.specs.Checksum.{withChecksum}
 use Rattle.rules.specs.Ends.{rechecked}
-use Rattle.rules.specs.Mac.{Flow, Hidden, blanked, context, trafficKey, pseudoHeader, portsBlanked, coveredHeader, message, segmentMac}
+use Rattle.rules.specs.declared.Hidden.{Hidden}
+use Rattle.rules.specs.Mac.{Flow, blanked, context, trafficKey, pseudoHeader, portsBlanked, coveredHeader, message, segmentMac}
 use Rattle.rules.specs.Segment.{malformed, ao, md5, aoAt, keyId, rnextKeyId, macIn, isBareSyn, signedWith}
 use Rattle.rules.specs.Connection.{Arrival, sized, arrivalPair, localAddress, remoteAddress, isOpen, arriving, leaving, arrivingSyn}
 use Rattle.rules.specs.Connection.{placeOn, located, value, extensionOf, bump}
