@@ -1,6 +1,6 @@
 -- What is known behind each group of tests, and the arriving segment's pair, flow and entry. Assumes nothing.
 use Prim.Native.Nat.{ℕ, _-_, _≤_}
-use mathlib.Core.Path.{_≡_, refl, transport, _∙_}
+use mathlib.Core.Path.{_≡_, refl, transport}
 use mathlib.Core.Bool.{Bool, true, false, cond, _&&_}
 use mathlib.Core.List.{List, _++_}
 use mathlib.Core.Logic.{_⊎_, inl, inr, ⊎-elim}
@@ -57,7 +57,8 @@ module _ (t : Tables) (a b s : List ℕ) where
     pub early-left : (isRefused (checked t) ≡ false) × (wellSized s ≡ true)
     early-left = (input-valid (parts .0), sized-of 20 s (none-split (lengthTests 20 s) (sumTests (arrivalOf a b s)) (parts .1) .0))
 
-  pub state-left : (l : Connection) → NoneApplies (stateTests t a b l ++ intactTests (arrivalOf a b s)) → NoneApplies (inputTests t a b ++ intactTests (arrivalOf a b s))
+  pub state-left : (l : Connection) → NoneApplies (stateTests t a b l ++ intactTests (arrivalOf a b s))
+      → NoneApplies (inputTests t a b ++ intactTests (arrivalOf a b s))
   state-left l n = none-split (familyTests l) (inputTests t a b ++ intactTests (arrivalOf a b s)) n .1
 
 -- the entry for a KeyID: in a table that is not refused its MAC has 12 bytes, and where none is found, 0

@@ -36,7 +36,8 @@ module _ (n : ℕ) (s : List ℕ) (b : List (Test Outcome)) (o : Outcome) where
 -- 40 by the sum that was computed
 module _ (a : Arrival) {n : ℕ} (is : n ≡ segmentSum (a .source) (a .destination) (a .segment)) where
   pub wrong-sum : (n ≡ 65535 → ⊥) → refuse 40 ≡ first (sumTests a) unrefused
-  wrong-sum h = yes (refuse 40) unrefused (ap not (ne-eqb (segmentSum (a .source) (a .destination) (a .segment)) 65535 (λ e. h (is ∙ e)))) refl
+  wrong-sum h =
+      yes (refuse 40) unrefused (ap not (ne-eqb (segmentSum (a .source) (a .destination) (a .segment)) 65535 (λ e. h (is ∙ e)))) refl
 
   pub right-sum : n ≡ 65535 → unrefused ≡ first (sumTests a) unrefused
   right-sum h = no (refuse 40) unrefused (ap not (eq-eqb (segmentSum (a .source) (a .destination) (a .segment)) 65535 (sym is ∙ h))) refl

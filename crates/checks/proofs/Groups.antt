@@ -1,27 +1,30 @@
 -- Judging as the code begins it, from seam to seam. Assumes nothing.
 use Prim.Native.Nat.{ℕ}
-use mathlib.Core.Path.{_≡_, sym, ap, subst, transport, _∙_}
+use mathlib.Core.Path.{_≡_, refl, sym, ap, subst, transport, _∙_}
 use mathlib.Core.Bool.{Bool}
-use mathlib.Core.List.{List, [], _∷_}
-use Rattle.wire.specs.Header.{sequence}
+use mathlib.Core.List.{List, [], _∷_, _++_}
+use lib.ListN.{length}
+use Rattle.wire.specs.Header.{sequence, headerOf}
+use Rattle.wire.specs.declared.header.Header.{Header}
 use Rattle.keys.specs.declared.entry.Entry.{Entry}
 use Rattle.keys.specs.declared.entry.Pair.{Pair}
 use Rattle.keys.specs.Table.{Tables, recvEntry}
 use Rattle.rules.specs.declared.Connection.{Connection}
 use Rattle.rules.specs.declared.Place.the-variants.{At}
 use Rattle.rules.specs.declared.Outcome.{Outcome}
+use Rattle.rules.specs.declared.Outcome.the-variants.{Good}
 use Rattle.octets.specs.Tests.{first}
 use Rattle.octets.specs.TestLaws.{NoneApplies, first-none, first-append, first-joined}
 use Rattle.rules.specs.Mac.{Flow}
 use Rattle.rules.specs.Segment.{keyId}
 use Rattle.rules.specs.Connection.{Arrival, arrivalPair, arriving, arrivingSyn, placeOn}
 use Rattle.rules.specs.Calls.{unrefused, Groups, judgeGroups, synGroups}
-use Rattle.checks.specs.Groups.{early, formed, untilMac, goodAt, arrivingOn}
-use Rattle.checks.specs.GroupLaws.{Else, else-final, stop}
+use Rattle.checks.specs.Groups.{optionTests, headerArrivalTests, headerSynTests, early, formed, untilMac, goodAt, arrivingOn}
+use Rattle.checks.specs.GroupLaws.{Else, else-final, stop, passed}
 use Rattle.checks.specs.Begin.{Begins, Judges, JudgesSyn, Keyed, KeyedSyn}
 use Rattle.checks.specs.BeginLaws.{nothing-begins}
 use Rattle.checks.specs.declared.begun.Begun.{Begun}
-use Rattle.checks.proofs.Checks.{early-input, flow-back}
+use Rattle.checks.proofs.Checks.{early-final, early-syn-final, early-input, flow-back}
 
 -- the groups, cut at the code's seams
 module _ (g : Groups) (o : Outcome) where
@@ -45,47 +48,75 @@ module _ (g : Groups) (o : Outcome) where
       at-key m q = subst (λ (u : Outcome). Begins u e f s b) (sym (first-none (formed g) _ m) ∙ past-early) q
 
 -- with a state
-module _ (t : Tables) (l : Connection) (reference : ℕ) (a : Arrival) (b : Begun) where
+module _ (t : Tables) (l : Connection) (reference : ℕ) (a : Arrival) where
   abbrev groups : Groups
   groups = judgeGroups t l reference a
 
-  abbrev answer : Outcome
-  answer = goodAt (placeOn l reference (sequence (a .segment))) (a .segment)
+  -- a Good leaves none of the tests before it
+  pub early-none : {x : Outcome} → x ≡ first (early groups) unrefused → {p r : ℕ} → x ≡ Good p r → NoneApplies (early groups)
+  early-none gave good = passed (early groups) gave (early-final t (a .source) (a .destination) (a .segment) l) good
 
-  abbrev entry : Entry
-  entry = recvEntry t (l .pair) (keyId (a .segment)) .entry
+  pub formed-none : {x : Outcome} → x ≡ first (formed groups) unrefused → {p r : ℕ} → x ≡ Good p r → NoneApplies (formed groups)
+  formed-none gave good = passed (formed groups) gave refl good
 
-  pub begin-early : {x : Outcome} → b .outcome ≡ x → x ≡ first (early groups) unrefused → Else x → Judges t l reference a b
-  begin-early w g e = at-early groups answer entry (arriving l (a .segment)) (a .segment) b w g e
+  -- the code asks the header that it read
+  pub formed-by : {h : Header} {x : Outcome} → h ≡ headerOf (length (a .segment)) (a .segment)
+      → x ≡ first (optionTests (h .options) ++ headerArrivalTests l (a .source) (a .destination) h) unrefused
+      → x ≡ first (formed groups) unrefused
+  formed-by e gave =
+      gave ∙ ap (λ (h : Header). first (optionTests (h .options) ++ headerArrivalTests l (a .source) (a .destination) h) unrefused) e
 
-  module _ (n : NoneApplies (early groups)) where
-    pub begin-formed : {x : Outcome} → b .outcome ≡ x → x ≡ first (formed groups) unrefused → Else x → Judges t l reference a b
-    begin-formed w g e = at-formed groups answer entry (arriving l (a .segment)) (a .segment) b n w g e
+  module _ (b : Begun) where
+    abbrev answer : Outcome
+    answer = goodAt (placeOn l reference (sequence (a .segment))) (a .segment)
 
-    pub begin-keyed : NoneApplies (formed groups) → Keyed t l reference (a .segment) b → Judges t l reference a b
-    begin-keyed m q = at-key groups answer entry (arriving l (a .segment)) (a .segment) b n m q
+    abbrev entry : Entry
+    entry = recvEntry t (l .pair) (keyId (a .segment)) .entry
+
+    pub begin-early : {x : Outcome} → b .outcome ≡ x → x ≡ first (early groups) unrefused → Else x → Judges t l reference a b
+    begin-early w g e = at-early groups answer entry (arriving l (a .segment)) (a .segment) b w g e
+
+    module _ (n : NoneApplies (early groups)) where
+      pub begin-formed : {x : Outcome} → b .outcome ≡ x → x ≡ first (formed groups) unrefused → Else x → Judges t l reference a b
+      begin-formed w g e = at-formed groups answer entry (arriving l (a .segment)) (a .segment) b n w g e
+
+      pub begin-keyed : NoneApplies (formed groups) → Keyed t l reference (a .segment) b → Judges t l reference a b
+      begin-keyed m q = at-key groups answer entry (arriving l (a .segment)) (a .segment) b n m q
 
 -- without one
-module _ (t : Tables) (a : Arrival) (strict : Bool) (b : Begun) where
+module _ (t : Tables) (a : Arrival) (strict : Bool) where
   abbrev synGroup : Groups
   synGroup = synGroups t a strict
 
-  abbrev synAnswer : Outcome
-  synAnswer = goodAt (At (sequence (a .segment))) (a .segment)
+  pub early-syn-none : {x : Outcome} → x ≡ first (early synGroup) unrefused → {p r : ℕ} → x ≡ Good p r → NoneApplies (early synGroup)
+  early-syn-none gave good = passed (early synGroup) gave (early-syn-final t (a .source) (a .destination) (a .segment)) good
 
-  abbrev synEntry : Entry
-  synEntry = recvEntry t (arrivalPair a) (keyId (a .segment)) .entry
+  pub formed-syn-none : {x : Outcome} → x ≡ first (formed synGroup) unrefused → {p r : ℕ} → x ≡ Good p r → NoneApplies (formed synGroup)
+  formed-syn-none gave good = passed (formed synGroup) gave refl good
 
-  pub syn-early : {x : Outcome} → b .outcome ≡ x → x ≡ first (early synGroup) unrefused → Else x → JudgesSyn t a strict b
-  syn-early w g e = at-early synGroup synAnswer synEntry (arrivingSyn a) (a .segment) b w g e
+  pub formed-syn-by : {h : Header} {x : Outcome} → h ≡ headerOf (length (a .segment)) (a .segment)
+      → x ≡ first (optionTests (h .options) ++ headerSynTests h) unrefused → x ≡ first (formed synGroup) unrefused
+  formed-syn-by e gave = gave ∙ ap (λ (h : Header). first (optionTests (h .options) ++ headerSynTests h) unrefused) e
 
-  module _ (n : NoneApplies (early synGroup)) where
-    pub syn-formed : {x : Outcome} → b .outcome ≡ x → x ≡ first (formed synGroup) unrefused → Else x → JudgesSyn t a strict b
-    syn-formed w g e = at-formed synGroup synAnswer synEntry (arrivingSyn a) (a .segment) b n w g e
+  module _ (b : Begun) where
+    abbrev synAnswer : Outcome
+    synAnswer = goodAt (At (sequence (a .segment))) (a .segment)
 
-    -- the code has the pair p, and the flow from it; by the definition the flow of a bare SYN is made of the arrival itself
-    pub syn-keyed : NoneApplies (formed synGroup) → {p : Pair} → p ≡ arrivalPair a
-        → KeyedSyn t p strict (arrivingOn p (sequence (a .segment)) 0) (a .segment) b → JudgesSyn t a strict b
-    syn-keyed m e q =
-        let flow = ap (λ (p : Pair). arrivingOn p (sequence (a .segment)) 0) e ∙ flow-back (a .source) (a .destination) (early-input t (a .source) (a .destination) (a .segment) n) (a .segment) in
-        at-key synGroup synAnswer synEntry (arrivingSyn a) (a .segment) b n m (transport (λ i. KeyedSyn t (e i) strict (flow i) (a .segment) b) q)
+    abbrev synEntry : Entry
+    synEntry = recvEntry t (arrivalPair a) (keyId (a .segment)) .entry
+
+    pub syn-early : {x : Outcome} → b .outcome ≡ x → x ≡ first (early synGroup) unrefused → Else x → JudgesSyn t a strict b
+    syn-early w g e = at-early synGroup synAnswer synEntry (arrivingSyn a) (a .segment) b w g e
+
+    module _ (n : NoneApplies (early synGroup)) where
+      pub syn-formed : {x : Outcome} → b .outcome ≡ x → x ≡ first (formed synGroup) unrefused → Else x → JudgesSyn t a strict b
+      syn-formed w g e = at-formed synGroup synAnswer synEntry (arrivingSyn a) (a .segment) b n w g e
+
+      -- the code has the pair p, and the flow from it; by the definition the flow of a bare SYN is made of the arrival itself
+      pub syn-keyed : NoneApplies (formed synGroup) → {p : Pair} → p ≡ arrivalPair a
+          → KeyedSyn t p strict (arrivingOn p (sequence (a .segment)) 0) (a .segment) b → JudgesSyn t a strict b
+      syn-keyed m e q =
+          let own = early-input t (a .source) (a .destination) (a .segment) n in
+          let flow = ap (λ (p : Pair). arrivingOn p (sequence (a .segment)) 0) e ∙ flow-back (a .source) (a .destination) own (a .segment) in
+          at-key synGroup synAnswer synEntry (arrivingSyn a) (a .segment) b n m
+          (transport (λ i. KeyedSyn t (e i) strict (flow i) (a .segment) b) q)

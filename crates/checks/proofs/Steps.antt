@@ -1,7 +1,7 @@
 -- What the steps of a judging that has begun come to (src/begun.rt). Assumes nothing.
 use Prim.Native.Nat.{ℕ, _+_, _-_, _≤_, min}
 use mathlib.Core.Path.{_≡_, refl, sym, ap, _∙_}
-use mathlib.Core.Bool.{Bool, true, false, cond, not}
+use mathlib.Core.Bool.{Bool, true, false, not}
 use mathlib.Core.List.{List, _++_}
 use mathlib.Core.Logic.{inl, inr}
 use native.Mathlib.Omega.{arith}
@@ -16,7 +16,7 @@ use Rattle.keys.specs.declared.entry.Entry.{Entry}
 use Rattle.rules.specs.declared.Outcome.{Outcome}
 use Rattle.rules.specs.declared.Outcome.the-variants.{Good, Passed, Bad}
 use Rattle.rules.specs.Mac.{Flow, trafficKey, front}
-use Rattle.rules.specs.Segment.{ao, macIn}
+use Rattle.rules.specs.Segment.{ao}
 use Rattle.rules.specs.Connection.{extensionOf}
 use Rattle.rules.specs.Calls.{refuse}
 use Rattle.traffic.specs.Padded.{padded, digestRoom}
@@ -25,7 +25,7 @@ use Rattle.traffic.specs.declared.context.MacContext.{MacContext}
 use Rattle.checks.specs.GroupLaws.{Else}
 use Rattle.checks.specs.Begin.{Begins, Fed, macLength, agrees, ended}
 use Rattle.checks.specs.declared.begun.Begun.{Begun}
-use Rattle.checks.proofs.Keyed.{Lies, lies}
+use Rattle.checks.proofs.Keyed.{lies}
 
 -- bytes at the front of zeros
 pub front-of : (n : ℕ) (x : List ℕ) {r : List ℕ} → r ≡ paste (replicate n 0) 0 x (length x) → take (length x) r ≡ x
@@ -84,7 +84,8 @@ module _ (b : Begun) (v : MacView) {x r : ℕ} (g : b .outcome ≡ Good x r) {ta
 
 -- the data, from where they begin
 pub data-is : (s : List ℕ) (e : ℕ) {n : ℕ} → n ≡ min e (length s) → take (length s - n) (drop n s) ≡ drop e s
-data-is s e {n = n} is = take-all (length s - n) (drop n s) (omega (arith, length-drop n s)) ∙ ap (λ (k : ℕ). drop k s) is ∙ go (leb e (length s)) refl
+data-is s e {n = n} is =
+    take-all (length s - n) (drop n s) (omega (arith, length-drop n s)) ∙ ap (λ (k : ℕ). drop k s) is ∙ go (leb e (length s)) refl
   where
     go : (b : Bool) → leb e (length s) ≡ b → drop (min e (length s)) s ≡ drop e s
     go true q = let m : min e (length s) ≡ e = omega (arith, leb-true e (length s) q) in ap (λ (k : ℕ). drop k s) m
@@ -96,4 +97,6 @@ data-is s e {n = n} is = take-all (length s - n) (drop n s) (omega (arith, lengt
 pub fed-ends : (b d : Begun) {x y : List ℕ} → Fed b x d → x ≡ y → {r : Outcome} → r ≡ ended (d .outcome) (agrees d (macView (d .mac)))
     → r ≡ ended (b .outcome) (agrees b (macAbsorb (macView (b .mac)) y))
 fed-ends b d f e q =
-    q ∙ (λ i. ended (f .outcome i) (sameBytes (take (macLength (f .bytes i)) (f .carried i)) (take (macLength (f .bytes i)) (macFinished ((f .mac ∙ ap (macAbsorb (macView (b .mac))) e) i)))))
+    let v = f .mac ∙ ap (macAbsorb (macView (b .mac))) e in
+    let cut : macLength (d .«mac_bytes») ≡ macLength (b .«mac_bytes») = ap macLength (f .bytes) in
+    q ∙ (λ i. ended (f .outcome i) (sameBytes (take (cut i) (f .carried i)) (take (cut i) (macFinished (v i)))))

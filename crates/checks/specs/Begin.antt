@@ -21,7 +21,7 @@ use Rattle.rules.specs.Connection.{Arrival, arrivalPair, arriving, arrivingSyn,
 use Rattle.rules.specs.Calls.{refuse, keyTests, judgeGroups, synMissing, synUnknown, synGroups}
 use Rattle.traffic.specs.Padded.{padded, digestRoom}
 use Rattle.traffic.specs.MacContext.{MacView, macView, macStart, macAbsorb, macFinished}
-use Rattle.checks.specs.Groups.{untilMac, goodAt, arrivingOn}
+use Rattle.checks.specs.Groups.{untilMac, goodAt}
 use Rattle.checks.specs.declared.begun.Begun.{Begun}
 
 -- the MAC that the front leaves, under the entry's traffic key
@@ -76,7 +76,7 @@ pub record Fed (b : Begun) (d : List ℕ) (c : Begun) : Type 0 where
   pub carried : c .carried ≡ b .carried
   pub mac : macView (c .mac) ≡ macAbsorb (macView (b .mac)) d
 
--- how many bytes of a MAC are compared: what its length says, but never more than there is room for
+-- how many bytes a MAC has: what its length says, but never more than there is room for
 abbrev pub macLength : ℕ → ℕ
 macLength n = min n 16
 

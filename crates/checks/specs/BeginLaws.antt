@@ -1,6 +1,6 @@
 -- Begin, data and end are the whole: what they come to is the first of all tests that applies. Assumes nothing.
 use Prim.Native.Nat.{ℕ}
-use mathlib.Core.Path.{_≡_, refl, sym, ap, ap₂, _∙_, subst}
+use mathlib.Core.Path.{_≡_, refl, sym, ap, ap₂, _∙_}
 use mathlib.Core.Bool.{Bool, true, false, cond, not}
 use mathlib.Core.List.{List, [], _∷_}
 use native.Mathlib.Omega.{arith}
@@ -8,7 +8,6 @@ use lib.ListN.{length, take, drop}
 use Rattle.wire.specs.Bytes.{sameBytes}
 use Rattle.wire.specs.Header.{sequence, headerEnd}
 use Rattle.keys.specs.declared.entry.Entry.{Entry}
-use Rattle.keys.specs.declared.entry.Ids.{Ids}
 use Rattle.keys.specs.declared.entry.Pair.{Pair}
 use Rattle.keys.specs.Table.{Tables, checked, recvEntry, anyEntry}
 use Rattle.rules.specs.declared.Connection.{Connection}
@@ -26,7 +25,7 @@ use Rattle.rules.specs.GroupLaws.{unknown-passes}
 use Rattle.traffic.specs.MacContext.{macView, macAbsorb, macFinished}
 use Rattle.traffic.specs.TagLaws.{tagged, tag-mac}
 use Rattle.checks.specs.Groups.{untilMac, goodAt}
-use Rattle.checks.specs.GroupLaws.{isFinal, Else, else-final, final-kept, refusal-final}
+use Rattle.checks.specs.GroupLaws.{isFinal, final-kept, refusal-final}
 use Rattle.checks.specs.Begin.{Ready, Begins, Judges, JudgesSyn, macLength, agrees, ended}
 use Rattle.checks.specs.declared.begun.Begun.{Begun}
 
@@ -54,7 +53,8 @@ module _ (x : ℕ) (e : Entry) (f : Flow) (s : List ℕ) (b : Begun) (ready : Re
   cut : macLength (b .«mac_bytes») ≡ b .«mac_bytes»
   cut = omega (arith, ready .short)
 
-  mac-ends : take (macLength (b .«mac_bytes»)) (macFinished (macAbsorb (macView (b .mac)) (drop (headerEnd s) s))) ≡ segmentMac (e .secret) f (extensionOf x) (aoAt s) s
+  mac-ends : take (macLength (b .«mac_bytes»)) (macFinished (macAbsorb (macView (b .mac)) (drop (headerEnd s) s)))
+      ≡ segmentMac (e .secret) f (extensionOf x) (aoAt s) s
   mac-ends =
       ap (λ (n : ℕ). take n (macFinished (macAbsorb (macView (b .mac)) (drop (headerEnd s) s)))) (cut ∙ ready .bytes)
       ∙ ap (take (e .secret .«mac_bytes»)) (tagged (e .secret) f (front (e .secret) f (extensionOf x) (aoAt s) (length s) (take (headerEnd s) s)) (drop (headerEnd s) s) (ready .mac) refl refl)
@@ -83,7 +83,8 @@ module _ (g : Groups) (p : Place) (e : Entry) (f : Flow) (s : List ℕ) (mac : g
           let none = none-applied isFinal (untilMac g) (goodAt p s) final (ap isFinal h) in
           let k : Good x r ≡ goodAt p s = sym h ∙ first-none (untilMac g) (goodAt p s) none in
           let at : x ≡ value p = cc in
-          let same = agreed x e f s b (begins .ready x r h) ∙ ap (λ (y : ℕ). sameBytes (macIn s) (segmentMac (e .secret) f (extensionOf y) (aoAt s) s)) at in
+          let same = agreed x e f s b (begins .ready x r h)
+          ∙ ap (λ (y : ℕ). sameBytes (macIn s) (segmentMac (e .secret) f (extensionOf y) (aoAt s) s)) at in
           gave ∙ ap₂ ended (begins .outcome ∙ h) same
           ∙ ap (λ (y : Outcome). cond (sameBytes (macIn s) (segmentMac (e .secret) f (extensionOf (value p)) (aoAt s) s)) y (refuse 29)) k
           ∙ flip (sameBytes (macIn s) (segmentMac (e .secret) f (extensionOf (value p)) (aoAt s) s)) (goodAt p s) (refuse 29)

@@ -1,7 +1,7 @@
 -- The groups in which the code takes document 01's tests (crate `rules`, specs/Calls): each function of src/faults.rt gives what one of
 -- them gives. A reader need not believe these: the calls cite the crate `rules` alone.
 use Prim.Native.Nat.{ℕ}
-use mathlib.Core.Bool.{Bool, cond, not, _&&_}
+use mathlib.Core.Bool.{cond, not, _&&_}
 use mathlib.Core.List.{List, [], _∷_, _++_}
 use lib.Dec.{ltb, eqb}
 use Rattle.wire.specs.Bytes.{sameBytes}

@@ -2,7 +2,7 @@
 // go into it from where they lie, in as many pieces as they come; end compares: 29. Between them a value holds all that is needed, and no
 // reference.
 ghost use mathlib.Core.Path.{_≡_};
-ghost use mathlib.Core.Bool.{true, false};
+ghost use mathlib.Core.Bool.{true};
 ghost use Prim.Native.Nat.{_+_, _≤_, min};
 ghost use lib.ListN.{length, take, drop};
 ghost use Rattle.wire.specs.Header.{headerEnd, wellSized};
@@ -119,8 +119,8 @@ pub(crate) fn by_key(
     ready(x, rnext, entry, flow, option, segment)
 }
 
-// How many bytes of a MAC are compared: what its length says, but never more than there is room for.
-fn mac_length(n: u8) -> usize
+// How many bytes a MAC has: what its length says, but never more than there is room for.
+pub fn mac_length(n: u8) -> usize
     ensures { λ r. ⌜ r ≡ macLength n ⌝ }
 {
     if n < 16 { n as usize } else { 16 }

@@ -1,13 +1,13 @@
-// The tests that come before a key is looked at: document 01, "Numbers given back", 10 to 24 and 40. One function for each group of the crate
-// `rules`; where none of its tests applies, it gives Good(0, 0), of which nothing is made. Assumes nothing.
+// The tests that come before a key is looked at: document 01, "Numbers given back", 10 to 24, with 40 behind 20. One function for each
+// group of the crate `rules`; where none of its tests applies, it gives Good(0, 0), of which nothing is made. Assumes nothing.
 ghost use mathlib.Core.Path.{_≡_};
 ghost use mathlib.Core.Bool.{not, _&&_};
 ghost use mathlib.Core.List.{_++_};
 ghost use Rattle.octets.specs.Tests.{first};
-ghost use Rattle.rules.specs.Segment.{isBareSyn};
 ghost use Rattle.rules.specs.Connection.{arrivalOf};
 ghost use Rattle.rules.specs.Calls.{unrefused, familyTests, addressTests, tableTests, inputTests, stateTests, lengthTests, sumTests};
-ghost use Rattle.checks.specs.Groups.{intactTests, countTests, optionTests, headerPairTests, headerStageTests, headerSynTests, headerArrivalTests};
+ghost use Rattle.checks.specs.Groups.{intactTests, countTests, optionTests, headerPairTests, headerStageTests, headerSynTests};
+ghost use Rattle.checks.specs.Groups.{headerArrivalTests};
 use keys::entry::Pair;
 use keys::table::Loaded;
 use rules::Connection;

@@ -1,7 +1,10 @@
 // A packet of RFC 9235, sections 4 to 7: its traffic key, and what the end at which it arrives makes of it.
 // A line's columns: section, algorithm, flags, source ISN, destination ISN, traffic key, source address,
-// destination address, segment, and a remark on the checksum, which the MAC does not cover. A column that
-// cannot be read counts as zeros, or as no bytes, and the packet is then judged so. Assumes nothing.
+// destination address, segment, and a remark on the checksum, which the MAC does not cover: the RFC prints some
+// that are wrong, and the file has the right one in their place. So each packet is judged with its right checksum,
+// and once with another. A column that cannot be read counts as zeros, or as no bytes, and the packet is then
+// judged so. Assumes nothing.
+use crate::answers::bad;
 use crate::answers::compared;
 use crate::answers::good;
 use crate::answers::of_verdict;
@@ -111,8 +114,36 @@ fn at_client(line: &[u8], e: End, segment: &[u8], run: Run) -> Run {
         .with_client(s)
 }
 
+fn is_bare_syn(segment: &[u8]) -> bool {
+    header::syn(segment) && !header::ack(segment)
+}
+
+// What the end says to a segment, wherever it stands; its state stays.
+fn verdict(e: End, segment: &[u8], run: Run) -> Verdict {
+    if is_bare_syn(segment) {
+        let checked = ends::judge_syn(e, segment);
+        return checked.verdict;
+    }
+    if ends::is_server(e) {
+        let judged = ends::judge(e, segment, run.server);
+        return judged.verdict;
+    }
+    let judged = ends::judge(e, segment, run.client);
+    judged.verdict
+}
+
+// Document 02, Ticket 5: with one bit of its checksum changed a packet is dropped with 40.
+fn wrong_checksum(line: &[u8], e: End, segment: &[u8], run: Run) -> Run {
+    let v = verdict(e, segment, run);
+    title(line);
+    text(b"(");
+    text(column(line, 9));
+    text(b") a bit of the checksum changed ");
+    run.counted(compared(b"accept extension ", of_verdict(v), bad(40)))
+}
+
 fn arrived(line: &[u8], answer: &[u8], e: End, segment: &[u8], run: Run) -> Run {
-    if header::syn(segment) && !header::ack(segment) {
+    if is_bare_syn(segment) {
         return opening(line, answer, e, segment, run);
     }
     if ends::is_server(e) {
@@ -125,7 +156,10 @@ fn arrived(line: &[u8], answer: &[u8], e: End, segment: &[u8], run: Run) -> Run 
 pub fn packet(line: &[u8], answer: &[u8], run: Run) -> Run {
     let mut segment = [0u8; 256];
     let n = hex::read(column(line, 8), &mut segment);
-    let e = receiver(line, &segment[..n]);
+    let e = receiver(line, ends::front(&segment, n));
+    let mut wrong = segment;
+    wrong[17] = wrong[17] ^ 1;
     let keyed = run.counted(key_expected(line, e));
-    arrived(line, answer, e, &segment[..n], keyed)
+    let dropped = wrong_checksum(line, e, ends::front(&wrong, n), keyed);
+    arrived(line, answer, e, ends::front(&segment, n), dropped)
 }

@@ -3,6 +3,7 @@ ghost use mathlib.Core.Path.{_≡_};
 ghost use mathlib.Core.Bool.{true};
 ghost use lib.Dec.{eqb};
 ghost use Rattle.rollover.specs.Alike.{same, alike};
+use rules::SLOTS;
 use rules::State;
 
 pub fn same_number(a: u64, b: u64) -> bool
@@ -11,12 +12,12 @@ pub fn same_number(a: u64, b: u64) -> bool
     a == b
 }
 
-// The ten counts of drops, one after another.
-fn same_drops(a: [u64; 10], b: [u64; 10]) -> bool
+// The counts of drops, one after another.
+fn same_drops(a: [u64; SLOTS], b: [u64; SLOTS]) -> bool
     ensures { λ r. ⌜ r ≡ same a b ⌝ }
 {
     let mut i = 0;
-    while i < 10 {
+    while i < SLOTS {
         if a[i] != b[i] {
             return false;
         }

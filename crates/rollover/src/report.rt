@@ -14,6 +14,7 @@ use crate::words::two;
 use crate::words::verdict;
 use crate::words::what;
 use keys::table::Loaded;
+use rules::SLOTS;
 use rules::State;
 
 // How many entries a valid table has.
@@ -40,9 +41,9 @@ pub fn title() {
     text(b" at the server, each the mirror of one at the other end.\n\n");
 }
 
-fn drops(d: [u64; 10]) {
+fn drops(d: [u64; SLOTS]) {
     let mut i = 0;
-    while i < 10 {
+    while i < SLOTS {
         four(d[i]);
         i += 1;
     }
@@ -62,7 +63,7 @@ fn row(name: &[u8], s: State) {
 
 fn columns() {
     text(
-        b"              accepted  drops  20  21  22  23  24  25  26  27  28  29  reference   signs\n",
+        b"              accepted  drops  20  21  22  23  24  25  26  27  28  29  40  reference   signs\n",
     );
 }
 
@@ -138,9 +139,9 @@ pub fn ends(first: Ends, second: Ends) {
     compared(b"client            ", first.client, second.client);
     compared(b"server            ", first.server, second.server);
     text(
-        b"\nDemand 3 (docs/CLAIMS.md) is proved of every order: where no forgery verifies under a key, each true segment is accepted\n\
-        with its extension, and the reference and how many were accepted and dropped in all are the same. Here the drops agree\n\
-        one by one too, since each forgery fails at the same test in both orders, and the outgoing key agrees since the last\n\
-        true segment to reach the client asks for key 2 in both.\n",
+        b"\nDemand 3 (docs/CLAIMS.md) is proved of every order: where no other arrival verifies under a key, each true segment is\n\
+        accepted with its extension, and the reference and how many were accepted and dropped in all are the same. Here the\n\
+        drops agree one by one too, since each forgery and the damaged copy fail at the same test in both orders, and the\n\
+        outgoing key agrees since the last true segment to reach the client asks for key 2 in both.\n",
     );
 }

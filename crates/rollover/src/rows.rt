@@ -76,8 +76,9 @@ fn columns() {
 
 pub fn first_title() {
     text(
-        b"\nFirst run, in the order of arrival; No. is the order of sending. A forgery is a copy of another segment in which the\n\
-        data, the MAC, the KeyID or the sequence number is changed; nobody signed it, so it lies nowhere.\n",
+        b"\nFirst run, in the order of arrival; No. is the order of sending. A damaged copy of a segment has other data\n\
+        under the old checksum. A forgery is a copy in which the MAC, the KeyID or the sequence number is changed and the\n\
+        checksum is made right again. Nobody signed these, so they lie nowhere.\n",
     );
     columns();
 }

@@ -1,12 +1,12 @@
 // What is sent, numbered from 1 in the order of sending, and the order of events in both runs. Assumes nothing.
 
-// What a numbered segment is: data that one end signs; or, made on the way from the segment numbered before it, the same once more or a
-// forgery.
+// What a numbered segment is: data that one end signs; or, made on the way from the segment numbered before it, the same once more, one that
+// was damaged, or a forgery.
 pub const DATA: u8 = 0;
 
 pub const AGAIN: u8 = 1;
 
-const DATA_CHANGED: u8 = 2;
+pub const DAMAGED: u8 = 2;
 
 const WRONG_MAC: u8 = 3;
 
@@ -21,7 +21,7 @@ pub const CHANGED_BITS: [u8; 6] = [0, 0, 1, 128, 93, 112];
 
 pub fn kind(no: u8) -> u8 {
     match no {
-        3 => DATA_CHANGED,
+        3 => DAMAGED,
         6 | 12 => AGAIN,
         8 => WRONG_MAC,
         14 => UNKNOWN_KEY,

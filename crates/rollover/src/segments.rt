@@ -4,6 +4,7 @@ use crate::storage::byte;
 use crate::storage::lay;
 use crate::storage::part;
 use crate::storage::put_byte;
+use crate::tables;
 use rules::State;
 
 pub const SYN: u8 = 2;
@@ -78,6 +79,17 @@ fn repeat(wire: &mut [u8], no: u8) {
     }
 }
 
+// The right checksum for what was changed, as whoever forges a segment would write it.
+fn make_right(wire: &mut [u8], no: u8) {
+    let client = script::from_client(no);
+    let source = tables::address(client);
+    let destination = tables::address(!client);
+    let at = std::num::wrapping_add_usize(start(no), 16);
+    lay(wire, at, &[0, 0]);
+    let sum = traffic::sums::segment_sum(&source, &destination, kept(wire, no));
+    lay(wire, at, &octets::bytes16(65535 - sum));
+}
+
 // The copy of the segment numbered before, changed as its kind says.
 pub fn forge(wire: &mut [u8], no: u8) {
     repeat(wire, no);
@@ -87,4 +99,7 @@ pub fn forge(wire: &mut [u8], no: u8) {
     let i = std::num::wrapping_add_usize(start(no), at as usize);
     let b = byte(wire, i);
     put_byte(wire, i, b ^ bits);
+    if script::kind(no) != script::DAMAGED {
+        make_right(wire, no);
+    }
 }

@@ -51,7 +51,7 @@ pub fn direction(from_client: bool) {
 // The kinds of `script`, 17 bytes each.
 const KINDS: [u8; 102] = *b"data             \
     repeat of        \
-    forged data of   \
+    damaged data of  \
     forged MAC of    \
     forged KeyID of  \
     forged number of ";
@@ -77,8 +77,8 @@ pub fn key(id: u8) {
     }
 }
 
-// The meanings of 20 to 29, 21 bytes each.
-const REASONS: [u8; 210] = *b"bad length or offset \
+// The meanings of 20 to 29 and of 40, 21 bytes each.
+const REASONS: [u8; 231] = *b"bad length or offset \
     malformed options    \
     two signing options  \
     pair not the state's \
@@ -87,13 +87,22 @@ const REASONS: [u8; 210] = *b"bad length or offset \
     KeyID has no entry   \
     MAC length wrong     \
     no position          \
-    MAC differs          ";
+    MAC differs          \
+    checksum wrong       ";
+
+// Which of them a number has; one that none has is printed without a meaning.
+fn reason(number: u8) -> u8 {
+    if number == 40 {
+        return 10;
+    }
+    std::num::wrapping_sub_u8(number, 20)
+}
 
 fn dropped(number: u8) {
     text(b"drop ");
     two(number as u64);
     text(b": ");
-    let at = std::num::wrapping_sub_u8(number, 20) as usize * 21;
+    let at = reason(number) as usize * 21;
     text(part(&REASONS, at, 21));
 }
 

@@ -1,13 +1,16 @@
 -- What signing answers, by the outcome of its tests; and what a good outcome leaves for what comes behind it. Assumes nothing.
 use Prim.Native.Nat.{ℕ, _+_, _≤_}
-use mathlib.Core.Path.{_≡_, refl, sym, ap, ap₂, _∙_, subst, subst⁻¹}
-use mathlib.Core.Bool.{Bool, true}
+use mathlib.Core.Path.{_≡_, refl, sym, ap, _∙_, subst, subst⁻¹}
 use mathlib.Core.List.{List}
 use native.Mathlib.Omega.{arith}
-use lib.ListN.{length, replicate, length-replicate}
+use lib.ListN.{length, take, replicate, length-replicate}
+use lib.Seq.{length-take-le}
 use borrow.Author.Tests.{ltb-false}
 use Rattle.wire.specs.Header.{headerEnd, headerOf}
 use Rattle.wire.specs.declared.header.Header.{Header}
+use Rattle.keys.specs.Entry.{width}
+use Rattle.keys.specs.EntryLaws.{width-le}
+use Rattle.keys.specs.declared.entry.Pair.{Pair}
 use Rattle.keys.specs.declared.entry.Secret.{Secret}
 use Rattle.keys.specs.declared.table.Found.{Found}
 use Rattle.keys.specs.Table.{Tables, checked}
@@ -86,6 +89,10 @@ module _ (t : Tables) (s : List ℕ) (room : ℕ) (q : State) where
               subst (λ (y : ℕ). Ready y entry q s b) at (subst (λ (f : Found). Ready x (f .entry .secret) q s b) is (starts .ready));
         }
 
+-- an address has the bytes of its family
+wide : (p : Pair) (a : List ℕ) → length a ≡ 16 → length (take (width (p .family)) a) ≡ width (p .family)
+wide p a l = length-take-le (width (p .family)) a (omega (arith, width-le (p .family)))
+
 -- the whole call, by the outcome of what has begun
 module _ (t : Tables) (s out : List ℕ) (q : State) (b : SignBegun) (begun : SignBegins t s (length out) q b) where
   module _ {x r : ℕ} (good : b .outcome ≡ Good x r) where
@@ -105,10 +112,12 @@ module _ (t : Tables) (s out : List ℕ) (q : State) (b : SignBegun) (begun : Si
     pub sum-fits : length s + b .added ≤ 65535
     sum-fits = omega (arith, adds, left t s (length out) q signs-at .0 .whole)
 
-    pub writes : {c : List ℕ} → c ≡ written (finished b s) out → c ≡ outputBy q s out (outgoing t q .entry) (Good x r)
-    writes e =
+    pub writes : {c : List ℕ} → length (q .conn .pair .local) ≡ 16 → length (q .conn .pair .remote) ≡ 16
+        → c ≡ written (finished b s) out → c ≡ outputBy q s out (outgoing t q .entry) (Good x r)
+    writes l m e =
+        let alike = wide (q .conn .pair) (q .conn .pair .local) l ∙ sym (wide (q .conn .pair) (q .conn .pair .remote) m) in
         e ∙ ap (λ (l : List ℕ). written l out)
-        (finished-is x (outgoing t q .entry .secret) q s (can t s (length out) q signs-at) b its-ready (outgoing t q .entry) refl)
+        (finished-is x (outgoing t q .entry .secret) q s (can t s (length out) q signs-at) b its-ready alike (outgoing t q .entry) refl)
 
   pub answers : (z : Outcome) {r : Signed} → b .outcome ≡ z → r ≡ signedBy q s (outgoing t q .entry) z → r ≡ signed t s out q
   unfolding signed

@@ -1,30 +1,37 @@
 -- The bytes that signing writes are those of the definition, and the MAC that the data end is the segment's. Document 01, "Signing puts
 -- TCP-AO directly after byte 20, ..". Assumes nothing.
-use Prim.Native.Nat.{ℕ, zero, suc, _+_, _-_, _*_, _/_, _≤_, _<_}
+use Prim.Native.Nat.{ℕ, zero, suc, _+_, _-_, _*_, _/_, _≤_}
 use mathlib.Core.Path.{_≡_, refl, sym, ap, ap₂, _∙_}
 use mathlib.Core.List.{List, [], _∷_, _++_, append-assoc}
 use native.Mathlib.Omega.{arith}
 use native.Mathlib.Nat.{sub-zero}
 use lib.ListN.{length, getD, take, drop, replicate, length-append, length-drop, length-replicate, replicate-append-replicate}
 use lib.Seq.{paste, take-at, drop-at, drop-drop, drop-cons, take-length, take-all, length-take-le, getD-take}
+use Rattle.checksum.specs.declared.Sum.{Sum}
+use Rattle.checksum.specs.Checksum.{replaced, checksummed}
+use Rattle.checksum.specs.Running.{begun, added as addedTo}
 use Rattle.wire.specs.Header.{headerEnd}
 use Rattle.keys.specs.declared.entry.Secret.{Secret}
 use Rattle.keys.specs.declared.entry.Entry.{Entry}
 use Rattle.rules.specs.declared.Outcome.the-variants.{Good}
 use Rattle.rules.specs.declared.State.{State}
-use Rattle.rules.specs.Mac.{Flow, trafficKey, front, segmentMac}
+use Rattle.rules.specs.Mac.{Flow, trafficKey, pseudoHeader, front, segmentMac}
+use Rattle.rules.specs.Checksum.{withChecksum}
+use Rattle.rules.specs.ChecksumLaws.{pseudo-even}
 use Rattle.rules.specs.MacLaws.{length-mac}
 use Rattle.rules.specs.Segment.{inserted, withOption, padding, optionOf, optionBytes, signedWith}
 use Rattle.rules.specs.RoundTripLaws.{length-option, whole-words}
-use Rattle.rules.specs.Connection.{leaving, extensionOf}
-use Rattle.rules.specs.Calls.{signedSegment, written}
+use Rattle.rules.specs.Connection.{localAddress, remoteAddress, leaving, extensionOf}
+use Rattle.rules.specs.Calls.{authenticated, signedSegment, written}
 use Rattle.traffic.specs.Padded.{padded, digestRoom}
 use Rattle.traffic.specs.MacContext.{macView, macStart, macAbsorb, macFinished}
 use Rattle.traffic.specs.TagLaws.{tagOf, tagged, tag-mac-parts}
 use Rattle.traffic.specs.declared.context.MacContext.{MacContext}
+use Rattle.checks.specs.Begin.{macLength}
 use Rattle.tcpao.specs.SignedBytes.{headBytes, Room, Signable}
-use Rattle.tcpao.specs.SignBegin.{blankHeader, Ready, Starts, Fed, Writable, ended, finished}
+use Rattle.tcpao.specs.SignBegin.{blankHeader, Ready, Starts, Fed, Writable, withMac, checkedHeader, ended, finished}
 use Rattle.tcpao.specs.declared.sign_begun.SignBegun.{SignBegun}
+use Rattle.tcpao.proofs.CheckedLaws.{checked-is}
 
 -- The head.
 
@@ -66,6 +73,11 @@ module _ (k r : ℕ) (m h : List ℕ) (low : 20 ≤ length h) where
       let p : length (replicate {A = ℕ} (padding (length m)) 1) ≡ padding (length m) = length-replicate (padding (length m)) 1 in
       let a = length-append (replicate (padding (length m)) 1) (drop 20 h) in
       omega (arith, e, p, a, length-append m (after (length m) h), length-drop 20 h)
+
+  -- its checksum is zero
+  unchecked : replaced 16 (0 ∷ 0 ∷ []) (inserted (optionOf k r m) h) ≡ inserted (optionOf k r m) h
+  unfolding headBytes
+  unchecked = ap (replaced 16 (0 ∷ 0 ∷ [])) header-is ∙ sym header-is
 
 -- Parts laid one behind another.
 
@@ -216,6 +228,10 @@ module _ (x : ℕ) (e : Secret) (q : State) (s : List ℕ) (can : Signable s e) 
   blank-long : length blank ≡ headerEnd s + optionBytes n
   blank-long = length-inserted (q .«send_id») (q .«ask_id») (zeros n) old enough ∙ ap₂ (λ (i j : ℕ). i + optionBytes j) long n-zeros
 
+  -- the pseudo-header of a segment of i bytes that leaves
+  abbrev pseudo : ℕ → List ℕ
+  pseudo i = pseudoHeader (localAddress (q .conn .pair)) (remoteAddress (q .conn .pair)) i
+
   -- what `ready` asks of its parts
   pub cut : {end : ℕ} → end ≡ headerEnd s → end ≡ length (take end s)
   cut {end = end} h = sym (length-take-le end s (omega (arith, h, can .inside)))
@@ -229,12 +245,13 @@ module _ (x : ℕ) (e : Secret) (q : State) (s : List ℕ) (can : Signable s e) 
       let b : getD (take end s) 12 0 ≡ getD s 12 0 = getD-take end s 12 0 (omega arith) in
       record { low = omega arith; long = omega arith; words = omega arith; short = can .short; is = is }
 
-  pub starts-is : {end added ext : ℕ} {f : Flow} (m : MacContext) (h : List ℕ) → end ≡ headerEnd s → added ≡ optionBytes n
+  pub starts-is : {end added ext : ℕ} {f : Flow} (m : MacContext) (h : List ℕ) (u : Sum) → end ≡ headerEnd s → added ≡ optionBytes n
       → f ≡ flow → ext ≡ extensionOf x → h ≡ padded 60 (inserted (optionOf (q .«send_id») (q .«ask_id») (zeros n)) (take end s))
       → macView m
       ≡ macAbsorb (macStart (e .algorithm) (padded digestRoom (trafficKey e f))) (front e f ext 20 (length s + added) (take (end + added) h))
-      → Starts x e q s (record { outcome = Good x (q .«ask_id»); added = added; header = h; mac = m; «mac_bytes» = n })
-  starts-is {end = end} {added = added} m h ends adds flows exts heads macs =
+      → u ≡ addedTo begun (pseudo (length s + added))
+      → Starts x e q s (record { outcome = Good x (q .«ask_id»); added = added; header = h; mac = m; «mac_bytes» = n; sum = u })
+  starts-is {end = end} {added = added} m h u ends adds flows exts heads macs sums =
       let hb : h ≡ padded 60 blank =
       heads ∙ ap (λ (i : ℕ). padded 60 (inserted (optionOf (q .«send_id») (q .«ask_id») (zeros n)) (take i s))) ends in
       let l : length blank ≡ end + added = omega (arith, blank-long, ends, adds) in
@@ -250,6 +267,7 @@ module _ (x : ℕ) (e : Secret) (q : State) (s : List ℕ) (can : Signable s e) 
                   macs
                   ∙ (λ i. macAbsorb (macStart (e .algorithm) (padded digestRoom (trafficKey e (flows i))))
                   (front e (flows i) (exts i) 20 (length s + adds i) (t i)));
+              sum = sums ∙ (λ i. addedTo begun (pseudo (length s + adds i)));
             };
       }
 
@@ -284,49 +302,73 @@ module _ (x : ℕ) (e : Secret) (q : State) (s : List ℕ) (can : Signable s e) 
     abbrev tag : List ℕ
     tag = macFinished (macAbsorb (macView (b .mac)) (drop (headerEnd s) s))
 
-    ends-mac : take (b .«mac_bytes») tag ≡ mac
+    ends-mac : take (macLength (b .«mac_bytes»)) tag ≡ mac
     ends-mac =
-        ap (λ (i : ℕ). take i tag) (ready .bytes)
+        let same : macLength (b .«mac_bytes») ≡ n = omega (arith, ready .bytes, can .short) in
+        ap (λ (i : ℕ). take i tag) same
         ∙ tag-is tag
         (tagged e flow (front e flow (extensionOf x) 20 (length s + optionBytes n) blank) (drop (headerEnd s) s) (ready .mac) refl refl)
 
-    -- what begin, data and end come to
-    pub finished-is : (entry : Entry) → entry .secret ≡ e → finished b s ≡ signedSegment entry q x s
-    unfolding signedSegment withOption
-    finished-is entry under =
+    -- the header with its MAC, and the data behind it
+    abbrev new : List ℕ
+    new = inserted (optionOf (q .«send_id») (q .«ask_id») mac) old
+
+    abbrev d : List ℕ
+    d = drop (headerEnd s) s
+
+    new-long : length new ≡ headerEnd s + optionBytes n
+    new-long =
+        length-inserted (q .«send_id») (q .«ask_id») mac old enough ∙ ap₂ (λ (i j : ℕ). i + optionBytes j) long length-of-mac
+
+    all-long : length (new ++ d) ≡ length s + optionBytes n
+    all-long = omega (arith, length-append new d, new-long, length-drop (headerEnd s) s, can .inside)
+
+    with-mac : withMac b (macAbsorb (macView (b .mac)) d) ≡ new ++ zeros (60 - length blank)
+    with-mac =
+        ap₂ (λ (h m : List ℕ). paste h 24 m (length m)) (ready .header) ends-mac
+        ∙ put (q .«send_id») (q .«ask_id») (zeros n) mac old (zeros (60 - length blank)) enough (n-zeros ∙ sym length-of-mac)
+
+    authenticated-is : (entry : Entry) → entry .secret ≡ e → new ++ d ≡ authenticated entry q x s
+    unfolding authenticated withOption
+    authenticated-is entry under =
         let k = q .«send_id» in
         let r = q .«ask_id» in
-        let pad = zeros (60 - length blank) in
-        let same : length (zeros n) ≡ length mac = n-zeros ∙ sym length-of-mac in
-        let l : length (inserted (optionOf k r mac) old) ≡ headerEnd s + b .added =
-        length-inserted k r mac old enough ∙ ap₂ (λ (i j : ℕ). i + optionBytes j) long length-of-mac
-        ∙ ap (λ (i : ℕ). headerEnd s + i) (sym (ready .added)) in
-        ap₂ (λ (h m : List ℕ). take (headerEnd s + b .added) (paste h 24 m (length m)) ++ drop (headerEnd s) s) (ready .header) ends-mac
-        ∙ ap (λ (h : List ℕ). take (headerEnd s + b .added) h ++ drop (headerEnd s) s) (put k r (zeros n) mac old pad enough same)
-        ∙ ap (λ (h : List ℕ). h ++ drop (headerEnd s) s) (take-at (inserted (optionOf k r mac) old) pad (headerEnd s + b .added) l)
-        ∙ ap (λ (v : Secret). signedWith k r (segmentMac v flow (extensionOf x) 20 (signedWith k r (zeros (v .«mac_bytes»)) s)) s)
-        (sym under)
+        ap (λ (v : Secret). signedWith k r (segmentMac v flow (extensionOf x) 20 (signedWith k r (zeros (v .«mac_bytes»)) s)) s) (sym under)
+
+    -- what begin, data and end come to
+    module _ (alike : length (localAddress (q .conn .pair)) ≡ length (remoteAddress (q .conn .pair))) where
+      pub finished-is : (entry : Entry) → entry .secret ≡ e → finished b s ≡ signedSegment entry q x s
+      unfolding signedSegment withChecksum
+      finished-is entry under =
+          let cut : headerEnd s + b .added ≡ length new = ap (λ (i : ℕ). headerEnd s + i) (ready .added) ∙ sym new-long in
+          (λ i. take (cut i) (checkedHeader (with-mac i) (addedTo (ready .sum i) d)) ++ d)
+          ∙ checked-is (pseudo (length s + optionBytes n)) new d (pseudo-even _ _ (length s + optionBytes n) alike) (omega (arith, new-long, whole-words n))
+          (omega (arith, new-long, can .low)) (unchecked (q .«send_id») (q .«ask_id») mac old enough) (60 - length blank) refl
+          ∙ ap (λ (i : ℕ). checksummed 16 (pseudo i) (new ++ d)) (sym all-long)
+          ∙ ap (withChecksum (localAddress (q .conn .pair)) (remoteAddress (q .conn .pair))) (authenticated-is entry under)
 
     pub writable : (out : List ℕ) → length s + optionBytes n ≤ length out → Writable b s out
     writable out room =
         record {
-          short = omega (arith, ready .bytes, can .short);
           inside = can .inside;
           header = omega (arith, ready .added, can .header);
           room = omega (arith, ready .added, room);
         }
 
 -- data, then the end
-pub fed-ends : (b c : SignBegun) {d y : List ℕ} → Fed b d c → d ≡ y → {h : List ℕ} → h ≡ ended c (macView (c .mac))
-    → h ≡ ended b (macAbsorb (macView (b .mac)) y)
+pub fed-ends : (b c : SignBegun) {d y : List ℕ} → Fed b d c → d ≡ y → {h : List ℕ} → h ≡ ended c (macView (c .mac)) (c .sum)
+    → h ≡ ended b (macAbsorb (macView (b .mac)) y) (addedTo (b .sum) y)
 fed-ends b c f e q =
     let v = f .mac ∙ ap (macAbsorb (macView (b .mac))) e in
-    q ∙ (λ i. paste (f .header i) 24 (take (f .bytes i) (macFinished (v i))) (length (take (f .bytes i) (macFinished (v i)))))
+    let u = f .sum ∙ ap (addedTo (b .sum)) e in
+    let cut : macLength (c .«mac_bytes») ≡ macLength (b .«mac_bytes») = ap macLength (f .bytes) in
+    q
+    ∙ (λ i. checkedHeader (paste (f .header i) 24 (take (cut i) (macFinished (v i))) (length (take (cut i) (macFinished (v i))))) (u i))
 
--- the header with its MAC and the data, as they are written
+-- the header with its MAC and checksum and the data, as they are written
 pub written-is : (b c : SignBegun) (s out : List ℕ) {end : ℕ} {h o : List ℕ} → end ≡ headerEnd s
     → Fed b (take (length s - end) (drop end s)) c
-    → h ≡ ended c (macView (c .mac)) → o ≡ written (take (end + b .added) h ++ take (length s - end) (drop end s)) out
+    → h ≡ ended c (macView (c .mac)) (c .sum) → o ≡ written (take (end + b .added) h ++ take (length s - end) (drop end s)) out
     → o ≡ written (finished b s) out
 written-is b c s out {end = end} e f eh eo =
     let d : take (length s - end) (drop end s) ≡ drop (headerEnd s) s =

@@ -1,18 +1,24 @@
-// Signing in three steps: begin, data, end. Begin (sign.rt) gives every number, lays out the signed header with zeros for the MAC and
-// leaves the MAC as its front left it; data go into it from where they lie, in as many pieces as they come; end puts the MAC into the
-// header. Between them a value holds all that is needed, and no reference.
+// Signing in three steps: begin, data, end. Begin (sign.rt) gives every number, lays out the signed header with zeros for the MAC and the
+// checksum, and leaves the MAC as its front left it and the checksum's sum as the pseudo-header left it; data go into both from where they
+// lie, in as many pieces as they come; end puts the MAC into the header, and then the checksum. Between them a value holds all that is
+// needed, and no reference.
 ghost use mathlib.Core.Path.{_≡_};
 ghost use mathlib.Core.Bool.{cond};
 ghost use Prim.Native.Nat.{_+_, _*_, _/_, _≤_, _<_};
 ghost use lib.ListN.{length, getD, replicate};
 ghost use Rattle.wire.specs.Header.{headerEnd};
 ghost use Rattle.rules.specs.Segment.{inserted, optionOf, optionBytes};
-ghost use Rattle.rules.specs.Connection.{isOpen, leaving};
+ghost use Rattle.rules.specs.Mac.{pseudoHeader};
+ghost use Rattle.rules.specs.Connection.{isOpen, leaving, localAddress, remoteAddress};
+ghost use Rattle.checksum.specs.Running.{begun, added as addedTo};
 ghost use Rattle.traffic.specs.Padded.{padded};
 ghost use Rattle.traffic.specs.Flow.{flowOf};
 ghost use Rattle.traffic.specs.MacContext.{macView};
 ghost use Rattle.tcpao.specs.SignedBytes.{headBytes, Room, Signable};
-ghost use Rattle.tcpao.specs.SignBegin.{Starts, Fed, ended};
+ghost use Rattle.tcpao.specs.SignBegin.{Starts, Fed, checkedHeader, ended};
+use checks::begun::mac_length;
+use checksum::Sum;
+use keys::entry::Pair;
 use keys::entry::Secret;
 use rules::Connection;
 use rules::Outcome;
@@ -24,13 +30,15 @@ use traffic::context::unused;
 use traffic::flow::Flow;
 
 // The outcome: a number, or the position with the asked RecvID. Where it is Good: how many bytes signing adds; the signed header with zeros
-// for the MAC, in an array that has room for the longest; and the MAC after its front, to be cut to so many bytes. Else these mean nothing.
+// for MAC and checksum, in an array that has room for the longest; the MAC after its front, to be cut to so many bytes; and the checksum's
+// sum after the pseudo-header. Else these mean nothing.
 pub struct SignBegun {
     pub outcome: Outcome,
     pub added: usize,
     pub header: [u8; 60],
     pub mac: MacContext,
     pub mac_bytes: u8,
+    pub sum: Sum,
 }
 
 // A number that was given.
@@ -43,6 +51,7 @@ pub(crate) fn nothing(outcome: Outcome) -> SignBegun
         header: [0u8; 60],
         mac: unused(),
         mac_bytes: 0,
+        sum: Sum::start(),
     }
 }
 
@@ -69,6 +78,16 @@ fn leaving_flow(conn: Connection) -> Flow
         source_isn: conn.isn,
         destination_isn: destination_isn(conn),
     }
+}
+
+// The sum of the pseudo-header of a segment that leaves: "over the pseudo-header", with the state's own addresses.
+fn leaving_sum(pair: Pair, len: usize) -> Sum
+    ensures { λ r. ⌜ r ≡ addedTo begun (pseudoHeader (localAddress pair) (remoteAddress pair) len) ⌝ }
+{
+    let w = keys::entry::width_of(pair.family);
+    let source = pair.local;
+    let destination = pair.remote;
+    traffic::sums::pseudo_sum(&source[..w], &destination[..w], len)
 }
 
 // The header's first 20 bytes with so many words more, and the first four of a TCP-AO whose MAC has n bytes.
@@ -139,16 +158,30 @@ pub(crate) fn ready(
     let header = blank_header(&segment[..end], more, state.send_id, state.ask_id, n);
     let whole = end + more;
     let len = segment.len() + more;
-    let flow = leaving_flow(state.conn);
+    let conn = state.conn;
+    let flow = leaving_flow(conn);
     let extension = extension_of(x);
     let mac = traffic::tag::begin(secret, flow, extension, 20, len, &header[..whole]);
+    let sum = leaving_sum(conn.pair, len);
     SignBegun {
         outcome: Outcome::Good(x, state.ask_id),
         added: more,
         header,
         mac,
         mac_bytes: n,
+        sum,
     }
+}
+
+// The checksum put into a header, by the sum of all else: the header has a whole number of words, so it may be added behind data of any
+// length, and the zeros behind it count nothing.
+fn with_checksum(header: [u8; 60], sum: Sum) -> [u8; 60]
+    ensures { λ r. ⌜ r ≡ checkedHeader header sum ⌝ }
+{
+    let checksum = octets::bytes16(sum.padded().add(&header).checksum());
+    let mut h = header;
+    octets::copy_at(&mut h, 16, &checksum);
+    h
 }
 
 impl SignBegun {
@@ -165,19 +198,19 @@ impl SignBegun {
             header,
             mac: mac.update(data),
             mac_bytes: self.mac_bytes,
+            sum: self.sum.add(data),
         }
     }
 
-    // The signed header, with its MAC.
+    // The signed header, with its MAC and checksum.
     pub fn end(self) -> [u8; 60]
-        requires { ⌜ self .«mac_bytes» ≤ 16 ⌝ }
-        ensures { λ r. ⌜ r ≡ ended self (macView (self .mac)) ⌝ }
+        ensures { λ r. ⌜ r ≡ ended self (macView (self .mac)) (self .sum) ⌝ }
     {
         let mut header = self.header;
         let mac = self.mac;
-        let n = self.mac_bytes as usize;
+        let n = mac_length(self.mac_bytes);
         let tag = mac.finish();
         octets::copy_at(&mut header, 24, &tag[..n]);
-        header
+        with_checksum(header, self.sum)
     }
 }

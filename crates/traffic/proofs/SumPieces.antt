@@ -4,7 +4,6 @@ use mathlib.Core.Path.{_≡_, ap, _∙_}
 use mathlib.Core.List.{List, _++_}
 use lib.ListN.{length}
 use Rattle.checksum.specs.declared.Sum.{Sum}
-use Rattle.checksum.specs.Checksum.{onesSum}
 use Rattle.checksum.specs.Running.{begun, added}
 use Rattle.checksum.specs.ChecksumLaws.{added-append, added-all}
 use Rattle.rules.specs.Mac.{pseudoHeader}
@@ -12,8 +11,8 @@ use Rattle.rules.specs.Checksum.{segmentSum}
 
 -- a pseudo-header's three parts
 pub pseudo-joined : (source destination : List ℕ) (n : ℕ) (x : List ℕ) {a b c r : Sum}
-    → a ≡ begun → b ≡ added a source → c ≡ added b destination → r ≡ added c x → source ++ destination ++ x ≡ pseudoHeader source destination n
-    → r ≡ added begun (pseudoHeader source destination n)
+    → a ≡ begun → b ≡ added a source → c ≡ added b destination → r ≡ added c x
+    → source ++ destination ++ x ≡ pseudoHeader source destination n → r ≡ added begun (pseudoHeader source destination n)
 pseudo-joined source destination n x ea eb ec er e =
     er ∙ ap (λ (s : Sum). added s x) (ec ∙ ap (λ (s : Sum). added s destination) (eb ∙ ap (λ (s : Sum). added s source) ea))
     ∙ ap (λ (s : Sum). added s x) (added-append begun source destination)

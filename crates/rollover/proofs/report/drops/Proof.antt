@@ -5,10 +5,10 @@ use Rattle.rollover.proofs.report.drops.Statement.{statement}
 use Rattle.rollover.proofs.report.drops.Tie as tie
 
 abbrev Inv-loop : tie.InvT-loop
-Inv-loop d i₀ i = i ≤ 10
+Inv-loop d i₀ i = i ≤ 11
 
 abbrev μ-loop : tie.MeasureT-loop
-μ-loop d i₀ i = 10 - i
+μ-loop d i₀ i = 11 - i
 
 pub drops-spec : {M : Type 1} → statement M
 drops-spec =

@@ -1,14 +1,11 @@
 -- The answer and the state, from what judging found.
 use borrow.Author.Needs.{needs}
 use Rattle.rules.specs.Connection.{arrivalOf}
-use Rattle.checks.specs.BeginLaws.{syn-ends, syn-ids, waits}
+use Rattle.checks.specs.BeginLaws.{syn-ends, syn-ids}
 use Rattle.tcpao.proofs.Judging.{taken-by, passively-is}
 use Rattle.tcpao.proofs.Numbered.{passively-numbered}
 use Rattle.tcpao.proofs.judge.open_passive.Statement.{statement}
 use Rattle.tcpao.proofs.judge.open_passive.Tie as tie
-
-finished-requires : tie.Need-finished-requires
-finished-requires c κs = (c .before .begin-syn .ensures .short, waits (c .before .begin-syn .ensures))
 
 opened-by-requires : tie.Need-opened-by-requires
 opened-by-requires c κs =
@@ -34,4 +31,4 @@ returns c =
 pub open-passive-spec : {M : Type 1} → statement M
 open-passive-spec =
     tie.close
-    (tie.spec (λ c κs. search needs) finished-requires (λ c κs. search needs) (λ c κs. search needs) opened-by-requires returns)
+    (tie.spec (λ c κs. search needs) (λ c κs. search needs) (λ c κs. search needs) (λ c κs. search needs) opened-by-requires returns)

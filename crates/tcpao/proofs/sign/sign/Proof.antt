@@ -1,7 +1,7 @@
 -- One way for each outcome: the answer and the output are those of the definition. A good outcome leaves what the writer asks.
 use borrow.Author.Needs.{needs}
 use Prim.Native.Nat.{_+_}
-use mathlib.Core.Path.{refl}
+use mathlib.Core.Path.{_≡_, refl}
 use native.Mathlib.Omega.{arith}
 use lib.ListN.{length}
 use Rattle.rules.specs.declared.Outcome.the-variants.{Passed}
@@ -10,6 +10,12 @@ use Rattle.tcpao.proofs.SignAnswers.{may-write, sum-fits, adds, writes,
 use Rattle.tcpao.proofs.Numbered.{signed-numbered}
 use Rattle.tcpao.proofs.sign.sign.Statement.{statement}
 use Rattle.tcpao.proofs.sign.sign.Tie as tie
+
+local : (s : tie.Start) → length (s .args .state .conn .pair .local) ≡ 16
+local s = search needs
+
+remote : (s : tie.Start) → length (s .args .state .conn .pair .remote) ≡ 16
+remote s = search needs
 
 finish-requires : tie.Need-finish-requires
 finish-requires c κs =
@@ -31,8 +37,9 @@ returns c =
     let o = p .before .before .begin in
     let a = p .before .before .before .before .before .before .args in
     let n = adds (a .table .now) (a .segment .now) (a .out .now) (a .state) (o .result) (o .ensures) (p .outcome .given .1) in
+    let st = p .before .before .before .before .before .before in
     let b = writes (a .table .now) (a .segment .now) (a .out .now) (a .state) (o .result) (o .ensures) (p .outcome .given .1)
-    (c .before .before .before .finish .ensures) in
+    (local st) (remote st) (c .before .before .before .finish .ensures) in
     let e = answers (a .table .now) (a .segment .now) (a .out .now) (a .state) (o .result) (o .ensures) _ (p .outcome .given .1)
     (λ i. record { answer = S.Signed (length (a .segment .now) + n i); index = 0; state = c .with-sent .ensures i }) in (
       e,

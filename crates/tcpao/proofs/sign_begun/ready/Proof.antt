@@ -22,26 +22,29 @@ blank-header-requires c κs =
 -- the header's part of the array
 slice-aggregate-begin : tie.Need-slice-aggregate-begin
 slice-aggregate-begin c =
-    let b = c .before .before .before .before .before .before in
-    let h = c .before .before .before .blank-header .result in
+    let p = c .before .before .before .before in
+    let b = p .before .before .before in
+    let h = p .blank-header .result in
     let k : length h ≡ 60 = search needs in
     sym (length-take-le (b .args .end + b .args .added) h (omega (arith, b .pre .0 .header, b .pre .1, b .pre .2)))
 
 begin-requires : tie.Need-begin-requires
 begin-requires c κs =
-    let b = c .before .before .before .before .before .before in
-    let h = c .before .before .before .blank-header .result in
+    let p = c .before .before .before .before in
+    let b = p .before .before .before in
+    let h = p .blank-header .result in
     let k : length h ≡ 60 = search needs in
     let l = length-take-le (b .args .end + b .args .added) h (omega (arith, b .pre .0 .header, b .pre .1, b .pre .2)) in
     (omega arith, omega (arith, b .pre .0 .low, b .pre .1, b .pre .2), omega (arith, b .pre .0 .header, b .pre .1, b .pre .2))
 
 returns : tie.Need-returns
 returns c =
-    let p = c .before .before .before .before in
+    let f = c .before .before .before .before in
+    let p = f .before .before in
     let b = p .before .before .before in
-    starts-is (b .args .x) (b .args .secret) (b .args .state) (b .args .segment .now) (b .pre .0) (c .begin .result)
-    (p .blank-header .result) (b .pre .1) (b .pre .2) (c .before .before .before .leaving-flow .ensures)
-    (c .before .before .extension-of .ensures) (p .blank-header .ensures) (c .begin .ensures)
+    starts-is (b .args .x) (b .args .secret) (b .args .state) (b .args .segment .now) (b .pre .0) (c .before .begin .result)
+    (p .blank-header .result) (c .leaving-sum .result) (b .pre .1) (b .pre .2) (f .leaving-flow .ensures)
+    (c .before .before .before .extension-of .ensures) (p .blank-header .ensures) (c .before .begin .ensures) (c .leaving-sum .ensures)
 
 pub ready-spec : {M : Type 1} → statement M
 ready-spec =
@@ -56,4 +59,5 @@ ready-spec =
     (λ c. search needs)
     slice-aggregate-begin
     begin-requires
+    (λ c κs. search needs)
     returns)
