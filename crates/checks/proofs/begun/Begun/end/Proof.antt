@@ -26,7 +26,7 @@ slice-aggregate-same-throughout c =
 
 array-share-prefix-tag : tie.Need-array-share-prefix-tag
 array-share-prefix-tag c =
-    let t : length (c .before .finish .result) ≡ 20 = search needs in
+    let t : length (c .before .finish .result) ≡ 32 = search needs in
     omega (arith, c .before .before .mac-length .ensures)
 
 slice-aggregate-same-throughout-2 : tie.Need-slice-aggregate-same-throughout-2
