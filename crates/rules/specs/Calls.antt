@@ -30,7 +30,7 @@ use Rattle.rules.specs.declared.Done.{Done}
 use Rattle.rules.specs.declared.Done.the-variants as D
 use Rattle.rules.specs.declared.Settled.{Settled}
 use Rattle.octets.specs.Tests.{Test, test, tests, joined, first}
-use Rattle.rules.specs.Mac.{Flow, segmentMac}
+use Rattle.rules.specs.Mac.{Flow, leavingHidden, arrivingHidden, segmentMac}
 use Rattle.rules.specs.Checksum.{sumsRight, withChecksum}
 use Rattle.rules.specs.Segment.{malformed, ao, md5, aoAt, keyId, rnextKeyId, macIn, isBareSyn, optionBytes, signedWith}
 use Rattle.rules.specs.Connection.{sized, pairOf, Arrival, arrivalPair, localAddress, remoteAddress, isOpen, arriving, leaving}
@@ -113,9 +113,10 @@ keyTests missing unknown found x s =
     ∷ test (refuse 27) (not (eqb (ao s .len) (4 + found .entry .secret .«mac_bytes»)))
     ∷ test (refuse 28) (not (located x)) ∷ []
 
--- 29: the MAC of the segment, under the entry found, is not the one it carries
+-- 29: the MAC of the segment, which arrives, under the entry found, is not the one it carries
 abbrev pub macDiffers : Entry → Flow → Place → List ℕ → Bool
-macDiffers e f x s = not (sameBytes (macIn s) (segmentMac (e .secret) f (extensionOf (value x)) (aoAt s) s))
+macDiffers e f x s =
+    not (sameBytes (macIn s) (segmentMac (e .secret) (arrivingHidden (e .secret)) f (extensionOf (value x)) (aoAt s) s))
 
 -- 29: "MAC differs". It alone needs the data.
 abbrev pub macTests : Entry → Flow → Place → List ℕ → List (Test Outcome)
@@ -325,7 +326,7 @@ checkSign t s room q =
 unfoldable pub authenticated : Entry → State → ℕ → List ℕ → List ℕ
 authenticated e q x s =
     signedWith (q .«send_id») (q .«ask_id»)
-    (segmentMac (e .secret) (leaving (q .conn)) (extensionOf x) 20
+    (segmentMac (e .secret) (leavingHidden (e .secret)) (leaving (q .conn)) (extensionOf x) 20
     (signedWith (q .«send_id») (q .«ask_id») (replicate (e .secret .«mac_bytes») 0) s)) s
 
 -- what is sent has the right checksum, between the state's own addresses

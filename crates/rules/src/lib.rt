@@ -17,6 +17,12 @@ pub enum Outcome {
     Bad(u8, usize),
 }
 
+// Of which sides of a segment address and port count as zero under the MAC (document 02, Ticket 10).
+pub struct Hidden {
+    pub source: bool,
+    pub destination: bool,
+}
+
 // "A verdict is accept with its extension, pass, or drop with a number."
 pub enum Verdict {
     Accept(u32),
