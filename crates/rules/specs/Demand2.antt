@@ -1,9 +1,9 @@
 -- Demand 2, as statements: "What one end signs, the other end of that connection accepts intact if it holds the mirrored key in a valid
 -- table, stands at the stage for such a segment and, once open, has a reference less than 2^31 from the true 64-bit position."
--- First what may arrive: the signed bytes themselves, with their right checksum, and, document 02, Ticket 10, the same "with, only on a side
--- whose bit is set in the entry signed under, the port and the address (within its family) rewritten on the way, so that the segment comes
--- under the pair that the receiver holds, its checksum set right". Then one statement for each way that a segment can go, about what the
--- calls return; then the three steps of an opening. Demand2Laws proves them.
+-- First what may arrive: the signed bytes themselves, with their right checksum, and, document 02, Ticket 10, the same "with, only on a
+-- side whose bit is set in the entry signed under, the port and the address (within its family) rewritten on the way, so that the segment
+-- comes under the pair that the receiver holds, its checksum set right". Then one statement for each way that a segment can go, about what
+-- the calls return; then the three steps of an opening. Demand2Laws proves them.
 use Prim.Native.Nat.{ℕ, _^_, _<_}
 use mathlib.Core.Path.{_≡_}
 use mathlib.Core.Bool.{Bool, true, false}
@@ -119,4 +119,5 @@ OpenedTogether = (active : State) (e : Entry) (x : ℕ) (b : List ℕ) (a : Arri
     → FacingUnder (f .secret) (now .conn .pair) (passive .conn .pair)
     → (k : SignedAt passive f y c) → syn (k .unsigned) ≡ true → Delivered (now .conn .pair) c r
     → Holds u (now .conn .pair) (passive .conn .pair) f
-    → OtherEnd (f .secret) (judged u r now .state .conn) (passive .conn) × OtherEnd (e .secret) (passive .conn) (judged u r now .state .conn)
+    → OtherEnd (f .secret) (judged u r now .state .conn) (passive .conn)
+    × OtherEnd (e .secret) (passive .conn) (judged u r now .state .conn)

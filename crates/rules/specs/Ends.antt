@@ -48,8 +48,8 @@ pub record Facing (p q : Pair) : Type 0 where
   pub local-port : p .«local_port» ≡ q .«remote_port»
   pub remote-port : p .«remote_port» ≡ q .«local_port»
 
--- The same where q's end signs under s. Document 02, Ticket 10: "only on a side whose bit is set in the entry signed under, the port and the
--- address (within its family) rewritten on the way". The signer's local side is p's remote one.
+-- The same where q's end signs under s. Document 02, Ticket 10: "only on a side whose bit is set in the entry signed under, the port and
+-- the address (within its family) rewritten on the way". The signer's local side is p's remote one.
 pub record FacingUnder (s : Secret) (p q : Pair) : Type 0 where
   pub family : p .family ≡ q .family
   pub local : remoteHidden s ≡ false → localAddress p ≡ remoteAddress q

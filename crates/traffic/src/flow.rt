@@ -1,5 +1,6 @@
 // Who sends a segment to whom: document 01, "Traffic keys", "'source' is whoever sent the segment".
-// Traffic keys and pseudo-headers are made from it; document 02, Ticket 10, says what of it counts as zero there. Every value is a flow; where the family is not 4, addresses have sixteen bytes.
+// Traffic keys and pseudo-headers are made from it; document 02, Ticket 10, says what of it counts as zero there. Every value is a flow;
+// where the family is not 4, addresses have sixteen bytes.
 ghost use mathlib.Core.Path.{_≡_};
 ghost use mathlib.Core.List.{_++_};
 ghost use Prim.Native.Nat.{_+_, _≤_};

@@ -24,7 +24,8 @@ pub fn begin(
     header: &[u8],
 ) -> MacContext
     requires { ⌜ (20 ≤ at) × (at + 4 + secret .«mac_bytes» ≤ length (now header)) × (length (now header) ≤ 60) ⌝ }
-    ensures { λ r. ⌜ macView r ≡ macAbsorb (macStart (secret .algorithm) (padded digestRoom (trafficKey secret (blankedOf hidden (flowOf flow)))))
+    ensures { λ r. ⌜ macView r
+        ≡ macAbsorb (macStart (secret .algorithm) (padded digestRoom (trafficKey secret (blankedOf hidden (flowOf flow)))))
         (frontOf secret hidden (blankedOf hidden (flowOf flow)) extension at len (now (header .entry))) ⌝ }
 {
     let seen = crate::flow::blanked(hidden, flow);
