@@ -62,7 +62,7 @@ module _ (x : ℕ) (e : Entry) (f : Flow) (s : List ℕ) (b : Begun) (ready : Re
   mac-ends =
       let h = arrivingHidden (e .secret) in
       ap (λ (n : ℕ). take n (macFinished (macAbsorb (macView (b .mac)) (drop (headerEnd s) s)))) (cut ∙ ready .bytes)
-      ∙ ap (take (e .secret .«mac_bytes»)) 
+      ∙ ap (take (e .secret .«mac_bytes»))
       (tagged (e .secret) (blanked h f) (front (e .secret) h (blanked h f) (extensionOf x) (aoAt s) (length s) (take (headerEnd s) s))
       (drop (headerEnd s) s) (ready .mac) refl refl)
       ∙ tag-mac (e .secret) h f (extensionOf x) (aoAt s) s (omega (arith, ready .bytes, ready .short))

@@ -76,7 +76,15 @@ fn ready(x: u64, rnext: u8, entry: Entry, flow: Flow, option: Occurrence, segmen
     let carried = carried_mac(&segment[from..from + n]);
     let extension = extension_of(x);
     let hidden = traffic::flow::arriving_hidden(secret);
-    let mac = traffic::tag::begin(secret, hidden, flow, extension, at, segment.len(), &segment[..end]);
+    let mac = traffic::tag::begin(
+        secret,
+        hidden,
+        flow,
+        extension,
+        at,
+        segment.len(),
+        &segment[..end],
+    );
     Begun {
         outcome: Outcome::Good(x, rnext),
         ids,
