@@ -20,10 +20,10 @@ use Rattle.rules.specs.Mac.{Flow, arrivingHidden}
 use Rattle.rules.specs.Segment.{ao}
 use Rattle.rules.specs.Connection.{extensionOf}
 use Rattle.rules.specs.Calls.{refuse}
-use Rattle.traffic.specs.MacContext.{MacView, macView, macAbsorb, macFinished}
+use Rattle.traffic.specs.MacContext.{MacView, macView, macAbsorb, macFinished, frontedBy}
 use Rattle.traffic.specs.declared.context.MacContext.{MacContext}
 use Rattle.checks.specs.GroupLaws.{Else}
-use Rattle.checks.specs.Begin.{frontedBy, Begins, Fed, macLength, agrees, ended}
+use Rattle.checks.specs.Begin.{Begins, Fed, macLength, agrees, ended}
 use Rattle.checks.specs.declared.begun.Begun.{Begun}
 use Rattle.checks.proofs.Keyed.{lies}
 

@@ -8,7 +8,6 @@ use lib.ListN.{length, take}
 use Rattle.wire.specs.Bytes.{sameBytes}
 use Rattle.wire.specs.Header.{sequence, headerEnd}
 use Rattle.keys.specs.declared.entry.Entry.{Entry}
-use Rattle.keys.specs.declared.entry.Secret.{Secret}
 use Rattle.keys.specs.declared.entry.Pair.{Pair}
 use Rattle.keys.specs.Table.{Tables, recvEntry}
 use Rattle.rules.specs.declared.Connection.{Connection}
@@ -16,22 +15,15 @@ use Rattle.rules.specs.declared.Place.the-variants.{At}
 use Rattle.rules.specs.declared.Outcome.{Outcome}
 use Rattle.rules.specs.declared.Outcome.the-variants.{Good, Passed, Bad}
 use Rattle.octets.specs.Tests.{first}
-use Rattle.rules.specs.declared.Hidden.{Hidden}
-use Rattle.rules.specs.Mac.{Flow, arrivingHidden, blanked, trafficKey, front}
+use Rattle.rules.specs.Mac.{Flow, arrivingHidden}
 use Rattle.rules.specs.Segment.{aoAt, keyId, macIn}
 use Rattle.rules.specs.Connection.{Arrival, arrivalPair, arriving, arrivingSyn, placeOn, extensionOf}
 use Rattle.rules.specs.Calls.{refuse, keyTests, judgeGroups, synMissing, synUnknown, synGroups}
-use Rattle.traffic.specs.Padded.{padded, digestRoom}
-use Rattle.traffic.specs.MacContext.{MacView, macView, macStart, macAbsorb, macFinished}
+use Rattle.traffic.specs.MacContext.{MacView, macView, macAbsorb, macFinished, frontedBy}
 use Rattle.checks.specs.Groups.{untilMac, goodAt}
 use Rattle.checks.specs.declared.begun.Begun.{Begun}
 
--- the MAC that the front leaves, of a segment whose hidden sides are h, under the secret's traffic key
-abbrev pub frontedBy : Secret → Hidden → Flow → ℕ → ℕ → ℕ → List ℕ → MacView
-frontedBy s h f extension at len header =
-    macAbsorb (macStart (s .algorithm) (padded digestRoom (trafficKey s (blanked h f)))) (front s h (blanked h f) extension at len header)
-
--- of one that arrives
+-- the MAC that the front leaves, of a segment that arrives
 abbrev pub fronted : Entry → Flow → ℕ → List ℕ → MacView
 fronted e f x s =
     frontedBy (e .secret) (arrivingHidden (e .secret)) f (extensionOf x) (aoAt s) (length s) (take (headerEnd s) s)

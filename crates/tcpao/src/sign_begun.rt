@@ -161,7 +161,8 @@ pub(crate) fn ready(
     let conn = state.conn;
     let flow = leaving_flow(conn);
     let extension = extension_of(x);
-    let mac = traffic::tag::begin(secret, flow, extension, 20, len, &header[..whole]);
+    let hidden = traffic::flow::leaving_hidden(secret);
+    let mac = traffic::tag::begin(secret, hidden, flow, extension, 20, len, &header[..whole]);
     let sum = leaving_sum(conn.pair, len);
     SignBegun {
         outcome: Outcome::Good(x, state.ask_id),

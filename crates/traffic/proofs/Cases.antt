@@ -20,7 +20,7 @@ use Rattle.keys.specs.declared.entry.Secret.{Secret}
 use Rattle.rules.specs.declared.Hidden.{Hidden}
 use Rattle.rules.specs.Mac.{Flow, blanked, derivationInput, aesKey, isHmac, derivationKey, applied, trafficKey, front}
 use Rattle.traffic.specs.Padded.{padded, digestRoom}
-use Rattle.traffic.specs.MacContext.{MacView, Hmac, Cmac, hashFor, byAlgorithm, macStart, macAbsorb, macFinished}
+use Rattle.traffic.specs.MacContext.{MacView, Hmac, Cmac, hashFor, byAlgorithm, macStart, macAbsorb, macFinished, frontedBy}
 
 -- An algorithm that applies an HMAC, by the hash h that the code names.
 module _ (algorithm : ℕ) (is : isHmac algorithm ≡ true) (h : HashAlgorithm) (eh : h ≡ hashFor algorithm) (c : View) where
@@ -66,7 +66,7 @@ begun algorithm ek eu ea ev = ev ∙ (λ i. macAbsorb ((eu ∙ ap (macStart algo
 pub begun-blanked : (s : Secret) (h : Hidden) (extension at len : ℕ) (header : List ℕ) (f g : Flow) {k a : List ℕ} {u v : MacView}
     → g ≡ blanked h f → k ≡ padded digestRoom (trafficKey s g) → u ≡ macStart (s .algorithm) k → a ≡ front s h g extension at len header
     → v ≡ macAbsorb u a
-    → v ≡ macAbsorb (macStart (s .algorithm) (padded digestRoom (trafficKey s (blanked h f)))) (front s h (blanked h f) extension at len header)
+    → v ≡ frontedBy s h f extension at len header
 begun-blanked s h extension at len header f g eg ek eu ea ev =
     begun (s .algorithm) (ek ∙ ap (λ (g : Flow). padded digestRoom (trafficKey s g)) eg) eu
     (ea ∙ ap (λ (g : Flow). front s h g extension at len header) eg) ev

@@ -5,9 +5,7 @@
 ghost use mathlib.Core.Path.{_≡_};
 ghost use Prim.Native.Nat.{_+_, _≤_};
 ghost use lib.ListN.{length};
-ghost use Rattle.rules.specs.Mac.{blanked as blankedOf, trafficKey, front as frontOf};
-ghost use Rattle.traffic.specs.MacContext.{macView, macStart, macAbsorb};
-ghost use Rattle.traffic.specs.Padded.{padded, digestRoom};
+ghost use Rattle.traffic.specs.MacContext.{macView, frontedBy};
 ghost use Rattle.traffic.specs.Flow.{flowOf};
 use crate::context::MacContext;
 use crate::flow::Flow;
@@ -24,9 +22,7 @@ pub fn begin(
     header: &[u8],
 ) -> MacContext
     requires { ⌜ (20 ≤ at) × (at + 4 + secret .«mac_bytes» ≤ length (now header)) × (length (now header) ≤ 60) ⌝ }
-    ensures { λ r. ⌜ macView r
-        ≡ macAbsorb (macStart (secret .algorithm) (padded digestRoom (trafficKey secret (blankedOf hidden (flowOf flow)))))
-        (frontOf secret hidden (blankedOf hidden (flowOf flow)) extension at len (now (header .entry))) ⌝ }
+    ensures { λ r. ⌜ macView r ≡ frontedBy secret hidden (flowOf flow) extension at len (now (header .entry)) ⌝ }
 {
     let seen = crate::flow::blanked(hidden, flow);
     let key = crate::derive::traffic_key(secret, seen);
