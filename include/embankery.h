@@ -80,8 +80,8 @@ extern "C" {
  * 17 it is the entry's index, from 0. Else it is 0. 160 is EMBANKERY_STATE_BYTES.
  *
  * Where several apply, 18 is given before 19, then 10 to 17, and then the others in the order of this
- * list, but 40 right behind 20, and 32 right behind 35. Of the table's entries the first that is refused counts; of one entry 12 comes first, then 11,
- * 10, 13, 14, 15, 16 and 17.
+ * list, but 40 right behind 20, and 32 right behind 35. Of the table's entries the first that is refused
+ * counts; of one entry 12 comes first, then 11, 10, 13, 14, 15, 16 and 17.
  *
  * A call that is refused (10 and above) leaves every buffer as it was, but for one thing: drops 20 to 29
  * and 40 by tcpao_judge on an open connection add one to that number's count. A passive opening that only passes
