@@ -1,4 +1,4 @@
--- Judging that has begun (src/begun.rt): what a value of the code's Begun stands for, once all is tested that needs no data. A reader need
+-- Judging that has begun (src/begun.rt): what a value of the code's Begun stands for, once every test but 29 is made. A reader need
 -- not believe these: the calls cite the crate `rules` alone.
 use Prim.Native.Nat.{ℕ, _≤_, min}
 use mathlib.Core.Path.{_≡_}
@@ -36,7 +36,7 @@ pub record Ready (x : ℕ) (e : Entry) (f : Flow) (s : List ℕ) (b : Begun) : T
   pub carried : take (b .«mac_bytes») (b .carried) ≡ macIn s
   pub mac : macView (b .mac) ≡ fronted e f x s
 
--- o is the outcome of all that needs no data; only where it is Good does the rest mean something
+-- o is the outcome of every test but 29; only where it is Good does the rest mean something
 pub record Begins (o : Outcome) (e : Entry) (f : Flow) (s : List ℕ) (b : Begun) : Type 0 where
   pub outcome : b .outcome ≡ o
   pub ready : (x r : ℕ) → o ≡ Good x r → Ready x e f s b

@@ -42,7 +42,7 @@ refuse n = Bad n 0
 
 -- The numbers, in groups.
 
--- 18: "state's family is neither IPv4 nor IPv6"; the families are the entries' kinds, 4 and 6
+-- 18: "state's family is neither IPv4 nor IPv6"; the families are 4 and 6, the entries' kinds 4 to 7
 abbrev pub familyTests : Connection → List (Test Outcome)
 familyTests l = test (refuse 18) (not (isFamily (l .pair .family))) ∷ []
 
@@ -118,7 +118,7 @@ abbrev pub macDiffers : Entry → Flow → Place → List ℕ → Bool
 macDiffers e f x s =
     not (sameBytes (macIn s) (segmentMac (e .secret) (arrivingHidden (e .secret)) f (extensionOf (value x)) (aoAt s) s))
 
--- 29: "MAC differs". It alone needs the data.
+-- 29: "MAC differs". It alone needs the MAC; of the data, 40 needs the sum.
 abbrev pub macTests : Entry → Flow → Place → List ℕ → List (Test Outcome)
 macTests e f x s = test (refuse 29) (macDiffers e f x s) ∷ []
 

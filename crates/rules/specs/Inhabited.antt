@@ -113,7 +113,7 @@ theirs pair sendId recvId =
 -- from a port of two bytes; sequence number 16, ACK, four options of kind 1, three bytes of data: 2^32 + 16 is its position
 abbrev pub segmentFrom : ℕ → ℕ → List ℕ
 segmentFrom high low =
-    high ∷ low ∷ 233 ∷ 215 ∷ 0 ∷ 0 ∷ 0 ∷ 16 ∷ 1 ∷ 2 ∷ 3 ∷ 4 ∷ 96 ∷ 16 ∷ 128 ∷ 0 ∷ 0 ∷ 0 ∷ 0 ∷ 0
+    high ∷ low ∷ 233 ∷ 215 ∷ 0 ∷ 0 ∷ 0 ∷ 16 ∷ 1 ∷ 2 ∷ 3 ∷ 4 ∷ 96 ∷ 16 ∷ 128 ∷ 0 ∷ 140 ∷ 119 ∷ 0 ∷ 0
     ∷ 1 ∷ 1 ∷ 1 ∷ 1 ∷ 97 ∷ 98 ∷ 99 ∷ []
 
 abbrev pub segment : List ℕ

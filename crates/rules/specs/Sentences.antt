@@ -71,11 +71,11 @@ hidesLeaving s = record { source = eqb (s .flags / 2 % 2) 1; destination = eqb (
 abbrev pub wrongMac : Entry → Flow → Place → List ℕ → Bool
 wrongMac e f x s = not (sameBytes (macIn s) (segmentMac (e .secret) (hidesArriving (e .secret)) f (extensionOf (value x)) (aoAt s) s))
 
--- Judging with a state, its connection l.
 -- 40, Ticket 5: a "one's complement sum, pseudo-header and checksum included," that "is not FFFF"
 abbrev pub wrongSum : Arrival → Bool
 wrongSum a = not (eqb (onesSum (pseudoHeader (a .source) (a .destination) (length (a .segment)) ++ a .segment)) 65535)
 
+-- Judging with a state, its connection l.
 abbrev pub judgeRows : K.Tables → Connection → Found → Place → Arrival → List NumberRow
 judgeRows t l found x a =
     row 18 (not (isFamily (l .pair .family)) ∷ [])
@@ -307,6 +307,7 @@ abbrev pub mac : List ℕ
 mac = 201 ∷ 202 ∷ 203 ∷ 204 ∷ 205 ∷ 206 ∷ 207 ∷ 208 ∷ 209 ∷ 210 ∷ 211 ∷ 212 ∷ []
 
 -- "Signing puts TCP-AO directly after byte 20, the old options behind it, raises the data offset by 4, and writes checksum zero."
+-- (under the MAC; the right checksum comes behind it)
 abbrev pub signedBytes : List ℕ
 signedBytes =
     0 ∷ 179 ∷ 233 ∷ 215 ∷ 0 ∷ 0 ∷ 0 ∷ 16 ∷ 1 ∷ 2 ∷ 3 ∷ 4 ∷ 160 ∷ 16 ∷ 128 ∷ 0 ∷ 0 ∷ 0 ∷ 7 ∷ 8
@@ -396,7 +397,7 @@ pub record HiddenContexts : Type 0 where
       ≡ 0 ∷ 0 ∷ 0 ∷ 0 ∷ 172 ∷ 27 ∷ 28 ∷ 29 ∷ 0 ∷ 0 ∷ 0 ∷ 179 ∷ 0 ∷ 0 ∷ 0 ∷ 100 ∷ 0 ∷ 0 ∷ 0 ∷ 0 ∷ []
   pub bare-syn-arrives : context (blanked (hidesArriving (secret 4)) (arrivingSyn bareSyn))
       ≡ 0 ∷ 0 ∷ 0 ∷ 0 ∷ 10 ∷ 11 ∷ 12 ∷ 13 ∷ 0 ∷ 0 ∷ 233 ∷ 215 ∷ 0 ∷ 0 ∷ 0 ∷ 16 ∷ 0 ∷ 0 ∷ 0 ∷ 0 ∷ []
-  -- "(within its family)": so many bytes as the address has
+  -- as many zero bytes as the address has
   pub ipv6 : (h : Hidden) (f : Flow) → h .source ≡ true → length (f .source) ≡ 16
       → blanked h f .source ≡ 0 ∷ 0 ∷ 0 ∷ 0 ∷ 0 ∷ 0 ∷ 0 ∷ 0 ∷ 0 ∷ 0 ∷ 0 ∷ 0 ∷ 0 ∷ 0 ∷ 0 ∷ 0 ∷ []
 

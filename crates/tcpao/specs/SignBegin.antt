@@ -23,7 +23,7 @@ use Rattle.traffic.specs.MacContext.{MacView, macView, macAbsorb, macFinished, 
 use Rattle.checks.specs.Begin.{macLength}
 use Rattle.tcpao.specs.declared.sign_begun.SignBegun.{SignBegun}
 
--- the signed header with zeros for the MAC
+-- the signed header with zeros for MAC and checksum
 abbrev pub blankHeader : Secret → State → List ℕ → List ℕ
 blankHeader e q s = inserted (optionOf (q .«send_id») (q .«ask_id») (replicate (e .«mac_bytes») 0)) (take (headerEnd s) s)
 
