@@ -80,8 +80,8 @@ extern "C" {
  * 17 it is the entry's index, from 0. Else it is 0. 160 is EMBANKERY_STATE_BYTES.
  *
  * Where several apply, 18 is given before 19, then 10 to 17, and then the others in the order of this
- * list, but 40 right behind 20, and 32 right behind 35. Of the table's entries the first that is refused counts; of one entry 12 comes first, then 11,
- * 10, 13, 14, 15, 16 and 17.
+ * list, but 40 right behind 20, and 32 right behind 35. Of the table's entries the first that is refused
+ * counts; of one entry 12 comes first, then 11, 10, 13, 14, 15, 16 and 17.
  *
  * A call that is refused (10 and above) leaves every buffer as it was, but for one thing: drops 20 to 29
  * and 40 by tcpao_judge on an open connection add one to that number's count. A passive opening that only passes
@@ -101,7 +101,11 @@ extern "C" {
  *
  *   bytes  field
  *   1      kind: 4 or 5 (IPv4, w = 4), 6 or 7 (IPv6, w = 16)
- *   1      flags: 1, the MAC covers all options; 0, only TCP-AO
+ *   1      flags, a sum: 1, the MAC covers all options, else only TCP-AO; 2, the local side is behind
+ *          address translation; 4, the remote side is (RFC 6978). Of such a side address and port count
+ *          as zero for the MAC and its key, so that they may be rewritten on the way; the entry matches
+ *          what is seen here, the checksum is over what is really there, and the peer's entry has 2 and
+ *          4 the other way round
  *   1      algorithm: 1, HMAC-SHA-1; 2, AES-128-CMAC; 3, HMAC-SHA-256
  *   1      SendID: the KeyID of segments that we sign
  *   1      RecvID: the KeyID of segments that we receive

@@ -15,12 +15,12 @@ use Rattle.wire.specs.declared.options.Occurrence.{Occurrence}
 use Rattle.keys.specs.declared.entry.Entry.{Entry}
 use Rattle.rules.specs.declared.Outcome.{Outcome}
 use Rattle.rules.specs.declared.Outcome.the-variants.{Good, Passed, Bad}
-use Rattle.rules.specs.Mac.{Flow, trafficKey, front}
+use Rattle.rules.specs.declared.Hidden.{Hidden}
+use Rattle.rules.specs.Mac.{Flow, arrivingHidden}
 use Rattle.rules.specs.Segment.{ao}
 use Rattle.rules.specs.Connection.{extensionOf}
 use Rattle.rules.specs.Calls.{refuse}
-use Rattle.traffic.specs.Padded.{padded, digestRoom}
-use Rattle.traffic.specs.MacContext.{MacView, macView, macStart, macAbsorb, macFinished}
+use Rattle.traffic.specs.MacContext.{MacView, macView, macAbsorb, macFinished, frontedBy}
 use Rattle.traffic.specs.declared.context.MacContext.{MacContext}
 use Rattle.checks.specs.GroupLaws.{Else}
 use Rattle.checks.specs.Begin.{Begins, Fed, macLength, agrees, ended}
@@ -34,13 +34,12 @@ front-of n x e =
 
 -- behind 28
 module _ (x rnext : ℕ) (e : Entry) (f : Flow) (s : List ℕ) {o : Occurrence} (is : o ≡ ao s) (formed : wellSized s ≡ true) (long : o .len ≡ 4 + e .secret .«mac_bytes»)
-    (short : e .secret .«mac_bytes» ≤ 16) {end ext n : ℕ} (m : MacContext) (k : List ℕ) where
-  pub ready-is : end ≡ headerEnd s → ext ≡ extensionOf x → n ≡ e .secret .«mac_bytes»
-      → macView m ≡ macAbsorb (macStart (e .secret .algorithm) (padded digestRoom (trafficKey (e .secret) f)))
-      (front (e .secret) f ext (20 + o .at) (length s) (take end s))
+    (short : e .secret .«mac_bytes» ≤ 16) {end ext n : ℕ} (h : Hidden) (m : MacContext) (k : List ℕ) where
+  pub ready-is : end ≡ headerEnd s → ext ≡ extensionOf x → h ≡ arrivingHidden (e .secret) → n ≡ e .secret .«mac_bytes»
+      → macView m ≡ frontedBy (e .secret) h f ext (20 + o .at) (length s) (take end s)
       → take (length (take n (drop (20 + o .at + 4) s))) k ≡ take n (drop (20 + o .at + 4) s)
       → Begins (Good x rnext) e f s (record { outcome = Good x rnext; ids = e .ids; mac = m; carried = k; «mac_bytes» = e .secret .«mac_bytes» })
-  ready-is ends extends counts macs carries =
+  ready-is ends extends hides counts macs carries =
       record {
         outcome = refl;
         ready = λ y r g.
@@ -50,8 +49,8 @@ module _ (x rnext : ℕ) (e : Entry) (f : Flow) (s : List ℕ) {o : Occurrence} 
               bytes = refl;
               short = short;
               carried = ap (λ (j : ℕ). take j k) (sym all) ∙ carries ∙ (λ i. take (cut i) (drop (20 + is i .at + 4) s));
-              mac = macs ∙ (λ i. macAbsorb (macStart (e .secret .algorithm) (padded digestRoom (trafficKey (e .secret) f)))
-                  (front (e .secret) f ((extends ∙ ap extensionOf at) i) (20 + is i .at) (length s) (take (ends i) s)));
+              mac = macs
+                  ∙ (λ i. frontedBy (e .secret) (hides i) f ((extends ∙ ap extensionOf at) i) (20 + is i .at) (length s) (take (ends i) s));
             };
       }
     where

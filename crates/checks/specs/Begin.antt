@@ -1,4 +1,4 @@
--- Judging that has begun (src/begun.rt): what a value of the code's Begun stands for, once all is tested that needs no data. A reader need
+-- Judging that has begun (src/begun.rt): what a value of the code's Begun stands for, once every test but 29 is made. A reader need
 -- not believe these: the calls cite the crate `rules` alone.
 use Prim.Native.Nat.{ℕ, _≤_, min}
 use mathlib.Core.Path.{_≡_}
@@ -15,20 +15,18 @@ use Rattle.rules.specs.declared.Place.the-variants.{At}
 use Rattle.rules.specs.declared.Outcome.{Outcome}
 use Rattle.rules.specs.declared.Outcome.the-variants.{Good, Passed, Bad}
 use Rattle.octets.specs.Tests.{first}
-use Rattle.rules.specs.Mac.{Flow, trafficKey, front}
+use Rattle.rules.specs.Mac.{Flow, arrivingHidden}
 use Rattle.rules.specs.Segment.{aoAt, keyId, macIn}
 use Rattle.rules.specs.Connection.{Arrival, arrivalPair, arriving, arrivingSyn, placeOn, extensionOf}
 use Rattle.rules.specs.Calls.{refuse, keyTests, judgeGroups, synMissing, synUnknown, synGroups}
-use Rattle.traffic.specs.Padded.{padded, digestRoom}
-use Rattle.traffic.specs.MacContext.{MacView, macView, macStart, macAbsorb, macFinished}
+use Rattle.traffic.specs.MacContext.{MacView, macView, macAbsorb, macFinished, frontedBy}
 use Rattle.checks.specs.Groups.{untilMac, goodAt}
 use Rattle.checks.specs.declared.begun.Begun.{Begun}
 
--- the MAC that the front leaves, under the entry's traffic key
+-- the MAC that the front leaves, of a segment that arrives
 abbrev pub fronted : Entry → Flow → ℕ → List ℕ → MacView
 fronted e f x s =
-    macAbsorb (macStart (e .secret .algorithm) (padded digestRoom (trafficKey (e .secret) f)))
-    (front (e .secret) f (extensionOf x) (aoAt s) (length s) (take (headerEnd s) s))
+    frontedBy (e .secret) (arrivingHidden (e .secret)) f (extensionOf x) (aoAt s) (length s) (take (headerEnd s) s)
 
 -- what waits for the data, at the position x under the entry e
 pub record Ready (x : ℕ) (e : Entry) (f : Flow) (s : List ℕ) (b : Begun) : Type 0 where
@@ -38,7 +36,7 @@ pub record Ready (x : ℕ) (e : Entry) (f : Flow) (s : List ℕ) (b : Begun) : T
   pub carried : take (b .«mac_bytes») (b .carried) ≡ macIn s
   pub mac : macView (b .mac) ≡ fronted e f x s
 
--- o is the outcome of all that needs no data; only where it is Good does the rest mean something
+-- o is the outcome of every test but 29; only where it is Good does the rest mean something
 pub record Begins (o : Outcome) (e : Entry) (f : Flow) (s : List ℕ) (b : Begun) : Type 0 where
   pub outcome : b .outcome ≡ o
   pub ready : (x r : ℕ) → o ≡ Good x r → Ready x e f s b

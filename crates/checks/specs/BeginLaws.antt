@@ -17,7 +17,7 @@ use Rattle.rules.specs.declared.Place.the-variants.{At}
 use Rattle.rules.specs.declared.Outcome.the-variants.{Good, Passed, Bad}
 use Rattle.octets.specs.Tests.{Test, first}
 use Rattle.octets.specs.TestLaws.{first-none, first-append, first-joined, eachGives, none-applied}
-use Rattle.rules.specs.Mac.{Flow, front, segmentMac}
+use Rattle.rules.specs.Mac.{Flow, arrivingHidden, blanked, front, segmentMac}
 use Rattle.rules.specs.Segment.{aoAt, keyId, macIn}
 use Rattle.rules.specs.Connection.{Arrival, arrivalPair, arriving, arrivingSyn, placeOn, value, extensionOf}
 use Rattle.rules.specs.Calls.{refuse, macTests, Groups, inOrder, judgeGroups, check, synUnknown, synGroups, checkSyn}
@@ -53,14 +53,21 @@ module _ (x : ℕ) (e : Entry) (f : Flow) (s : List ℕ) (b : Begun) (ready : Re
   cut : macLength (b .«mac_bytes») ≡ b .«mac_bytes»
   cut = omega (arith, ready .short)
 
-  mac-ends : take (macLength (b .«mac_bytes»)) (macFinished (macAbsorb (macView (b .mac)) (drop (headerEnd s) s)))
-      ≡ segmentMac (e .secret) f (extensionOf x) (aoAt s) s
-  mac-ends =
-      ap (λ (n : ℕ). take n (macFinished (macAbsorb (macView (b .mac)) (drop (headerEnd s) s)))) (cut ∙ ready .bytes)
-      ∙ ap (take (e .secret .«mac_bytes»)) (tagged (e .secret) f (front (e .secret) f (extensionOf x) (aoAt s) (length s) (take (headerEnd s) s)) (drop (headerEnd s) s) (ready .mac) refl refl)
-      ∙ tag-mac (e .secret) f (extensionOf x) (aoAt s) s (omega (arith, ready .bytes, ready .short))
+  -- the segment's MAC, at the extension of x
+  abbrev macAt : List ℕ
+  macAt = segmentMac (e .secret) (arrivingHidden (e .secret)) f (extensionOf x) (aoAt s) s
 
-  pub agreed : agrees b (macAbsorb (macView (b .mac)) (drop (headerEnd s) s)) ≡ sameBytes (macIn s) (segmentMac (e .secret) f (extensionOf x) (aoAt s) s)
+  mac-ends : take (macLength (b .«mac_bytes»)) (macFinished (macAbsorb (macView (b .mac)) (drop (headerEnd s) s)))
+      ≡ macAt
+  mac-ends =
+      let h = arrivingHidden (e .secret) in
+      ap (λ (n : ℕ). take n (macFinished (macAbsorb (macView (b .mac)) (drop (headerEnd s) s)))) (cut ∙ ready .bytes)
+      ∙ ap (take (e .secret .«mac_bytes»))
+      (tagged (e .secret) (blanked h f) (front (e .secret) h (blanked h f) (extensionOf x) (aoAt s) (length s) (take (headerEnd s) s))
+      (drop (headerEnd s) s) (ready .mac) refl refl)
+      ∙ tag-mac (e .secret) h f (extensionOf x) (aoAt s) s (omega (arith, ready .bytes, ready .short))
+
+  pub agreed : agrees b (macAbsorb (macView (b .mac)) (drop (headerEnd s) s)) ≡ sameBytes (macIn s) macAt
   agreed = ap₂ sameBytes (ap (λ (n : ℕ). take n (b .carried)) cut ∙ ready .carried) mac-ends
 
 -- what was accepted was ready
@@ -84,10 +91,10 @@ module _ (g : Groups) (p : Place) (e : Entry) (f : Flow) (s : List ℕ) (mac : g
           let k : Good x r ≡ goodAt p s = sym h ∙ first-none (untilMac g) (goodAt p s) none in
           let at : x ≡ value p = cc in
           let same = agreed x e f s b (begins .ready x r h)
-          ∙ ap (λ (y : ℕ). sameBytes (macIn s) (segmentMac (e .secret) f (extensionOf y) (aoAt s) s)) at in
+          ∙ ap (λ (y : ℕ). sameBytes (macIn s) (segmentMac (e .secret) (arrivingHidden (e .secret)) f (extensionOf y) (aoAt s) s)) at in
           gave ∙ ap₂ ended (begins .outcome ∙ h) same
-          ∙ ap (λ (y : Outcome). cond (sameBytes (macIn s) (segmentMac (e .secret) f (extensionOf (value p)) (aoAt s) s)) y (refuse 29)) k
-          ∙ flip (sameBytes (macIn s) (segmentMac (e .secret) f (extensionOf (value p)) (aoAt s) s)) (goodAt p s) (refuse 29)
+          ∙ ap (λ (y : Outcome). cond (sameBytes (macIn s) (segmentMac (e .secret) (arrivingHidden (e .secret)) f (extensionOf (value p)) (aoAt s) s)) y (refuse 29)) k
+          ∙ flip (sameBytes (macIn s) (segmentMac (e .secret) (arrivingHidden (e .secret)) f (extensionOf (value p)) (aoAt s) s)) (goodAt p s) (refuse 29)
           ∙ sym (whole g (goodAt p s) ∙ first-none (untilMac g) (first (g .mac) (goodAt p s)) none ∙ ap (λ (l : List (Test Outcome)). first l (goodAt p s)) mac)
       go Passed h = gave ∙ ap (λ (u : Outcome). ended u (agrees b (macAbsorb (macView (b .mac)) (drop (headerEnd s) s)))) (begins .outcome ∙ h) ∙ sym h ∙ kept (ap isFinal h)
       go (Bad n i) h = gave ∙ ap (λ (u : Outcome). ended u (agrees b (macAbsorb (macView (b .mac)) (drop (headerEnd s) s)))) (begins .outcome ∙ h) ∙ sym h ∙ kept (ap isFinal h)

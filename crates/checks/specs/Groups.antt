@@ -58,7 +58,7 @@ early g = joined (g .input ∷ g .size ∷ g .sum ∷ [])
 abbrev pub formed : Groups → List (Test Outcome)
 formed g = joined (g .form ∷ g .arrival ∷ [])
 
--- all that needs no data: every test but 29
+-- every test but 29, which alone needs the MAC
 abbrev pub untilMac : Groups → List (Test Outcome)
 untilMac g = joined (g .input ∷ g .size ∷ g .sum ∷ g .form ∷ g .arrival ∷ g .key ∷ [])
 

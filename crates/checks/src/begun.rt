@@ -1,4 +1,4 @@
-// Judging in three steps: begin, data, end. Begin (check.rt) tests all that needs no data and leaves the MAC as its front left it; data
+// Judging in three steps: begin, data, end. Begin (check.rt) makes every test but 29 and leaves the MAC as its front left it; data
 // go into it from where they lie, in as many pieces as they come; end compares: 29. Between them a value holds all that is needed, and no
 // reference.
 ghost use mathlib.Core.Path.{_≡_};
@@ -28,8 +28,8 @@ use wire::bytes::byte_at;
 use wire::bytes::same_throughout;
 use wire::options::Occurrence;
 
-// The outcome of 10 to 28. Where it is Good, with position and RNextKeyID: the entry's IDs, the MAC after its front, and the MAC carried,
-// of so many bytes; else these mean nothing.
+// The outcome of every test but 29. Where it is Good, with position and RNextKeyID: the entry's IDs, the MAC after its front, and the MAC
+// carried, of so many bytes; else these mean nothing.
 pub struct Begun {
     pub outcome: Outcome,
     pub ids: Ids,
@@ -75,7 +75,16 @@ fn ready(x: u64, rnext: u8, entry: Entry, flow: Flow, option: Occurrence, segmen
     let from = at + 4;
     let carried = carried_mac(&segment[from..from + n]);
     let extension = extension_of(x);
-    let mac = traffic::tag::begin(secret, flow, extension, at, segment.len(), &segment[..end]);
+    let hidden = traffic::flow::arriving_hidden(secret);
+    let mac = traffic::tag::begin(
+        secret,
+        hidden,
+        flow,
+        extension,
+        at,
+        segment.len(),
+        &segment[..end],
+    );
     Begun {
         outcome: Outcome::Good(x, rnext),
         ids,

@@ -93,7 +93,7 @@ fn keyed(table: &[u8], segment: &[u8], header: Header, conn: Connection, referen
     )
 }
 
-// With a state, opening or open: all that needs no data.
+// With a state, opening or open: every test but 29.
 pub fn begin(
     table: &[u8],
     source: &[u8],
@@ -199,7 +199,7 @@ fn keyed_syn(table: &[u8], segment: &[u8], header: Header, pair: Pair, strict: b
     )
 }
 
-// A bare SYN, without a state: all that needs no data, with the IDs of the entry that was found.
+// A bare SYN, without a state: every test but 29, with the IDs of the entry that was found.
 pub fn begin_syn(
     table: &[u8],
     source: &[u8],

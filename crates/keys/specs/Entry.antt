@@ -1,6 +1,7 @@
--- What the table's bytes mean: document 01, "Key table (house bytes)", and document 02, Ticket 4. A later kind of entry moves this file.
+-- What the table's bytes mean: document 01, "Key table (house bytes)", and document 02, Tickets 4 and 10. A later kind of entry moves
+-- this file.
 -- Any list of bytes has a meaning: a byte that is not there counts as 0, and the numbers 10 to 17 (specs/Table.antt) say what is refused.
-use Prim.Native.Nat.{ℕ, zero, suc, _+_, _*_, _-_, _%_}
+use Prim.Native.Nat.{ℕ, zero, suc, _+_, _*_, _-_, _/_, _%_}
 use mathlib.Core.Bool.{Bool, cond, _&&_, _||_}
 use mathlib.Core.List.{List, [], _∷_, _++_}
 use lib.ListN.{length, getD, take, drop, replicate}
@@ -90,6 +91,13 @@ entryOf e = record { selector = selectorOf (getD e 0 0) e; ids = idsOf e; secret
 -- "flags (1: all options covered by the MAC; 0: only TCP-AO)": the lowest bit says it
 abbrev pub allOptions : Secret → Bool
 allOptions s = eqb (s .flags % 2) 1
+
+-- document 02, Ticket 10: "flags 2 for the local and 4 for the remote side, under which that side's address and port count as zero"
+abbrev pub localHidden : Secret → Bool
+localHidden s = eqb (s .flags / 2 % 2) 1
+
+abbrev pub remoteHidden : Secret → Bool
+remoteHidden s = eqb (s .flags / 4 % 2) 1
 
 -- the master key: as many bytes as its length says
 abbrev pub keyOf : Secret → List ℕ

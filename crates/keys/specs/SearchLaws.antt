@@ -185,7 +185,7 @@ any-holder t p h =
 
 pub record Proper (e : Entry) : Type 0 where
   pub family : Family (e .selector .family)
-  pub flags : e .secret .flags ≤ 1
+  pub flags : e .secret .flags ≤ 7
   pub algorithm : (e .secret .algorithm ≡ 1) ⊎ ((e .secret .algorithm ≡ 2) ⊎ (e .secret .algorithm ≡ 3))
   pub mac-low : 4 ≤ e .secret .«mac_bytes»
   pub mac-high : e .secret .«mac_bytes» ≤ 16
@@ -217,7 +217,7 @@ proper-of e s f =
     let k = r .1 .1 in
     record {
       family = s .family;
-      flags = ltb-false 1 (e .secret .flags) (f .0);
+      flags = ltb-false 7 (e .secret .flags) (f .0);
       algorithm = listed (e .secret .algorithm) (ltb-false (e .secret .algorithm) 1 (f .1 .0)) (ltb-false 3 (e .secret .algorithm) (f .1 .1 .0));
       mac-low = ltb-false (e .secret .«mac_bytes») 4 (m .0);
       mac-high = ltb-false 16 (e .secret .«mac_bytes») (m .1 .0);

@@ -28,10 +28,10 @@ unfoldable pub numberOf : List (Test ℕ) → ℕ
 numberOf l = first l 0
 
 -- 13: "flags or algorithm not listed"; document 02, Ticket 4: "Refusal 13 also covers the new byte", "4 to 16"; Ticket 13: "Refusal 13
--- admits 3"
+-- admits 3"; Ticket 10: "Refusal 13 admits both bits", 2 and 4
 abbrev pub secretTests : Secret → List (Test ℕ)
 secretTests s =
-    test 13 (ltb 1 (s .flags))
+    test 13 (ltb 7 (s .flags))
     ∷ test 13 (ltb (s .algorithm) 1)
     ∷ test 13 (ltb 3 (s .algorithm))
     ∷ test 13 (ltb (s .«mac_bytes») 4)

@@ -1,5 +1,5 @@
 // One entry of the key table (an MKT of RFC 5925, section 3.1), by value and read from its bytes: document 01, "Key table (house bytes)",
-// and document 02, Ticket 4.
+// and document 02, Tickets 4 and 10.
 // The functions here ask that the entry is there whole; the walks of table.rt see to it.
 ghost use mathlib.Core.Bool.{true};
 ghost use mathlib.Core.Path.{_≡_};
@@ -29,7 +29,8 @@ pub struct Ids {
     pub recv: u8,
 }
 
-// How an entry signs: bit 0 of the flags says that all options are covered; the key is the first key_len bytes.
+// How an entry signs: bit 0 of the flags says that all options are covered, bits 1 and 2 that the local and the remote side's address and
+// port count as zero; the key is the first key_len bytes.
 pub struct Secret {
     pub flags: u8,
     pub algorithm: u8,

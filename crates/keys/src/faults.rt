@@ -12,7 +12,7 @@ use crate::entry::Side;
 fn secret_number(s: Secret) -> u8
     ensures { λ r. ⌜ r ≡ numberOf (secretTests s) ⌝ }
 {
-    if 1 < s.flags {
+    if 7 < s.flags {
         return 13;
     }
     if s.algorithm < 1 {

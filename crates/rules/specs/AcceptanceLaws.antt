@@ -21,14 +21,14 @@ use Rattle.rules.specs.declared.Outcome.{Outcome}
 use Rattle.rules.specs.declared.State.{State}
 use Rattle.rules.specs.Position.{position}
 use Rattle.octets.specs.TestLaws.{NoneApplies}
-use Rattle.rules.specs.Mac.{Flow, segmentMac}
-use Rattle.rules.specs.MacLaws.{Agree}
+use Rattle.rules.specs.Mac.{Flow, leavingHidden, arrivingHidden, segmentMac}
+use Rattle.rules.specs.MacLaws.{Agree, Alike}
 use Rattle.rules.specs.Segment.{ao}
-use Rattle.rules.specs.Connection.{leaving, value, extensionOf}
+use Rattle.rules.specs.Connection.{Arrival, leaving, value, extensionOf}
 use Rattle.rules.specs.Calls.{keyTests, macTests, isRefused, macDiffers, formTests, lengthTests, tableTests}
-use Rattle.rules.specs.Ends.{SignedAt}
+use Rattle.rules.specs.Ends.{SignedAt, Delivered}
 use Rattle.rules.specs.RoundTripLaws.{Reads}
-use Rattle.rules.specs.DeliveryLaws.{signs, mac, length-its-mac, segment, reads, same-mac, sizes}
+use Rattle.rules.specs.DeliveryLaws.{signs, mac, length-its-mac, reads, same-mac, sizes}
 
 -- bytes make a number below 2 ^ 32
 pub sequence-below : (s : List ℕ) → Octets s → sequence s < 2 ^ 32
@@ -41,24 +41,33 @@ agree-of p q ours theirs m = record { flags = m .flags; algorithm = m .algorithm
 pub syn-at : (q : State) (e : Entry) (x : ℕ) (b : List ℕ) (g : SignedAt q e x b) → syn (g .unsigned) ≡ true → x ≡ q .conn .isn
 syn-at q e x b g its-syn = ap value (sym (g .position)) ∙ eqb-true _ _ (not-false _ (rw its-syn at (signs q e x b g .number)))
 
-module _ (q : State) (e : Entry) (x : ℕ) (b : List ℕ) (g : SignedAt q e x b) (c d : ℕ) where
+-- mirrored entries hide the same sides of what goes from one end to the other
+pub hidden-of : (p q : Pair) (ours theirs : Entry) → Mirror p q ours theirs → arrivingHidden (ours .secret) ≡ leavingHidden (theirs .secret)
+hidden-of p q ours theirs m = λ i. record { source = m .remote-hidden i; destination = m .local-hidden i }
+
+module _ (q : State) (e : Entry) (x : ℕ) (b : List ℕ) (g : SignedAt q e x b) (p : Pair) (a : Arrival)
+    (v : Delivered p b a) where
   abbrev came : List ℕ
-  came = segment q e x b g c d
+  came = a .segment
 
   abbrev read : Reads came (q .«send_id») (q .«ask_id») (mac q e x b g)
-  read = reads q e x b g c d .reads
+  read = reads q e x b g p a v .reads
 
   -- 20, 21 and 22
   pub none-20 : NoneApplies (lengthTests 20 came)
-  none-20 = let z = sizes q e x b g c d in (z .0, (z .1, (z .2, (z .3, tt))))
+  none-20 = let z = sizes q e x b g p a v in (z .0, (z .1, (z .2, (z .3, tt))))
 
   pub none-21 : NoneApplies (formTests came)
   none-21 =
       (read .formed, (ap (λ (o : Occurrence). ltb 1 (o .count)) (read .one), (rw (read .one) (ap (λ (n : ℕ). ltb 0 n) (read .no-md5)), tt)))
 
-  -- 25 to 29, under the entry that mirrors the sender's, for the flow that it signed and a place with its extension
-  module _ (missing unknown : Outcome) (i : ℕ) (ours : Entry) (f : Flow) (y : ℕ) (found : Found) (agree : Agree (ours .secret) (e .secret)) (held : found ≡ hit i ours)
-      (flow : f ≡ leaving (q .conn)) (ext : extensionOf y ≡ extensionOf x) where
+  -- 25 to 29, under the entry that mirrors the sender's, for a flow like the one that it signed and a place with its extension
+  module _ (missing unknown : Outcome) (i : ℕ) (ours : Entry) (f : Flow) (y : ℕ) (found : Found) (mirror : Mirror p (q .conn .pair) ours e)
+      (held : found ≡ hit i ours) (alike : Alike (leavingHidden (e .secret)) f (leaving (q .conn))) (source : p .«remote_port» ≡ f .sourcePort)
+      (destination : p .«local_port» ≡ f .destinationPort) (ext : extensionOf y ≡ extensionOf x) where
+    abbrev agree : Agree (ours .secret) (e .secret)
+    agree = agree-of p (q .conn .pair) ours e mirror
+
     right-length : not (eqb (ao came .len) (4 + found .entry .secret .«mac_bytes»)) ≡ false
     right-length =
         (λ j. not (eqb (read .one j .len) (4 + held j .entry .secret .«mac_bytes»)))
@@ -69,7 +78,10 @@ module _ (q : State) (e : Entry) (x : ℕ) (b : List ℕ) (g : SignedAt q e x b)
         ap not
         (same-of-eq _ _
         (read .mac
-        ∙ sym ((λ j. segmentMac (held j .entry .secret) f (ext j) (20 + read .one j .at) came) ∙ same-mac q e x b g c d (ours .secret) f agree flow)))
+        ∙ sym
+        ((λ j. segmentMac (held j .entry .secret) (arrivingHidden (held j .entry .secret)) f (ext j) (20 + read .one j .at) came)
+        ∙ same-mac q e x b g p a v (ours .secret) (arrivingHidden (ours .secret)) f agree (hidden-of p (q .conn .pair) ours e mirror) alike
+        source destination)))
 
     pub keyed : NoneApplies (keyTests missing unknown found (At y) came) × NoneApplies (macTests (found .entry) f (At y) came)
     keyed =

@@ -30,7 +30,7 @@ use Rattle.rules.specs.declared.Done.{Done}
 use Rattle.rules.specs.declared.Done.the-variants as D
 use Rattle.rules.specs.declared.Settled.{Settled}
 use Rattle.octets.specs.Tests.{Test, test, tests, joined, first}
-use Rattle.rules.specs.Mac.{Flow, segmentMac}
+use Rattle.rules.specs.Mac.{Flow, leavingHidden, arrivingHidden, segmentMac}
 use Rattle.rules.specs.Checksum.{sumsRight, withChecksum}
 use Rattle.rules.specs.Segment.{malformed, ao, md5, aoAt, keyId, rnextKeyId, macIn, isBareSyn, optionBytes, signedWith}
 use Rattle.rules.specs.Connection.{sized, pairOf, Arrival, arrivalPair, localAddress, remoteAddress, isOpen, arriving, leaving}
@@ -42,7 +42,7 @@ refuse n = Bad n 0
 
 -- The numbers, in groups.
 
--- 18: "state's family is neither IPv4 nor IPv6"; the families are the entries' kinds, 4 and 6
+-- 18: "state's family is neither IPv4 nor IPv6"; the families are 4 and 6, the entries' kinds 4 to 7
 abbrev pub familyTests : Connection → List (Test Outcome)
 familyTests l = test (refuse 18) (not (isFamily (l .pair .family))) ∷ []
 
@@ -113,11 +113,12 @@ keyTests missing unknown found x s =
     ∷ test (refuse 27) (not (eqb (ao s .len) (4 + found .entry .secret .«mac_bytes»)))
     ∷ test (refuse 28) (not (located x)) ∷ []
 
--- 29: the MAC of the segment, under the entry found, is not the one it carries
+-- 29: the MAC of the segment, which arrives, under the entry found, is not the one it carries
 abbrev pub macDiffers : Entry → Flow → Place → List ℕ → Bool
-macDiffers e f x s = not (sameBytes (macIn s) (segmentMac (e .secret) f (extensionOf (value x)) (aoAt s) s))
+macDiffers e f x s =
+    not (sameBytes (macIn s) (segmentMac (e .secret) (arrivingHidden (e .secret)) f (extensionOf (value x)) (aoAt s) s))
 
--- 29: "MAC differs". It alone needs the data.
+-- 29: "MAC differs". It alone needs the MAC; of the data, 40 needs the sum.
 abbrev pub macTests : Entry → Flow → Place → List ℕ → List (Test Outcome)
 macTests e f x s = test (refuse 29) (macDiffers e f x s) ∷ []
 
@@ -325,7 +326,7 @@ checkSign t s room q =
 unfoldable pub authenticated : Entry → State → ℕ → List ℕ → List ℕ
 authenticated e q x s =
     signedWith (q .«send_id») (q .«ask_id»)
-    (segmentMac (e .secret) (leaving (q .conn)) (extensionOf x) 20
+    (segmentMac (e .secret) (leavingHidden (e .secret)) (leaving (q .conn)) (extensionOf x) 20
     (signedWith (q .«send_id») (q .«ask_id») (replicate (e .secret .«mac_bytes») 0) s)) s
 
 -- what is sent has the right checksum, between the state's own addresses

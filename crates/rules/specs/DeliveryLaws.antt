@@ -9,6 +9,7 @@ use lib.Seq.{take-at, length-take-le}
 use lib.Dec.{ltb}
 use borrow.Author.Tests.{le-ltb}
 use Rattle.wire.specs.Header.{dataOffset, headerEnd}
+use Rattle.keys.specs.declared.entry.Pair.{Pair}
 use Rattle.keys.specs.declared.entry.Entry.{Entry}
 use Rattle.keys.specs.declared.entry.Secret.{Secret}
 use Rattle.keys.specs.Entry.{width}
@@ -16,15 +17,17 @@ use Rattle.keys.specs.EntryLaws.{width-le}
 use Rattle.keys.specs.Table.{Tables}
 use Rattle.rules.specs.declared.Outcome.{Outcome}
 use Rattle.rules.specs.declared.State.{State}
-use Rattle.rules.specs.Mac.{Flow, applied, trafficKey, segmentMac}
-use Rattle.rules.specs.MacLaws.{length-mac, Agree, mac-agree}
+use Rattle.rules.specs.declared.Hidden.{Hidden}
+use Rattle.rules.specs.Mac.{Flow, leavingHidden, blanked, applied, trafficKey, message, segmentMac}
+use Rattle.rules.specs.MacLaws.{length-mac, Agree, mac-agree, Alike, blanked-alike}
 use Rattle.rules.specs.Segment.{optionBytes, signedWith}
 use Rattle.rules.specs.Checksum.{sumsRight, withChecksum}
-use Rattle.rules.specs.ChecksumLaws.{length-checked, checked-again, checked-right}
-use Rattle.rules.specs.Connection.{localAddress, remoteAddress, leaving, value, extensionOf}
+use Rattle.rules.specs.ChecksumLaws.{length-checked, checked-again-under, checked-ports, checked-right}
+use Rattle.rules.specs.PortLaws.{portsOf}
+use Rattle.rules.specs.Connection.{Arrival, localAddress, remoteAddress, leaving, value, extensionOf}
 use Rattle.rules.specs.Calls.{outgoing, addedBytes, authenticated, signedSegment, written, outputBy, output}
-use Rattle.rules.specs.Ends.{Typed, SignedAt, rechecked}
-use Rattle.rules.specs.RoundTripLaws.{Arrived, arrival, covers, length-signed}
+use Rattle.rules.specs.Ends.{Typed, SignedAt, rechecked, withPorts, Delivered}
+use Rattle.rules.specs.RoundTripLaws.{Arrived, arrival, covers, length-signed, ports-signed}
 use Rattle.rules.specs.SigningLaws.{Signs, signs-good, signed-good}
 use Rattle.rules.specs.GrowthLaws.{short-found}
 
@@ -45,9 +48,10 @@ module _ (t : Tables) (s out : List ℕ) (q : State) (signs : Signs t s out q) (
   authenticated-long =
       let n = entry .secret .«mac_bytes» in
       let z = signedWith (q .«send_id») (q .«ask_id») (replicate n 0) s in
-      let m = segmentMac (entry .secret) (leaving (q .conn)) (extensionOf x) 20 z in
-      let l : length m ≡ n = length-mac (entry .secret) (leaving (q .conn)) (extensionOf x) 20 z short-of in
-      length-signed s (signs .fresh) 0 0 (q .«send_id») (q .«ask_id») m ∙ ap (λ (n : ℕ). length s + optionBytes n) l
+      let v = leavingHidden (entry .secret) in
+      let m = segmentMac (entry .secret) v (leaving (q .conn)) (extensionOf x) 20 z in
+      let l : length m ≡ n = length-mac (entry .secret) v (leaving (q .conn)) (extensionOf x) 20 z short-of in
+      length-signed s (signs .fresh) (q .«send_id») (q .«ask_id») m ∙ ap (λ (n : ℕ). length s + optionBytes n) l
 
   pub signed-long : length (signedSegment entry q x s) ≡ length s + addedBytes entry
   unfolding signedSegment
@@ -74,11 +78,14 @@ module _ (q : State) (e : Entry) (x : ℕ) (b : List ℕ) (g : SignedAt q e x b)
   abbrev blank : List ℕ
   blank = signedWith (q .«send_id») (q .«ask_id») (replicate (e .secret .«mac_bytes») 0) s
 
+  abbrev pub hides : Hidden
+  hides = leavingHidden (e .secret)
+
   abbrev pub mac : List ℕ
-  mac = segmentMac (e .secret) (leaving (q .conn)) (extensionOf x) 20 blank
+  mac = segmentMac (e .secret) hides (leaving (q .conn)) (extensionOf x) 20 blank
 
   pub length-its-mac : length mac ≡ e .secret .«mac_bytes»
-  length-its-mac = length-mac (e .secret) (leaving (q .conn)) (extensionOf x) 20 blank short
+  length-its-mac = length-mac (e .secret) hides (leaving (q .conn)) (extensionOf x) 20 blank short
 
   added-is : addedBytes (outgoing (g .table) q .entry) ≡ optionBytes (length mac)
   added-is = ap optionBytes (its-entry ∙ sym length-its-mac)
@@ -87,9 +94,9 @@ module _ (q : State) (e : Entry) (x : ℕ) (b : List ℕ) (g : SignedAt q e x b)
   carried = signedWith (q .«send_id») (q .«ask_id») mac s
 
   length-carried : length carried ≡ length s + optionBytes (length mac)
-  length-carried = length-signed s (signs .fresh) 0 0 (q .«send_id») (q .«ask_id») mac
+  length-carried = length-signed s (signs .fresh) (q .«send_id») (q .«ask_id») mac
 
-  enough : 18 ≤ length carried
+  enough : 20 ≤ length carried
   enough = let l = length-carried in let f = signs .fresh .long in omega arith
 
   abbrev checked : List ℕ
@@ -103,7 +110,7 @@ module _ (q : State) (e : Entry) (x : ℕ) (b : List ℕ) (g : SignedAt q e x b)
       let p = signs-good (g .table) s (g .out) q (o .0) (o .1) (o .2) in
       let v : o .0 ≡ x = sym (p .1) ∙ ap value (g .position) in
       let l : length checked ≡ length b =
-      length-checked _ _ carried enough ∙ length-carried ∙ ap (λ (n : ℕ). length s + n) (sym added-is) ∙ o .3 in
+      length-checked _ _ carried (omega (arith, enough)) ∙ length-carried ∙ ap (λ (n : ℕ). length s + n) (sym added-is) ∙ o .3 in
       g .wrote
       ∙ ap (λ (z : Outcome). take (length b) (outputBy q s (g .out) (outgoing (g .table) q .entry) z)) (o .2)
       ∙ ap₂ (λ (f : Entry) (y : ℕ). take (length b) (written (signedSegment f q y s) (g .out))) (g .under) v
@@ -113,35 +120,54 @@ module _ (q : State) (e : Entry) (x : ℕ) (b : List ℕ) (g : SignedAt q e x b)
   pub wrote-right : Typed q → sumsRight (localAddress (q .conn .pair)) (remoteAddress (q .conn .pair)) b ≡ true
   wrote-right typed =
       ap (sumsRight (localAddress (q .conn .pair)) (remoteAddress (q .conn .pair))) wrote-is
-      ∙ checked-right (localAddress (q .conn .pair)) (remoteAddress (q .conn .pair)) carried enough
+      ∙ checked-right (localAddress (q .conn .pair)) (remoteAddress (q .conn .pair)) carried (omega (arith, enough))
       (address-length (q .conn .pair .family) (q .conn .pair .local) (typed .local)
       ∙ sym (address-length (q .conn .pair .family) (q .conn .pair .remote) (typed .remote)))
 
-  pub wrote-long : 18 ≤ length b
-  wrote-long = subst⁻¹ (λ (l : List ℕ). 18 ≤ length l) wrote-is (subst⁻¹ (λ (n : ℕ). 18 ≤ n) (length-checked _ _ carried enough) enough)
+  pub wrote-long : 20 ≤ length b
+  wrote-long =
+      subst⁻¹ (λ (l : List ℕ). 20 ≤ length l) wrote-is (subst⁻¹ (λ (n : ℕ). 20 ≤ n) (length-checked _ _ carried (omega (arith, enough))) enough)
 
-  -- with any checksum
-  module _ (c d : ℕ) where
-    abbrev pub segment : List ℕ
-    segment = rechecked c d b
+  pub wrote-ports : portsOf b ≡ portsOf s
+  wrote-ports =
+      ap portsOf wrote-is ∙ checked-ports _ _ carried (omega (arith, enough))
+      ∙ ports-signed s (signs .fresh) (q .«send_id») (q .«ask_id») mac
 
-    segment-is : segment ≡ rechecked c d carried
-    segment-is = ap (rechecked c d) wrote-is ∙ checked-again _ _ carried enough c d
+  -- As it comes to the end that holds the pair p.
+  module _ (p : Pair) (a : Arrival) (v : Delivered p b a) where
+    abbrev segment : List ℕ
+    segment = a .segment
+
+    segment-is : segment ≡ rechecked (v .high) (v .low) (withPorts (p .«remote_port») (p .«local_port») carried)
+    segment-is =
+        v .segment
+        ∙ ap (λ (l : List ℕ). rechecked (v .high) (v .low) (withPorts (p .«remote_port») (p .«local_port») l)) wrote-is
+        ∙ checked-again-under _ _ carried (omega (arith, enough)) (p .«remote_port») (p .«local_port») (v .high) (v .low)
 
     pub reads : Arrived s segment (q .«send_id») (q .«ask_id») mac
     reads =
         subst⁻¹ (λ (z : List ℕ). Arrived s z (q .«send_id») (q .«ask_id») mac) segment-is
-        (arrival s (signs .fresh) c d (q .«send_id») (q .«ask_id») mac)
+        (arrival s (signs .fresh) (q .«send_id») (q .«ask_id») mac (p .«remote_port») (p .«local_port») (v .high) (v .low))
 
-    -- the receiver computes the MAC that it carries
-    pub same-mac : (r : Secret) (f : Flow) → Agree r (e .secret) → f ≡ leaving (q .conn) → segmentMac r f (extensionOf x) 20 segment ≡ mac
+    -- the receiver computes the MAC that it carries, if of the flow only what is hidden was rewritten
+    pub same-mac : (r : Secret) (h : Hidden) (f : Flow) → Agree r (e .secret) → h ≡ hides → Alike hides f (leaving (q .conn))
+        → p .«remote_port» ≡ f .sourcePort → p .«local_port» ≡ f .destinationPort → segmentMac r h f (extensionOf x) 20 segment ≡ mac
     unfolding segmentMac
-    same-mac r f a p =
-        mac-agree r (e .secret) f (extensionOf x) 20 segment a
-        ∙ ap₂ (λ (f : Flow) (z : List ℕ). segmentMac (e .secret) f (extensionOf x) 20 z) p segment-is
-        ∙ ap (λ (m : List ℕ). take (e .secret .«mac_bytes») (applied (e .secret .algorithm) (trafficKey (e .secret) (leaving (q .conn))) m))
-        (covers s (signs .fresh) c d (q .«send_id») (q .«ask_id») mac (e .secret) (leaving (q .conn)) (extensionOf x)
-        (sym length-its-mac))
+    same-mac r h f agree hidden alike source destination =
+        ap (λ (h : Hidden). segmentMac r h f (extensionOf x) 20 segment) hidden
+        ∙ mac-agree r (e .secret) hides f (extensionOf x) 20 segment agree
+        ∙ ap₂ (λ (g : Flow) (z : List ℕ). taken g (message (e .secret) hides g (extensionOf x) 20 z)) same segment-is
+        ∙ ap (taken (blanked hides (leaving (q .conn))))
+        (covers s (signs .fresh) (q .«send_id») (q .«ask_id») mac (p .«remote_port») (p .«local_port») (v .high) (v .low) (e .secret) hides
+        (blanked hides (leaving (q .conn))) (extensionOf x) (sym length-its-mac) (g .octets)
+        (λ k. source ∙ alike .source-port k ∙ sym (signs .source-port))
+        (λ k. destination ∙ alike .destination-port k ∙ sym (signs .destination-port)))
+      where
+        taken : Flow → List ℕ → List ℕ
+        taken f m = take (e .secret .«mac_bytes») (applied (e .secret .algorithm) (trafficKey (e .secret) f) m)
+
+        same : blanked hides f ≡ blanked hides (leaving (q .conn))
+        same = blanked-alike hides f (leaving (q .conn)) alike
 
     -- none of 20, 21, 22 and 25
     pub sizes : (ltb (length segment) 20 ≡ false) × (ltb 65535 (length segment) ≡ false) × (ltb (dataOffset segment) 5 ≡ false)

@@ -5,11 +5,13 @@ use mathlib.Core.Path.{_≡_}
 use mathlib.Core.Bool.{true, false}
 use mathlib.Core.List.{List, _∷_, _++_}
 use lib.ListN.{length, take, drop}
+use Rattle.octets.specs.Octets.{bytes16}
 use Rattle.octets.specs.Each.{Octets}
 use Rattle.wire.specs.Header.{sourcePort, destinationPort, sequence, wellSized}
 use Rattle.keys.specs.declared.entry.Pair.{Pair}
 use Rattle.keys.specs.declared.entry.Entry.{Entry}
-use Rattle.keys.specs.Entry.{isFamily, entries}
+use Rattle.keys.specs.declared.entry.Secret.{Secret}
+use Rattle.keys.specs.Entry.{isFamily, localHidden, remoteHidden, entries}
 use Rattle.keys.specs.Table.{Tables, ValidTable, recvEntry}
 use Rattle.keys.specs.Places.{At as EntryAt}
 use Rattle.keys.specs.Mirror.{Mirror}
@@ -18,7 +20,7 @@ use Rattle.rules.specs.declared.Connection.{Connection}
 use Rattle.rules.specs.declared.State.{State}
 use Rattle.rules.specs.declared.Signing.the-variants as S
 use Rattle.rules.specs.declared.Signed.{Signed}
-use Rattle.rules.specs.Mac.{segmentMac}
+use Rattle.rules.specs.Mac.{arrivingHidden, segmentMac}
 use Rattle.rules.specs.Checksum.{sumsRight}
 use Rattle.rules.specs.Segment.{malformed, ao, md5, aoAt, keyId, macIn, isBareSyn}
 use Rattle.rules.specs.Connection.{Arrival, localAddress, remoteAddress, isOpen, arriving, placeOn, slots}
@@ -46,27 +48,42 @@ pub record Facing (p q : Pair) : Type 0 where
   pub local-port : p .«local_port» ≡ q .«remote_port»
   pub remote-port : p .«remote_port» ≡ q .«local_port»
 
--- both open on one connection: "our pair as seen from there, the same ISNs"
-pub record OtherEnd (l m : Connection) : Type 0 where
+-- The same where q's end signs under s. Document 02, Ticket 10: "only on a side whose bit is set in the entry signed under, the port and
+-- the address (within its family) rewritten on the way". The signer's local side is p's remote one.
+pub record FacingUnder (s : Secret) (p q : Pair) : Type 0 where
+  pub family : p .family ≡ q .family
+  pub local : remoteHidden s ≡ false → localAddress p ≡ remoteAddress q
+  pub remote : localHidden s ≡ false → remoteAddress p ≡ localAddress q
+  pub local-port : remoteHidden s ≡ false → p .«local_port» ≡ q .«remote_port»
+  pub remote-port : localHidden s ≡ false → p .«remote_port» ≡ q .«local_port»
+
+-- both open on one connection, where m's end signs under s: "our pair as seen from there, the same ISNs"
+pub record OtherEnd (s : Secret) (l m : Connection) : Type 0 where
   pub here : isOpen l ≡ true
   pub there : isOpen m ≡ true
-  pub pair : Facing (l .pair) (m .pair)
+  pub pair : FacingUnder s (l .pair) (m .pair)
   pub isn : l .isn ≡ m .«peer_isn»
   pub peer : l .«peer_isn» ≡ m .isn
 
--- signed bytes with another checksum
+-- signed bytes with another checksum; with other ports
 abbrev pub rechecked : ℕ → ℕ → List ℕ → List ℕ
 rechecked c d s = take 16 s ++ (c ∷ d ∷ drop 18 s)
 
--- bytes that come from one address to another "as signed, except perhaps for the checksum"; Ticket 5: "True segments in demand 3 pass this
--- test", so it is a right one
-pub record Delivered (source destination bytes : List ℕ) (a : Arrival) : Type 0 where
-  pub from : a .source ≡ source
-  pub to : a .destination ≡ destination
+abbrev pub withPorts : ℕ → ℕ → List ℕ → List ℕ
+withPorts source destination s = bytes16 source ++ (bytes16 destination ++ drop 4 s)
+
+-- bytes that come to the end that holds the pair p, "as signed, except perhaps for the checksum"; Ticket 5: "True segments in demand 3 pass
+-- this test", so it is a right one. Ticket 10: port and address may be "rewritten on the way, so that the segment comes under the pair that
+-- the receiver holds, its checksum set right". On which side they may, FacingUnder says.
+pub record Delivered (p : Pair) (bytes : List ℕ) (a : Arrival) : Type 0 where
+  pub source : a .source ≡ remoteAddress p
+  pub destination : a .destination ≡ localAddress p
+  pub source-port : sourcePort (a .segment) ≡ p .«remote_port»
+  pub destination-port : destinationPort (a .segment) ≡ p .«local_port»
   -- the two bytes of the checksum, any numbers
   pub high : ℕ
   pub low : ℕ
-  pub segment : a .segment ≡ rechecked high low bytes
+  pub segment : a .segment ≡ rechecked high low (withPorts (p .«remote_port») (p .«local_port») bytes)
   pub right : sumsRight (a .source) (a .destination) (a .segment) ≡ true
 
 -- bytes that the signing call wrote, given the state q and some table, segment and output, under the entry e: "A signed segment's true
@@ -91,20 +108,25 @@ pub record Holds (t : Tables) (p q : Pair) (e : Entry) : Type 0 where
   pub mirror : Mirror p q ours e
 
 -- "A true segment was signed at the other end, in a state open on this connection .., under a mirror of one of the table's entries; it
--- arrives with our state's pair and as signed, except perhaps for its checksum." Its position is x, and it asks for the key r.
+-- arrives with our state's pair and as signed, except perhaps for its checksum."; Ticket 10: "Demand 3's true segments come so too",
+-- rewritten on a side whose bit is set. Its position is x, and it asks for the key r.
 pub record TrueSegment (t : Tables) (l : Connection) (a : Arrival) (x r : ℕ) : Type 0 where
   pub peer : State
   pub typed : Typed peer
-  pub other : OtherEnd l (peer .conn)
   pub ours : Entry
   pub theirs : Entry
   pub place : ℕ
   pub among : EntryAt (entries t) place ours
   pub mirror : Mirror (l .pair) (peer .conn .pair) ours theirs
+  pub other : OtherEnd (theirs .secret) l (peer .conn)
   pub bytes : List ℕ
   pub signed : SignedAt peer theirs x bytes
-  pub delivered : Delivered (remoteAddress (l .pair)) (localAddress (l .pair)) bytes a
+  pub delivered : Delivered (l .pair) bytes a
   pub asks : peer .«ask_id» ≡ r
+
+-- what these rules give for a segment that arrives, under an extension, our ISNs and a secret
+abbrev pub macUnder : Secret → Connection → ℕ → List ℕ → List ℕ
+macUnder s l extension segment = segmentMac s (arrivingHidden s) (arriving l segment) extension (aoAt segment) segment
 
 -- "An arrival verifies if it is no bare SYN, comes with our state's pair, and its MAC bytes are, for some extension, what these rules
 -- give under our ISNs and the entry for its KeyID." It has MAC bytes only if none of 20, 21, 22 applies and TCP-AO is there. Ticket 5: "an
@@ -122,6 +144,4 @@ pub record Verifies (t : Tables) (l : Connection) (a : Arrival) : Type 0 where
   pub destination-port : destinationPort (a .segment) ≡ l .pair .«local_port»
   pub entry : recvEntry t (l .pair) (keyId (a .segment)) .there ≡ true
   pub extension : ℕ
-  pub mac : macIn (a .segment)
-      ≡ segmentMac (recvEntry t (l .pair) (keyId (a .segment)) .entry .secret) (arriving l (a .segment)) extension (aoAt (a .segment))
-      (a .segment)
+  pub mac : macIn (a .segment) ≡ macUnder (recvEntry t (l .pair) (keyId (a .segment)) .entry .secret) l extension (a .segment)

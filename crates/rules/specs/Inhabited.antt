@@ -1,6 +1,6 @@
--- The demands are not empty: one connection across a rollover, with two true arrivals, under entries of two kinds, and one of the other
--- sort, of which demand 3 holds; and a bare SYN that demand 2 accepts; and one whose KeyID is unknown. As statements, with the MAC shut: it
--- is whatever it is. InhabitedLaws proves them.
+-- The demands are not empty: one connection across a rollover, with three true arrivals, under entries of two kinds and through address
+-- translation, and one of the other sort, of which demand 3 holds; and a bare SYN that demand 2 accepts; and one whose KeyID is unknown. As
+-- statements, with the MAC shut: it is whatever it is. InhabitedLaws proves them.
 use Prim.Native.Nat.{ℕ}
 use mathlib.Core.Path.{_≡_}
 use mathlib.Core.Bool.{true, false}
@@ -12,36 +12,40 @@ use Rattle.keys.specs.Entry.{entryOf}
 use Rattle.keys.specs.Table.{anyEntry}
 use Rattle.rules.specs.declared.Verdict.the-variants.{Accept, Pass, Drop}
 use Rattle.rules.specs.declared.State.{State}
-use Rattle.rules.specs.Connection.{Arrival, arrivalPair, isOpen, localAddress, remoteAddress, slots}
+use Rattle.rules.specs.Connection.{Arrival, arrivalPair, isOpen, slots}
 use Rattle.rules.specs.Calls.{judgedSyn, signedSegment}
-use Rattle.rules.specs.Ends.{Typed, Delivered, SignedAt, Holds, TrueSegment, Verifies}
+use Rattle.rules.specs.Ends.{Typed, FacingUnder, Delivered, SignedAt, Holds, TrueSegment, Verifies}
+use Rattle.rules.specs.Demand2.{rewritten}
 use Rattle.rules.specs.Demand3.{Arriving, real, other, Given, Demand3}
 use Rattle.rules.specs.Passes.{UnknownKey}
 
--- an entry of kind 4 for every IPv4 pair, HMAC-SHA-1, all options covered, the key 01 02
-abbrev pub entry4 : ℕ → ℕ → List ℕ
-entry4 sendId recvId =
-    (4 ∷ 1 ∷ 1 ∷ sendId ∷ recvId ∷ 0 ∷ 0 ∷ 255 ∷ 255 ∷ 0 ∷ 0 ∷ 255 ∷ 255 ∷ 0 ∷ 0 ∷ 0 ∷ 0 ∷ 0 ∷ 0 ∷ 0 ∷ 0 ∷ 0 ∷ 0 ∷ 2 ∷ 1 ∷ 2 ∷ [])
+-- an entry of kind 4 with its flags, for every IPv4 pair, HMAC-SHA-1, the key 01 02
+abbrev pub entry4 : ℕ → ℕ → ℕ → List ℕ
+entry4 flags sendId recvId =
+    (4 ∷ flags ∷ 1 ∷ sendId ∷ recvId ∷ 0 ∷ 0 ∷ 255 ∷ 255 ∷ 0 ∷ 0 ∷ 255 ∷ 255 ∷ 0 ∷ 0 ∷ 0 ∷ 0 ∷ 0 ∷ 0 ∷ 0 ∷ 0 ∷ 0 ∷ 0 ∷ 2 ∷ 1 ∷ 2 ∷ [])
     ++ replicate 78 0
 
--- the same of kind 5, with a MAC of five bytes
+-- the same of kind 5, all options covered, with a MAC of five bytes
 abbrev pub entry5 : ℕ → ℕ → List ℕ
 entry5 sendId recvId =
     (5 ∷ 1 ∷ 1 ∷ sendId ∷ recvId ∷ 0 ∷ 0 ∷ 255 ∷ 255 ∷ 0 ∷ 0 ∷ 255 ∷ 255 ∷ 0 ∷ 0 ∷ 0 ∷ 0 ∷ 0 ∷ 0 ∷ 0 ∷ 0 ∷ 0 ∷ 0 ∷ 5 ∷ 2 ∷ 1 ∷ 2 ∷ [])
     ++ replicate 78 0
 
--- our end's table, and the other end's
+-- our end's table, and the other end's. The last entry hides the other end's side from the MAC: our remote side (4), its local side (2).
 abbrev pub ourTable : List ℕ
-ourTable = entry4 61 84 ++ entry5 71 94
+ourTable = entry4 1 61 84 ++ (entry5 71 94 ++ entry4 5 51 74)
 
 abbrev pub theirTable : List ℕ
-theirTable = entry4 84 61 ++ entry5 94 71
+theirTable = entry4 1 84 61 ++ (entry5 94 71 ++ entry4 3 74 51)
 
 abbrev pub theirEntry : Entry
-theirEntry = entryOf (entry4 84 61)
+theirEntry = entryOf (entry4 1 84 61)
 
 abbrev pub theirShort : Entry
 theirShort = entryOf (entry5 94 71)
+
+abbrev pub theirHidden : Entry
+theirHidden = entryOf (entry4 3 74 51)
 
 -- 10.11.12.13, port 59863, and 172.27.28.29, port 179: the pair as we hold it, and as the other end does
 abbrev pub ourPair : Pair
@@ -64,6 +68,17 @@ theirPair =
       remote = (10 ∷ 11 ∷ 12 ∷ 13 ∷ []) ++ replicate 12 0;
     }
 
+-- the other end behind address translation: it has 192.168.1.2, port 50179, and we see it as before
+abbrev pub hiddenPair : Pair
+hiddenPair =
+    record {
+      family = 4;
+      «local_port» = 50179;
+      «remote_port» = 59863;
+      local = (192 ∷ 168 ∷ 1 ∷ 2 ∷ []) ++ replicate 12 0;
+      remote = (10 ∷ 11 ∷ 12 ∷ 13 ∷ []) ++ replicate 12 0;
+    }
+
 -- bytes as they come to us from the other end
 abbrev pub fromThem : List ℕ → Arrival
 fromThem bytes = record { source = 172 ∷ 27 ∷ 28 ∷ 29 ∷ []; destination = 10 ∷ 11 ∷ 12 ∷ 13 ∷ []; segment = bytes }
@@ -82,11 +97,11 @@ ourState =
       drops = replicate slots 0;
     }
 
--- the other end, under the entry with its SendID and asking for a RecvID
-abbrev pub theirs : ℕ → ℕ → State
-theirs sendId recvId =
+-- the other end, which holds a pair, under the entry with its SendID and asking for a RecvID
+abbrev pub theirs : Pair → ℕ → ℕ → State
+theirs pair sendId recvId =
     record {
-      conn = record { stage = 1; pair = theirPair; isn = 4294967280; «peer_isn» = 100 };
+      conn = record { stage = 1; pair = pair; isn = 4294967280; «peer_isn» = 100 };
       sent = 4294967280;
       seen = 100;
       «send_id» = sendId;
@@ -95,30 +110,42 @@ theirs sendId recvId =
       drops = replicate slots 0;
     }
 
--- sequence number 16, ACK, four options of kind 1, three bytes of data: 2^32 + 16 is its position
-abbrev pub segment : List ℕ
-segment =
-    0 ∷ 179 ∷ 233 ∷ 215 ∷ 0 ∷ 0 ∷ 0 ∷ 16 ∷ 1 ∷ 2 ∷ 3 ∷ 4 ∷ 96 ∷ 16 ∷ 128 ∷ 0 ∷ 0 ∷ 0 ∷ 0 ∷ 0
+-- from a port of two bytes; sequence number 16, ACK, four options of kind 1, three bytes of data: 2^32 + 16 is its position
+abbrev pub segmentFrom : ℕ → ℕ → List ℕ
+segmentFrom high low =
+    high ∷ low ∷ 233 ∷ 215 ∷ 0 ∷ 0 ∷ 0 ∷ 16 ∷ 1 ∷ 2 ∷ 3 ∷ 4 ∷ 96 ∷ 16 ∷ 128 ∷ 0 ∷ 140 ∷ 119 ∷ 0 ∷ 0
     ∷ 1 ∷ 1 ∷ 1 ∷ 1 ∷ 97 ∷ 98 ∷ 99 ∷ []
 
+abbrev pub segment : List ℕ
+segment = segmentFrom 0 179
+
 abbrev pub signedBytes : List ℕ
-signedBytes = signedSegment theirEntry (theirs 84 61) 4294967312 segment
+signedBytes = signedSegment theirEntry (theirs theirPair 84 61) 4294967312 segment
 
 -- with a MAC of five bytes
 abbrev pub shortBytes : List ℕ
-shortBytes = signedSegment theirShort (theirs 94 71) 4294967312 segment
+shortBytes = signedSegment theirShort (theirs theirPair 94 71) 4294967312 segment
 
--- it arrives signed, under either entry, and once more without TCP-AO; then the demand holds of all three arrivals
+-- from behind the translation, signed with its own port between its own addresses, rewritten on the way
+abbrev pub hiddenSegment : List ℕ
+hiddenSegment = segmentFrom 196 3
+
+abbrev pub hiddenBytes : List ℕ
+hiddenBytes = signedSegment theirHidden (theirs hiddenPair 74 51) 4294967312 hiddenSegment
+
+-- it arrives signed, under each entry, and once more without TCP-AO; then the demand holds of all four arrivals
 pub record Arrivals : Type 0 where
   pub true-arrival : TrueSegment ourTable (ourState .conn) (fromThem signedBytes) 4294967312 61
   pub short-arrival : TrueSegment ourTable (ourState .conn) (fromThem shortBytes) 4294967312 71
+  pub hidden-arrival : TrueSegment ourTable (ourState .conn) (rewritten ourPair hiddenBytes) 4294967312 51
   pub other-arrival : Verifies ourTable (ourState .conn) (fromThem segment) → ⊥
 
 abbrev pub all : Arrivals → List (Arriving ourTable (ourState .conn))
 all a =
     real (fromThem signedBytes) 4294967312 61 (a .true-arrival)
     ∷ (real (fromThem shortBytes) 4294967312 71 (a .short-arrival)
-    ∷ (other (fromThem segment) (a .other-arrival) ∷ []))
+    ∷ (real (rewritten ourPair hiddenBytes) 4294967312 51 (a .hidden-arrival)
+    ∷ (other (fromThem segment) (a .other-arrival) ∷ [])))
 
 pub record Demand3NotEmpty : Type 0 where
   pub arrivals : Arrivals
@@ -150,11 +177,12 @@ pub record BareSynNotEmpty : Type 0 where
   pub typed : Typed opener
   pub opening : isOpen (opener .conn) ≡ false
   pub signed : SignedAt opener theirEntry 4294967280 synBytes
-  pub delivered : Delivered (localAddress (opener .conn .pair)) (remoteAddress (opener .conn .pair)) synBytes (fromThem synBytes)
+  pub facing : FacingUnder (theirEntry .secret) (arrivalPair (fromThem synBytes)) (opener .conn .pair)
+  pub delivered : Delivered (arrivalPair (fromThem synBytes)) synBytes (fromThem synBytes)
   pub holds : Holds ourTable (arrivalPair (fromThem synBytes)) (opener .conn .pair) theirEntry
   pub accepted : judgedSyn ourTable (fromThem synBytes) true ≡ record { verdict = Accept 0; index = 0 }
 
--- A bare SYN with the KeyID 85, where our entries have the RecvIDs 84 and 94.
+-- A bare SYN with the KeyID 85, where our entries have the RecvIDs 84, 94 and 74.
 
 abbrev pub unknownSyn : Arrival
 unknownSyn =

@@ -18,10 +18,12 @@ pub mod Passes
 pub mod Growth
 pub mod Sentences
 pub mod Examples
+pub mod ClearBits
 pub mod Inhabited
 pub mod GroupLaws
 pub mod PositionLaws
 pub mod MacLaws
+pub mod PortLaws
 pub mod ChecksumLaws
 pub mod JudgeLaws
 pub mod CountLaws
@@ -41,4 +43,5 @@ pub mod PassLaws
 pub mod ReferenceLaws
 pub mod SentenceLaws
 pub mod ExampleLaws
+pub mod ClearBitLaws
 pub mod InhabitedLaws

@@ -1,10 +1,10 @@
 -- Laws of the MAC of a segment: its length, and what it depends on. "no hypothesis on the MAC is left open".
 use Prim.Native.Nat.{ℕ, _+_, _%_, _≤_}
-use mathlib.Core.Path.{_≡_, refl}
+use mathlib.Core.Path.{_≡_, refl, ap}
 use mathlib.Core.Bool.{Bool, true, false, cond}
 use mathlib.Core.List.{List, _++_}
 use native.Mathlib.Omega.{arith}
-use lib.ListN.{length, take, drop, length-append}
+use lib.ListN.{length, take, drop, replicate, length-append}
 use lib.Seq.{length-take-le}
 use lib.Dec.{eqb}
 use Rattle.octets.specs.Octets.{bytes32}
@@ -16,8 +16,9 @@ use Rattle.wire.specs.Header.{headerEnd}
 use Rattle.keys.specs.declared.entry.Secret.{Secret}
 use Rattle.keys.specs.Algorithm.{outputBits}
 use Rattle.keys.specs.Entry.{keyOf}
-use Rattle.rules.specs.Mac.{Flow, context, derivationInput, aesKey, derivationKey, applied, trafficKey, pseudoHeader, coveredHeader}
-use Rattle.rules.specs.Mac.{front, message, segmentMac}
+use Rattle.rules.specs.declared.Hidden.{Hidden}
+use Rattle.rules.specs.Mac.{Flow, addressUnder, portUnder, blanked, context, derivationInput, aesKey, derivationKey, applied}
+use Rattle.rules.specs.Mac.{trafficKey, pseudoHeader, portsBlanked, coveredHeader, front, message, segmentMac}
 
 -- every algorithm gives at least 16 bytes
 pub applied-long : (algorithm : ℕ) (k m : List ℕ) → 16 ≤ length (applied algorithm k m)
@@ -29,12 +30,13 @@ applied-long algorithm k m = go (eqb algorithm 1) (eqb algorithm 3)
     go false true = omega (arith, length-hmacSha256 k m)
     go false false = omega (arith, length-cmac k m)
 
-pub length-mac : (s : Secret) (f : Flow) (extension at : ℕ) (segment : List ℕ) → s .«mac_bytes» ≤ 16
-    → length (segmentMac s f extension at segment) ≡ s .«mac_bytes»
+pub length-mac : (s : Secret) (v : Hidden) (f : Flow) (extension at : ℕ) (segment : List ℕ) → s .«mac_bytes» ≤ 16
+    → length (segmentMac s v f extension at segment) ≡ s .«mac_bytes»
 unfolding segmentMac
-length-mac s f extension at segment h =
-    length-take-le (s .«mac_bytes») (applied (s .algorithm) (trafficKey s f) (message s f extension at segment))
-    (omega (arith, applied-long (s .algorithm) (trafficKey s f) (message s f extension at segment)))
+length-mac s v f extension at segment h =
+    let k = trafficKey s (blanked v f) in
+    let m = message s v (blanked v f) extension at segment in
+    length-take-le (s .«mac_bytes») (applied (s .algorithm) k m) (omega (arith, applied-long (s .algorithm) k m))
 
 -- "traffic key bytes (20 and 16)", and 32 of algorithm 3
 pub length-key-1 : (s : Secret) (f : Flow) → s .algorithm ≡ 1 → length (trafficKey s f) ≡ 20
@@ -58,18 +60,50 @@ pub length-input : (bits : ℕ) (f : Flow) → length (derivationInput bits f) �
 unfolding derivationInput
 length-input bits f = simp length-append (omega (arith, length-context f))
 
--- two secrets that agree
+-- two secrets that agree in what the MAC is made of, besides the sides that they hide
 pub record Agree (s r : Secret) : Type 0 where
-  pub flags : s .flags ≡ r .flags
+  pub flags : s .flags % 2 ≡ r .flags % 2
   pub algorithm : s .algorithm ≡ r .algorithm
   pub mac : s .«mac_bytes» ≡ r .«mac_bytes»
   pub key : keyOf s ≡ keyOf r
 
-pub mac-agree : (s r : Secret) (f : Flow) (extension at : ℕ) (segment : List ℕ) → Agree s r
-    → segmentMac s f extension at segment ≡ segmentMac r f extension at segment
+pub mac-agree : (s r : Secret) (v : Hidden) (f : Flow) (extension at : ℕ) (segment : List ℕ) → Agree s r
+    → segmentMac s v f extension at segment ≡ segmentMac r v f extension at segment
 unfolding segmentMac trafficKey message front
-mac-agree s r f extension at segment a =
+mac-agree s r v f extension at segment a =
     λ i. take (a .mac i)
-    (applied (a .algorithm i) (applied (a .algorithm i) (derivationKey (a .algorithm i) (a .key i)) (derivationInput (outputBits (a .algorithm i)) f))
-    (bytes32 extension ++ pseudoHeader (f .source) (f .destination) (length segment)
-    ++ coveredHeader (eqb (a .flags i % 2) 1) at (a .mac i) (take (headerEnd segment) segment) ++ drop (headerEnd segment) segment))
+    (applied (a .algorithm i)
+    (applied (a .algorithm i) (derivationKey (a .algorithm i) (a .key i)) (derivationInput (outputBits (a .algorithm i)) (blanked v f)))
+    (bytes32 extension ++ pseudoHeader (blanked v f .source) (blanked v f .destination) (length segment)
+    ++ coveredHeader (eqb (a .flags i) 1) at (a .mac i) (portsBlanked v (take (headerEnd segment) segment))
+    ++ drop (headerEnd segment) segment))
+
+-- what the MAC sees of a side: the same, if the side is hidden or is the same
+address-under : (hidden : Bool) (a b : List ℕ) → length a ≡ length b → (hidden ≡ false → a ≡ b) → addressUnder hidden a ≡ addressUnder hidden b
+address-under true a b l e = ap (λ (n : ℕ). replicate n 0) l
+address-under false a b l e = e refl
+
+pub port-under : (hidden : Bool) (m n : ℕ) → (hidden ≡ false → m ≡ n) → portUnder hidden m ≡ portUnder hidden n
+port-under true m n e = refl
+port-under false m n e = e refl
+
+-- two flows, of which the MAC sees the same
+pub record Alike (v : Hidden) (f g : Flow) : Type 0 where
+  pub source-length : length (f .source) ≡ length (g .source)
+  pub destination-length : length (f .destination) ≡ length (g .destination)
+  pub source : v .source ≡ false → f .source ≡ g .source
+  pub destination : v .destination ≡ false → f .destination ≡ g .destination
+  pub source-port : v .source ≡ false → f .sourcePort ≡ g .sourcePort
+  pub destination-port : v .destination ≡ false → f .destinationPort ≡ g .destinationPort
+  pub source-isn : f .sourceIsn ≡ g .sourceIsn
+  pub destination-isn : f .destinationIsn ≡ g .destinationIsn
+
+pub blanked-alike : (v : Hidden) (f g : Flow) → Alike v f g → blanked v f ≡ blanked v g
+blanked-alike v f g a = λ i. record {
+  source = address-under (v .source) (f .source) (g .source) (a .source-length) (a .source) i;
+  destination = address-under (v .destination) (f .destination) (g .destination) (a .destination-length) (a .destination) i;
+  sourcePort = port-under (v .source) (f .sourcePort) (g .sourcePort) (a .source-port) i;
+  destinationPort = port-under (v .destination) (f .destinationPort) (g .destinationPort) (a .destination-port) i;
+  sourceIsn = a .source-isn i;
+  destinationIsn = a .destination-isn i;
+}

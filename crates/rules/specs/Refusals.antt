@@ -1,6 +1,6 @@
 -- A refusal changes nothing but the count, as statements: demand 1 of the definitions, stated once for all calls. Document 01, "Numbers
 -- given back": "A refusal leaves outputs and state alike, except that drops 20 to 29 on an open connection add one to that number's count."
--- RefusalLaws proves them.
+-- (Ticket 5: and 40). RefusalLaws proves them.
 use Prim.Native.Nat.{ℕ}
 use mathlib.Core.Path.{_≡_}
 use mathlib.Core.Bool.{Bool, cond, _&&_}

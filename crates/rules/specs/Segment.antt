@@ -66,7 +66,8 @@ optionBytes n = 4 + n + padding n
 abbrev pub Whole : ℕ → Type 0
 Whole n = 4 * (n / 4) ≡ n
 
--- "Signing puts TCP-AO directly after byte 20, the old options behind it, raises the data offset .., and writes checksum zero."; Ticket 4:
+-- "Signing puts TCP-AO directly after byte 20, the old options behind it, raises the data offset .., and writes checksum zero." (the MAC is
+-- over these bytes; `withChecksum` writes the right one behind it); Ticket 4:
 -- "the data offset rises by the words of the padded option"
 abbrev pub signedWith : ℕ → ℕ → List ℕ → List ℕ → List ℕ
 signedWith k r m s = withOption (optionOf k r m) s

@@ -26,7 +26,7 @@ use Rattle.rules.specs.Mac.{segmentMac}
 use Rattle.rules.specs.Checksum.{segmentSum, withChecksum}
 use Rattle.rules.specs.Segment.{malformed, ao, md5, keyId, rnextKeyId, isBareSyn, inserted, withOption, optionBytes}
 use Rattle.rules.specs.Connection.{sized, arrivalPair, isOpen, placeOn, located, value}
-use Rattle.rules.specs.Calls.{check, synUnknown, checkSyn, unrefused, checkSign, outgoing}
+use Rattle.rules.specs.Calls.{check, synUnknown, checkSyn, unrefused, checkSign, outgoing, authenticated, signedSegment}
 use Rattle.rules.specs.Answers.{verdictAnswer}
 use Rattle.rules.specs.MacLaws.{length-context, length-key-1, length-key-2, length-key-3}
 use Rattle.rules.specs.RoundTripLaws.{whole-words}
@@ -34,6 +34,7 @@ use Rattle.rules.specs.GrowthLaws.{above-15}
 use Rattle.rules.specs.Sentences.{NumberRow, row, firstOf, badSize, judgeRows, synRows, signRows, entriesRow, JudgeTable, SynTable, SignTable}
 use Rattle.rules.specs.Sentences.{OpenTable, AskTable, EntryOrder, AnswerNumbers, CountsStop, Context, Contexts, TrafficKeys}
 use Rattle.rules.specs.Sentences.{PseudoHeaders, MessageOrder, Lengths, SegmentMacs, SignedExample, CheckedExamples, PaddedExample, Covered, optionWords}
+use Rattle.rules.specs.Sentences.{SignedAs, HiddenContexts, HiddenCovered}
 
 -- the tests of rows, one behind another
 abbrev flat : List NumberRow → List (Test Outcome)
@@ -179,15 +180,15 @@ pseudo-headers = record { ipv4 = λ a b n l. rw l; ipv6 = λ a b n l. rw l }
 
 pub message-order : MessageOrder
 unfolding message front pseudoHeader
-message-order s f e at segment = refl
+message-order s h f e at segment = refl
 
 pub segment-macs : SegmentMacs
 unfolding segmentMac applied
 segment-macs =
     record {
-      hmac = λ s f e at n segment a m. rw (a, m);
-      cmac = λ s f e at n segment a m. rw (a, m);
-      hmac-256 = λ s f e at n segment a m. rw (a, m);
+      hmac = λ s h f e at n segment a m. rw (a, m);
+      cmac = λ s h f e at n segment a m. rw (a, m);
+      hmac-256 = λ s h f e at n segment a m. rw (a, m);
     }
 
 pub checked-examples : CheckedExamples
@@ -205,3 +206,36 @@ signed-example = refl
 pub covered : Covered
 unfolding message front pseudoHeader coveredHeader width
 covered = record { all-options = refl; only-ao = refl; all-padded = refl; only-padded = refl }
+
+pub signed-as : SignedAs
+unfolding signedSegment authenticated
+signed-as e q x s = refl
+
+-- Hidden sides.
+
+pub hidden-contexts : HiddenContexts
+unfolding context width
+hidden-contexts =
+    record {
+      arrives-remote = refl;
+      arrives-local = refl;
+      arrives-both = refl;
+      leaves-remote = refl;
+      leaves-local = refl;
+      bare-syn-leaves = refl;
+      bare-syn-arrives = refl;
+      ipv6 = λ h f e l. rw (e, l);
+    }
+
+pub hidden-covered : HiddenCovered
+unfolding message front pseudoHeader coveredHeader width
+hidden-covered =
+    record {
+      arrives-remote = refl;
+      arrives-local = refl;
+      arrives-both = refl;
+      leaves-local = refl;
+      leaves-remote = refl;
+      only-ao-arrives = refl;
+      only-ao-leaves = refl;
+    }

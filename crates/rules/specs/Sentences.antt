@@ -3,7 +3,7 @@
 -- each, PositionLaws `PlaceAnswers`.
 use Prim.Native.Nat.{ℕ, _+_, _*_, _/_, _%_, _<_}
 use mathlib.Core.Path.{_≡_}
-use mathlib.Core.Bool.{Bool, cond, not, _&&_}
+use mathlib.Core.Bool.{Bool, true, cond, not, _&&_}
 use mathlib.Core.List.{List, [], _∷_, _++_, map}
 use lib.ListN.{length, take, drop, replicate}
 use lib.Dec.{eqb, ltb}
@@ -29,11 +29,12 @@ use Rattle.octets.specs.Tests.{first}
 use Rattle.checksum.specs.Checksum.{onesSum}
 use Rattle.rules.specs.Checksum.{withChecksum}
 use Rattle.rules.specs.Ends.{rechecked}
-use Rattle.rules.specs.Mac.{Flow, context, trafficKey, pseudoHeader, coveredHeader, message, segmentMac}
+use Rattle.rules.specs.declared.Hidden.{Hidden}
+use Rattle.rules.specs.Mac.{Flow, blanked, context, trafficKey, pseudoHeader, portsBlanked, coveredHeader, message, segmentMac}
 use Rattle.rules.specs.Segment.{malformed, ao, md5, aoAt, keyId, rnextKeyId, macIn, isBareSyn, signedWith}
 use Rattle.rules.specs.Connection.{Arrival, sized, arrivalPair, localAddress, remoteAddress, isOpen, arriving, leaving, arrivingSyn}
 use Rattle.rules.specs.Connection.{placeOn, located, value, extensionOf, bump}
-use Rattle.rules.specs.Calls.{isRefused, refusal, check, checkSyn, unrefused, openTests, askTests, checkSign}
+use Rattle.rules.specs.Calls.{isRefused, refusal, check, checkSyn, unrefused, openTests, askTests, checkSign, signedSegment}
 use Rattle.rules.specs.Answers.{answer, verdictAnswer, placeAnswer}
 
 -- The table of numbers. "The first that applies, in this order, is given."
@@ -58,15 +59,23 @@ firstOf (r ∷ l) o = cond (any (r .tests)) (r .gives) (firstOf l o)
 abbrev pub badSize : List ℕ → List Bool
 badSize s = ltb (length s) 20 ∷ ltb 65535 (length s) ∷ ltb (dataOffset s) 5 ∷ ltb (length s) (headerEnd s) ∷ []
 
+-- Ticket 10: "flags 2 for the local and 4 for the remote side". The source of what arrives is the remote side, the source of what leaves
+-- the local one.
+abbrev pub hidesArriving : Secret → Hidden
+hidesArriving s = record { source = eqb (s .flags / 4 % 2) 1; destination = eqb (s .flags / 2 % 2) 1 }
+
+abbrev pub hidesLeaving : Secret → Hidden
+hidesLeaving s = record { source = eqb (s .flags / 2 % 2) 1; destination = eqb (s .flags / 4 % 2) 1 }
+
 -- the MAC differs from that of the segment under the entry, of the flow, at the place
 abbrev pub wrongMac : Entry → Flow → Place → List ℕ → Bool
-wrongMac e f x s = not (sameBytes (macIn s) (segmentMac (e .secret) f (extensionOf (value x)) (aoAt s) s))
+wrongMac e f x s = not (sameBytes (macIn s) (segmentMac (e .secret) (hidesArriving (e .secret)) f (extensionOf (value x)) (aoAt s) s))
 
--- Judging with a state, its connection l.
 -- 40, Ticket 5: a "one's complement sum, pseudo-header and checksum included," that "is not FFFF"
 abbrev pub wrongSum : Arrival → Bool
 wrongSum a = not (eqb (onesSum (pseudoHeader (a .source) (a .destination) (length (a .segment)) ++ a .segment)) 65535)
 
+-- Judging with a state, its connection l.
 abbrev pub judgeRows : K.Tables → Connection → Found → Place → Arrival → List NumberRow
 judgeRows t l found x a =
     row 18 (not (isFamily (l .pair .family)) ∷ [])
@@ -261,21 +270,32 @@ pub record PseudoHeaders : Type 0 where
 
 -- "In this order: the extension (4 bytes); the IP pseudo-header ..; the TCP header ..; the data."
 abbrev pub MessageOrder : Type 0
-MessageOrder = (s : Secret) (f : Flow) (e at : ℕ) (segment : List ℕ)
-    → message s f e at segment
+MessageOrder = (s : Secret) (h : Hidden) (f : Flow) (e at : ℕ) (segment : List ℕ)
+    → message s h f e at segment
     ≡ (e / 16777216 % 256 ∷ e / 65536 % 256 ∷ e / 256 % 256 ∷ e % 256 ∷ [])
     ++ pseudoHeader (f .source) (f .destination) (length segment)
-    ++ coveredHeader (allOptions s) at (s .«mac_bytes») (take (headerEnd segment) segment)
+    ++ coveredHeader (allOptions s) at (s .«mac_bytes») (portsBlanked h (take (headerEnd segment) segment))
     ++ drop (headerEnd segment) segment
 
--- "The leftmost 12 bytes are the MAC."; Ticket 4: "no longer .. twelve bytes but the leftmost n"
+-- "The leftmost 12 bytes are the MAC."; Ticket 4: "no longer .. twelve bytes but the leftmost n"; Ticket 10: of a hidden side zeros stand
+-- "in the traffic key context and in the MAC's pseudo-header", and in the message's header
 pub record SegmentMacs : Type 0 where
-  pub hmac : (s : Secret) (f : Flow) (e at n : ℕ) (segment : List ℕ) → s .algorithm ≡ 1 → s .«mac_bytes» ≡ n
-      → segmentMac s f e at segment ≡ take n (hmacSha1 (trafficKey s f) (message s f e at segment))
-  pub cmac : (s : Secret) (f : Flow) (e at n : ℕ) (segment : List ℕ) → s .algorithm ≡ 2 → s .«mac_bytes» ≡ n
-      → segmentMac s f e at segment ≡ take n (cmac (trafficKey s f) (message s f e at segment))
-  pub hmac-256 : (s : Secret) (f : Flow) (e at n : ℕ) (segment : List ℕ) → s .algorithm ≡ 3 → s .«mac_bytes» ≡ n
-      → segmentMac s f e at segment ≡ take n (hmacSha256 (trafficKey s f) (message s f e at segment))
+  pub hmac : (s : Secret) (h : Hidden) (f : Flow) (e at n : ℕ) (segment : List ℕ) → s .algorithm ≡ 1 → s .«mac_bytes» ≡ n
+      → segmentMac s h f e at segment ≡ take n (hmacSha1 (trafficKey s (blanked h f)) (message s h (blanked h f) e at segment))
+  pub cmac : (s : Secret) (h : Hidden) (f : Flow) (e at n : ℕ) (segment : List ℕ) → s .algorithm ≡ 2 → s .«mac_bytes» ≡ n
+      → segmentMac s h f e at segment ≡ take n (cmac (trafficKey s (blanked h f)) (message s h (blanked h f) e at segment))
+  pub hmac-256 : (s : Secret) (h : Hidden) (f : Flow) (e at n : ℕ) (segment : List ℕ) → s .algorithm ≡ 3 → s .«mac_bytes» ≡ n
+      → segmentMac s h f e at segment ≡ take n (hmacSha256 (trafficKey s (blanked h f)) (message s h (blanked h f) e at segment))
+
+-- What is signed: the MAC of the segment with zeros for it; ports and addresses are sent as they are, whatever is hidden from the MAC.
+abbrev pub SignedAs : Type 0
+SignedAs = (e : Entry) (q : State) (x : ℕ) (s : List ℕ)
+    → signedSegment e q x s
+    ≡ withChecksum (localAddress (q .conn .pair)) (remoteAddress (q .conn .pair))
+    (signedWith (q .«send_id») (q .«ask_id»)
+    (segmentMac (e .secret) (hidesLeaving (e .secret)) (leaving (q .conn)) (extensionOf x) 20
+    (signedWith (q .«send_id») (q .«ask_id») (replicate (e .secret .«mac_bytes») 0) s))
+    s)
 
 -- A segment that arrives on the open connection, 27 bytes: four options of kind 1, three bytes of data.
 abbrev pub unsigned : List ℕ
@@ -287,6 +307,7 @@ abbrev pub mac : List ℕ
 mac = 201 ∷ 202 ∷ 203 ∷ 204 ∷ 205 ∷ 206 ∷ 207 ∷ 208 ∷ 209 ∷ 210 ∷ 211 ∷ 212 ∷ []
 
 -- "Signing puts TCP-AO directly after byte 20, the old options behind it, raises the data offset by 4, and writes checksum zero."
+-- (under the MAC; the right checksum comes behind it)
 abbrev pub signedBytes : List ℕ
 signedBytes =
     0 ∷ 179 ∷ 233 ∷ 215 ∷ 0 ∷ 0 ∷ 0 ∷ 16 ∷ 1 ∷ 2 ∷ 3 ∷ 4 ∷ 160 ∷ 16 ∷ 128 ∷ 0 ∷ 0 ∷ 0 ∷ 7 ∷ 8
@@ -319,25 +340,105 @@ secretFor n flags = record { flags = flags; algorithm = 1; «mac_bytes» = n; «
 abbrev pub secret : ℕ → Secret
 secret flags = secretFor 12 flags
 
+-- What the MAC covers, with extension 1, of a segment that arrives at the first end and of one that leaves it.
+abbrev pub arrivesAs : Secret → List ℕ → List ℕ
+arrivesAs s segment = message s (hidesArriving s) (blanked (hidesArriving s) (arriving openEnd [])) 1 20 segment
+
+abbrev pub leavesAs : Secret → List ℕ → List ℕ
+leavesAs s segment = message s (hidesLeaving s) (blanked (hidesLeaving s) (leaving openEnd)) 1 20 segment
+
 -- "the TCP header with checksum and MAC bytes zero"; "With flag 0 only the header's first 20 bytes, data offset as sent, and TCP-AO
 -- remain."
 pub record Covered : Type 0 where
-  pub all-options : message (secret 1) (arriving openEnd []) 1 20 signedBytes
+  pub all-options : arrivesAs (secret 1) signedBytes
       ≡ 0 ∷ 0 ∷ 0 ∷ 1 ∷ 172 ∷ 27 ∷ 28 ∷ 29 ∷ 10 ∷ 11 ∷ 12 ∷ 13 ∷ 0 ∷ 6 ∷ 0 ∷ 43
       ∷ 0 ∷ 179 ∷ 233 ∷ 215 ∷ 0 ∷ 0 ∷ 0 ∷ 16 ∷ 1 ∷ 2 ∷ 3 ∷ 4 ∷ 160 ∷ 16 ∷ 128 ∷ 0 ∷ 0 ∷ 0 ∷ 7 ∷ 8
       ∷ 29 ∷ 16 ∷ 84 ∷ 61 ∷ 0 ∷ 0 ∷ 0 ∷ 0 ∷ 0 ∷ 0 ∷ 0 ∷ 0 ∷ 0 ∷ 0 ∷ 0 ∷ 0
       ∷ 1 ∷ 1 ∷ 1 ∷ 1 ∷ 97 ∷ 98 ∷ 99 ∷ []
-  pub only-ao : message (secret 0) (arriving openEnd []) 1 20 signedBytes
+  pub only-ao : arrivesAs (secret 0) signedBytes
       ≡ 0 ∷ 0 ∷ 0 ∷ 1 ∷ 172 ∷ 27 ∷ 28 ∷ 29 ∷ 10 ∷ 11 ∷ 12 ∷ 13 ∷ 0 ∷ 6 ∷ 0 ∷ 43
       ∷ 0 ∷ 179 ∷ 233 ∷ 215 ∷ 0 ∷ 0 ∷ 0 ∷ 16 ∷ 1 ∷ 2 ∷ 3 ∷ 4 ∷ 160 ∷ 16 ∷ 128 ∷ 0 ∷ 0 ∷ 0 ∷ 7 ∷ 8
       ∷ 29 ∷ 16 ∷ 84 ∷ 61 ∷ 0 ∷ 0 ∷ 0 ∷ 0 ∷ 0 ∷ 0 ∷ 0 ∷ 0 ∷ 0 ∷ 0 ∷ 0 ∷ 0
       ∷ 97 ∷ 98 ∷ 99 ∷ []
   -- the padding is no part of TCP-AO
-  pub all-padded : message (secretFor 5 1) (arriving openEnd []) 1 20 paddedBytes
+  pub all-padded : arrivesAs (secretFor 5 1) paddedBytes
       ≡ 0 ∷ 0 ∷ 0 ∷ 1 ∷ 172 ∷ 27 ∷ 28 ∷ 29 ∷ 10 ∷ 11 ∷ 12 ∷ 13 ∷ 0 ∷ 6 ∷ 0 ∷ 39
       ∷ 0 ∷ 179 ∷ 233 ∷ 215 ∷ 0 ∷ 0 ∷ 0 ∷ 16 ∷ 1 ∷ 2 ∷ 3 ∷ 4 ∷ 144 ∷ 16 ∷ 128 ∷ 0 ∷ 0 ∷ 0 ∷ 7 ∷ 8
       ∷ 29 ∷ 9 ∷ 84 ∷ 61 ∷ 0 ∷ 0 ∷ 0 ∷ 0 ∷ 0 ∷ 1 ∷ 1 ∷ 1 ∷ 1 ∷ 1 ∷ 1 ∷ 1 ∷ 97 ∷ 98 ∷ 99 ∷ []
-  pub only-padded : message (secretFor 5 0) (arriving openEnd []) 1 20 paddedBytes
+  pub only-padded : arrivesAs (secretFor 5 0) paddedBytes
       ≡ 0 ∷ 0 ∷ 0 ∷ 1 ∷ 172 ∷ 27 ∷ 28 ∷ 29 ∷ 10 ∷ 11 ∷ 12 ∷ 13 ∷ 0 ∷ 6 ∷ 0 ∷ 39
       ∷ 0 ∷ 179 ∷ 233 ∷ 215 ∷ 0 ∷ 0 ∷ 0 ∷ 16 ∷ 1 ∷ 2 ∷ 3 ∷ 4 ∷ 144 ∷ 16 ∷ 128 ∷ 0 ∷ 0 ∷ 0 ∷ 7 ∷ 8
       ∷ 29 ∷ 9 ∷ 84 ∷ 61 ∷ 0 ∷ 0 ∷ 0 ∷ 0 ∷ 0 ∷ 97 ∷ 98 ∷ 99 ∷ []
+
+-- Ticket 10: "that side's address and port count as zero in the traffic key context", ISNs as they are: of what arrives at the first end,
+-- of what leaves it, of a bare SYN that leaves and of one that arrives without a state
+abbrev pub arrivingContext : ℕ → List ℕ
+arrivingContext flags = context (blanked (hidesArriving (secret flags)) (arriving openEnd []))
+
+abbrev pub leavingContext : ℕ → Connection → List ℕ
+leavingContext flags l = context (blanked (hidesLeaving (secret flags)) (leaving l))
+
+-- the segment without TCP-AO, as a bare SYN
+abbrev pub bareSyn : Arrival
+bareSyn = record { source = 172 ∷ 27 ∷ 28 ∷ 29 ∷ []; destination = 10 ∷ 11 ∷ 12 ∷ 13 ∷ []; segment = unsigned }
+
+pub record HiddenContexts : Type 0 where
+  pub arrives-remote : arrivingContext 4
+      ≡ 0 ∷ 0 ∷ 0 ∷ 0 ∷ 10 ∷ 11 ∷ 12 ∷ 13 ∷ 0 ∷ 0 ∷ 233 ∷ 215 ∷ 255 ∷ 255 ∷ 255 ∷ 240 ∷ 0 ∷ 0 ∷ 0 ∷ 100 ∷ []
+  pub arrives-local : arrivingContext 2
+      ≡ 172 ∷ 27 ∷ 28 ∷ 29 ∷ 0 ∷ 0 ∷ 0 ∷ 0 ∷ 0 ∷ 179 ∷ 0 ∷ 0 ∷ 255 ∷ 255 ∷ 255 ∷ 240 ∷ 0 ∷ 0 ∷ 0 ∷ 100 ∷ []
+  pub arrives-both : arrivingContext 6
+      ≡ 0 ∷ 0 ∷ 0 ∷ 0 ∷ 0 ∷ 0 ∷ 0 ∷ 0 ∷ 0 ∷ 0 ∷ 0 ∷ 0 ∷ 255 ∷ 255 ∷ 255 ∷ 240 ∷ 0 ∷ 0 ∷ 0 ∷ 100 ∷ []
+  pub leaves-remote : leavingContext 4 openEnd
+      ≡ 10 ∷ 11 ∷ 12 ∷ 13 ∷ 0 ∷ 0 ∷ 0 ∷ 0 ∷ 233 ∷ 215 ∷ 0 ∷ 0 ∷ 0 ∷ 0 ∷ 0 ∷ 100 ∷ 255 ∷ 255 ∷ 255 ∷ 240 ∷ []
+  pub leaves-local : leavingContext 2 openEnd
+      ≡ 0 ∷ 0 ∷ 0 ∷ 0 ∷ 172 ∷ 27 ∷ 28 ∷ 29 ∷ 0 ∷ 0 ∷ 0 ∷ 179 ∷ 0 ∷ 0 ∷ 0 ∷ 100 ∷ 255 ∷ 255 ∷ 255 ∷ 240 ∷ []
+  pub bare-syn-leaves : leavingContext 2 openingEnd
+      ≡ 0 ∷ 0 ∷ 0 ∷ 0 ∷ 172 ∷ 27 ∷ 28 ∷ 29 ∷ 0 ∷ 0 ∷ 0 ∷ 179 ∷ 0 ∷ 0 ∷ 0 ∷ 100 ∷ 0 ∷ 0 ∷ 0 ∷ 0 ∷ []
+  pub bare-syn-arrives : context (blanked (hidesArriving (secret 4)) (arrivingSyn bareSyn))
+      ≡ 0 ∷ 0 ∷ 0 ∷ 0 ∷ 10 ∷ 11 ∷ 12 ∷ 13 ∷ 0 ∷ 0 ∷ 233 ∷ 215 ∷ 0 ∷ 0 ∷ 0 ∷ 16 ∷ 0 ∷ 0 ∷ 0 ∷ 0 ∷ []
+  -- as many zero bytes as the address has
+  pub ipv6 : (h : Hidden) (f : Flow) → h .source ≡ true → length (f .source) ≡ 16
+      → blanked h f .source ≡ 0 ∷ 0 ∷ 0 ∷ 0 ∷ 0 ∷ 0 ∷ 0 ∷ 0 ∷ 0 ∷ 0 ∷ 0 ∷ 0 ∷ 0 ∷ 0 ∷ 0 ∷ 0 ∷ []
+
+-- "and in the MAC's pseudo-header and header": with all options covered, and with TCP-AO alone. The length stays that of the segment. Of
+-- what arrives the source is the remote side, of what leaves (here with the ports exchanged) the local one.
+abbrev pub leavingBytes : List ℕ
+leavingBytes = (233 ∷ 215 ∷ 0 ∷ 179 ∷ []) ++ drop 4 signedBytes
+
+pub record HiddenCovered : Type 0 where
+  pub arrives-remote : arrivesAs (secret 5) signedBytes
+      ≡ 0 ∷ 0 ∷ 0 ∷ 1 ∷ 0 ∷ 0 ∷ 0 ∷ 0 ∷ 10 ∷ 11 ∷ 12 ∷ 13 ∷ 0 ∷ 6 ∷ 0 ∷ 43
+      ∷ 0 ∷ 0 ∷ 233 ∷ 215 ∷ 0 ∷ 0 ∷ 0 ∷ 16 ∷ 1 ∷ 2 ∷ 3 ∷ 4 ∷ 160 ∷ 16 ∷ 128 ∷ 0 ∷ 0 ∷ 0 ∷ 7 ∷ 8
+      ∷ 29 ∷ 16 ∷ 84 ∷ 61 ∷ 0 ∷ 0 ∷ 0 ∷ 0 ∷ 0 ∷ 0 ∷ 0 ∷ 0 ∷ 0 ∷ 0 ∷ 0 ∷ 0
+      ∷ 1 ∷ 1 ∷ 1 ∷ 1 ∷ 97 ∷ 98 ∷ 99 ∷ []
+  pub arrives-local : arrivesAs (secret 3) signedBytes
+      ≡ 0 ∷ 0 ∷ 0 ∷ 1 ∷ 172 ∷ 27 ∷ 28 ∷ 29 ∷ 0 ∷ 0 ∷ 0 ∷ 0 ∷ 0 ∷ 6 ∷ 0 ∷ 43
+      ∷ 0 ∷ 179 ∷ 0 ∷ 0 ∷ 0 ∷ 0 ∷ 0 ∷ 16 ∷ 1 ∷ 2 ∷ 3 ∷ 4 ∷ 160 ∷ 16 ∷ 128 ∷ 0 ∷ 0 ∷ 0 ∷ 7 ∷ 8
+      ∷ 29 ∷ 16 ∷ 84 ∷ 61 ∷ 0 ∷ 0 ∷ 0 ∷ 0 ∷ 0 ∷ 0 ∷ 0 ∷ 0 ∷ 0 ∷ 0 ∷ 0 ∷ 0
+      ∷ 1 ∷ 1 ∷ 1 ∷ 1 ∷ 97 ∷ 98 ∷ 99 ∷ []
+  pub arrives-both : arrivesAs (secret 7) signedBytes
+      ≡ 0 ∷ 0 ∷ 0 ∷ 1 ∷ 0 ∷ 0 ∷ 0 ∷ 0 ∷ 0 ∷ 0 ∷ 0 ∷ 0 ∷ 0 ∷ 6 ∷ 0 ∷ 43
+      ∷ 0 ∷ 0 ∷ 0 ∷ 0 ∷ 0 ∷ 0 ∷ 0 ∷ 16 ∷ 1 ∷ 2 ∷ 3 ∷ 4 ∷ 160 ∷ 16 ∷ 128 ∷ 0 ∷ 0 ∷ 0 ∷ 7 ∷ 8
+      ∷ 29 ∷ 16 ∷ 84 ∷ 61 ∷ 0 ∷ 0 ∷ 0 ∷ 0 ∷ 0 ∷ 0 ∷ 0 ∷ 0 ∷ 0 ∷ 0 ∷ 0 ∷ 0
+      ∷ 1 ∷ 1 ∷ 1 ∷ 1 ∷ 97 ∷ 98 ∷ 99 ∷ []
+  pub leaves-local : leavesAs (secret 3) leavingBytes
+      ≡ 0 ∷ 0 ∷ 0 ∷ 1 ∷ 0 ∷ 0 ∷ 0 ∷ 0 ∷ 172 ∷ 27 ∷ 28 ∷ 29 ∷ 0 ∷ 6 ∷ 0 ∷ 43
+      ∷ 0 ∷ 0 ∷ 0 ∷ 179 ∷ 0 ∷ 0 ∷ 0 ∷ 16 ∷ 1 ∷ 2 ∷ 3 ∷ 4 ∷ 160 ∷ 16 ∷ 128 ∷ 0 ∷ 0 ∷ 0 ∷ 7 ∷ 8
+      ∷ 29 ∷ 16 ∷ 84 ∷ 61 ∷ 0 ∷ 0 ∷ 0 ∷ 0 ∷ 0 ∷ 0 ∷ 0 ∷ 0 ∷ 0 ∷ 0 ∷ 0 ∷ 0
+      ∷ 1 ∷ 1 ∷ 1 ∷ 1 ∷ 97 ∷ 98 ∷ 99 ∷ []
+  pub leaves-remote : leavesAs (secret 5) leavingBytes
+      ≡ 0 ∷ 0 ∷ 0 ∷ 1 ∷ 10 ∷ 11 ∷ 12 ∷ 13 ∷ 0 ∷ 0 ∷ 0 ∷ 0 ∷ 0 ∷ 6 ∷ 0 ∷ 43
+      ∷ 233 ∷ 215 ∷ 0 ∷ 0 ∷ 0 ∷ 0 ∷ 0 ∷ 16 ∷ 1 ∷ 2 ∷ 3 ∷ 4 ∷ 160 ∷ 16 ∷ 128 ∷ 0 ∷ 0 ∷ 0 ∷ 7 ∷ 8
+      ∷ 29 ∷ 16 ∷ 84 ∷ 61 ∷ 0 ∷ 0 ∷ 0 ∷ 0 ∷ 0 ∷ 0 ∷ 0 ∷ 0 ∷ 0 ∷ 0 ∷ 0 ∷ 0
+      ∷ 1 ∷ 1 ∷ 1 ∷ 1 ∷ 97 ∷ 98 ∷ 99 ∷ []
+  pub only-ao-arrives : arrivesAs (secret 4) signedBytes
+      ≡ 0 ∷ 0 ∷ 0 ∷ 1 ∷ 0 ∷ 0 ∷ 0 ∷ 0 ∷ 10 ∷ 11 ∷ 12 ∷ 13 ∷ 0 ∷ 6 ∷ 0 ∷ 43
+      ∷ 0 ∷ 0 ∷ 233 ∷ 215 ∷ 0 ∷ 0 ∷ 0 ∷ 16 ∷ 1 ∷ 2 ∷ 3 ∷ 4 ∷ 160 ∷ 16 ∷ 128 ∷ 0 ∷ 0 ∷ 0 ∷ 7 ∷ 8
+      ∷ 29 ∷ 16 ∷ 84 ∷ 61 ∷ 0 ∷ 0 ∷ 0 ∷ 0 ∷ 0 ∷ 0 ∷ 0 ∷ 0 ∷ 0 ∷ 0 ∷ 0 ∷ 0
+      ∷ 97 ∷ 98 ∷ 99 ∷ []
+  pub only-ao-leaves : leavesAs (secret 2) leavingBytes
+      ≡ 0 ∷ 0 ∷ 0 ∷ 1 ∷ 0 ∷ 0 ∷ 0 ∷ 0 ∷ 172 ∷ 27 ∷ 28 ∷ 29 ∷ 0 ∷ 6 ∷ 0 ∷ 43
+      ∷ 0 ∷ 0 ∷ 0 ∷ 179 ∷ 0 ∷ 0 ∷ 0 ∷ 16 ∷ 1 ∷ 2 ∷ 3 ∷ 4 ∷ 160 ∷ 16 ∷ 128 ∷ 0 ∷ 0 ∷ 0 ∷ 7 ∷ 8
+      ∷ 29 ∷ 16 ∷ 84 ∷ 61 ∷ 0 ∷ 0 ∷ 0 ∷ 0 ∷ 0 ∷ 0 ∷ 0 ∷ 0 ∷ 0 ∷ 0 ∷ 0 ∷ 0
+      ∷ 97 ∷ 98 ∷ 99 ∷ []

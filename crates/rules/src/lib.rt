@@ -17,6 +17,12 @@ pub enum Outcome {
     Bad(u8, usize),
 }
 
+// Of which sides of a segment address and port count as zero under the MAC (document 02, Ticket 10).
+pub struct Hidden {
+    pub source: bool,
+    pub destination: bool,
+}
+
 // "A verdict is accept with its extension, pass, or drop with a number."
 pub enum Verdict {
     Accept(u32),
@@ -36,7 +42,8 @@ pub struct Connection {
 pub const SLOTS: usize = 11;
 
 // A connection's state. `sent` is the reference of the direction that this end signs, `seen` that of the arriving one; `send_id` is the
-// outgoing key's SendID (current_key), `ask_id` the RecvID asked of the peer (rnext_key). `drops` counts the drops 20 to 29.
+// outgoing key's SendID (current_key), `ask_id` the RecvID asked of the peer (rnext_key). `drops` counts the drops 20 to 29
+// and 40.
 pub struct State {
     pub conn: Connection,
     pub sent: u64,

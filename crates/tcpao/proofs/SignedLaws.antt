@@ -15,7 +15,8 @@ use Rattle.keys.specs.declared.entry.Secret.{Secret}
 use Rattle.keys.specs.declared.entry.Entry.{Entry}
 use Rattle.rules.specs.declared.Outcome.the-variants.{Good}
 use Rattle.rules.specs.declared.State.{State}
-use Rattle.rules.specs.Mac.{Flow, trafficKey, pseudoHeader, front, segmentMac}
+use Rattle.rules.specs.declared.Hidden.{Hidden}
+use Rattle.rules.specs.Mac.{Flow, leavingHidden, blanked, pseudoHeader, front, segmentMac}
 use Rattle.rules.specs.Checksum.{withChecksum}
 use Rattle.rules.specs.ChecksumLaws.{pseudo-even}
 use Rattle.rules.specs.MacLaws.{length-mac}
@@ -23,8 +24,8 @@ use Rattle.rules.specs.Segment.{inserted, withOption, padding, optionOf, option
 use Rattle.rules.specs.RoundTripLaws.{length-option, whole-words}
 use Rattle.rules.specs.Connection.{localAddress, remoteAddress, leaving, extensionOf}
 use Rattle.rules.specs.Calls.{authenticated, signedSegment, written}
-use Rattle.traffic.specs.Padded.{padded, digestRoom}
-use Rattle.traffic.specs.MacContext.{macView, macStart, macAbsorb, macFinished}
+use Rattle.traffic.specs.Padded.{padded}
+use Rattle.traffic.specs.MacContext.{macView, macAbsorb, macFinished, frontedBy}
 use Rattle.traffic.specs.TagLaws.{tagOf, tagged, tag-mac-parts}
 use Rattle.traffic.specs.declared.context.MacContext.{MacContext}
 use Rattle.checks.specs.Begin.{macLength}
@@ -213,6 +214,9 @@ module _ (x : ℕ) (e : Secret) (q : State) (s : List ℕ) (can : Signable s e) 
   abbrev flow : Flow
   flow = leaving (q .conn)
 
+  abbrev hides : Hidden
+  hides = leavingHidden e
+
   abbrev blank : List ℕ
   blank = blankHeader e q s
 
@@ -245,13 +249,12 @@ module _ (x : ℕ) (e : Secret) (q : State) (s : List ℕ) (can : Signable s e) 
       let b : getD (take end s) 12 0 ≡ getD s 12 0 = getD-take end s 12 0 (omega arith) in
       record { low = omega arith; long = omega arith; words = omega arith; short = can .short; is = is }
 
-  pub starts-is : {end added ext : ℕ} {f : Flow} (m : MacContext) (h : List ℕ) (u : Sum) → end ≡ headerEnd s → added ≡ optionBytes n
-      → f ≡ flow → ext ≡ extensionOf x → h ≡ padded 60 (inserted (optionOf (q .«send_id») (q .«ask_id») (zeros n)) (take end s))
-      → macView m
-      ≡ macAbsorb (macStart (e .algorithm) (padded digestRoom (trafficKey e f))) (front e f ext 20 (length s + added) (take (end + added) h))
+  pub starts-is : {end added ext : ℕ} (f : Flow) (v : Hidden) (m : MacContext) (h : List ℕ) (u : Sum) → end ≡ headerEnd s → added ≡ optionBytes n
+      → f ≡ flow → ext ≡ extensionOf x → v ≡ hides → h ≡ padded 60 (inserted (optionOf (q .«send_id») (q .«ask_id») (zeros n)) (take end s))
+      → macView m ≡ frontedBy e v f ext 20 (length s + added) (take (end + added) h)
       → u ≡ addedTo begun (pseudo (length s + added))
       → Starts x e q s (record { outcome = Good x (q .«ask_id»); added = added; header = h; mac = m; «mac_bytes» = n; sum = u })
-  starts-is {end = end} {added = added} m h u ends adds flows exts heads macs sums =
+  starts-is {end = end} {added = added} f v m h u ends adds flows exts hid heads macs sums =
       let hb : h ≡ padded 60 blank =
       heads ∙ ap (λ (i : ℕ). padded 60 (inserted (optionOf (q .«send_id») (q .«ask_id») (zeros n)) (take i s))) ends in
       let l : length blank ≡ end + added = omega (arith, blank-long, ends, adds) in
@@ -265,20 +268,19 @@ module _ (x : ℕ) (e : Secret) (q : State) (s : List ℕ) (can : Signable s e) 
               header = hb;
               mac =
                   macs
-                  ∙ (λ i. macAbsorb (macStart (e .algorithm) (padded digestRoom (trafficKey e (flows i))))
-                  (front e (flows i) (exts i) 20 (length s + adds i) (t i)));
+                  ∙ (λ i. frontedBy e (hid i) (flows i) (exts i) 20 (length s + adds i) (t i));
               sum = sums ∙ (λ i. addedTo begun (pseudo (length s + adds i)));
             };
       }
 
   -- the data end the MAC of the segment with zeros
   abbrev mac : List ℕ
-  mac = segmentMac e flow (extensionOf x) 20 (signedWith (q .«send_id») (q .«ask_id») (zeros n) s)
+  mac = segmentMac e hides flow (extensionOf x) 20 (signedWith (q .«send_id») (q .«ask_id») (zeros n) s)
 
   length-of-mac : length mac ≡ n
-  length-of-mac = length-mac e flow (extensionOf x) 20 (signedWith (q .«send_id») (q .«ask_id») (zeros n) s) (can .short)
+  length-of-mac = length-mac e hides flow (extensionOf x) 20 (signedWith (q .«send_id») (q .«ask_id») (zeros n) s) (can .short)
 
-  tag-is : (tag : List ℕ) → tag ≡ tagOf e flow (extensionOf x) 20 (length s + optionBytes n) blank (drop (headerEnd s) s) → take n tag ≡ mac
+  tag-is : (tag : List ℕ) → tag ≡ tagOf e hides flow (extensionOf x) 20 (length s + optionBytes n) blank (drop (headerEnd s) s) → take n tag ≡ mac
   unfolding withOption headBytes
   tag-is tag t =
       let k = q .«send_id» in
@@ -293,10 +295,10 @@ module _ (x : ℕ) (e : Secret) (q : State) (s : List ℕ) (can : Signable s e) 
       let v = ap words z in
       let c : length d ≡ length s - headerEnd s = length-drop (headerEnd s) s in
       let i = can .inside in
-      ap (take n) (t ∙ ap (λ (l : List ℕ). tagOf e flow (extensionOf x) 20 (length s + optionBytes n) l d) g)
-      ∙ tag-mac-parts e flow (extensionOf x) 20 (length s + optionBytes n) hdr d (omega (arith, a, o, w, v)) (omega (arith, a, c, i))
+      ap (take n) (t ∙ ap (λ (l : List ℕ). tagOf e hides flow (extensionOf x) 20 (length s + optionBytes n) l d) g)
+      ∙ tag-mac-parts e hides flow (extensionOf x) 20 (length s + optionBytes n) hdr d (omega (arith, a, o, w, v)) (omega (arith, a, c, i))
       (can .short)
-      ∙ ap (λ (l : List ℕ). segmentMac e flow (extensionOf x) 20 (l ++ d)) (sym g)
+      ∙ ap (λ (l : List ℕ). segmentMac e hides flow (extensionOf x) 20 (l ++ d)) (sym g)
 
   module _ (b : SignBegun) (ready : Ready x e q s b) where
     abbrev tag : List ℕ
@@ -307,7 +309,8 @@ module _ (x : ℕ) (e : Secret) (q : State) (s : List ℕ) (can : Signable s e) 
         let same : macLength (b .«mac_bytes») ≡ n = omega (arith, ready .bytes, can .short) in
         ap (λ (i : ℕ). take i tag) same
         ∙ tag-is tag
-        (tagged e flow (front e flow (extensionOf x) 20 (length s + optionBytes n) blank) (drop (headerEnd s) s) (ready .mac) refl refl)
+        (tagged e (blanked hides flow) (front e hides (blanked hides flow) (extensionOf x) 20 (length s + optionBytes n) blank)
+        (drop (headerEnd s) s) (ready .mac) refl refl)
 
     -- the header with its MAC, and the data behind it
     abbrev new : List ℕ
@@ -333,7 +336,7 @@ module _ (x : ℕ) (e : Secret) (q : State) (s : List ℕ) (can : Signable s e) 
     authenticated-is entry under =
         let k = q .«send_id» in
         let r = q .«ask_id» in
-        ap (λ (v : Secret). signedWith k r (segmentMac v flow (extensionOf x) 20 (signedWith k r (zeros (v .«mac_bytes»)) s)) s) (sym under)
+        ap (λ (v : Secret). signedWith k r (segmentMac v (leavingHidden v) flow (extensionOf x) 20 (signedWith k r (zeros (v .«mac_bytes»)) s)) s) (sym under)
 
     -- what begin, data and end come to
     module _ (alike : length (localAddress (q .conn .pair)) ≡ length (remoteAddress (q .conn .pair))) where

@@ -14,24 +14,23 @@ use Rattle.keys.specs.declared.entry.Secret.{Secret}
 use Rattle.keys.specs.Table.{Tables}
 use Rattle.rules.specs.declared.Outcome.the-variants.{Good}
 use Rattle.rules.specs.declared.State.{State}
-use Rattle.rules.specs.Mac.{trafficKey, pseudoHeader, front}
+use Rattle.rules.specs.Mac.{leavingHidden, pseudoHeader}
 use Rattle.rules.specs.Segment.{inserted, optionOf, optionBytes}
 use Rattle.rules.specs.Connection.{localAddress, remoteAddress, leaving, extensionOf}
 use Rattle.rules.specs.Calls.{outgoing, checkSign}
-use Rattle.traffic.specs.Padded.{padded, digestRoom}
-use Rattle.traffic.specs.MacContext.{MacView, macView, macStart, macAbsorb, macFinished}
+use Rattle.traffic.specs.Padded.{padded}
+use Rattle.traffic.specs.MacContext.{MacView, macView, macAbsorb, macFinished, frontedBy}
 use Rattle.checks.specs.Begin.{macLength}
 use Rattle.tcpao.specs.declared.sign_begun.SignBegun.{SignBegun}
 
--- the signed header with zeros for the MAC
+-- the signed header with zeros for MAC and checksum
 abbrev pub blankHeader : Secret → State → List ℕ → List ℕ
 blankHeader e q s = inserted (optionOf (q .«send_id») (q .«ask_id») (replicate (e .«mac_bytes») 0)) (take (headerEnd s) s)
 
--- the MAC that the front leaves, under the entry's traffic key
+-- the MAC that the front leaves, of a segment that leaves
 abbrev pub fronted : ℕ → Secret → State → List ℕ → MacView
 fronted x e q s =
-    macAbsorb (macStart (e .algorithm) (padded digestRoom (trafficKey e (leaving (q .conn)))))
-    (front e (leaving (q .conn)) (extensionOf x) 20 (length s + optionBytes (e .«mac_bytes»)) (blankHeader e q s))
+    frontedBy e (leavingHidden e) (leaving (q .conn)) (extensionOf x) 20 (length s + optionBytes (e .«mac_bytes»)) (blankHeader e q s)
 
 -- the sum that the pseudo-header leaves, between the state's own addresses
 abbrev pub leavingSum : Secret → State → List ℕ → Sum

@@ -124,7 +124,8 @@ fn head_of(header: &[u8], words: u8, key_id: u8, rnext_key_id: u8, n: u8) -> [u8
     ]
 }
 
-// The signed header with zeros for the MAC's n bytes: TCP-AO stands behind byte 20, its padding and then the old options behind it.
+// The signed header with zeros for the MAC's n bytes and the checksum: TCP-AO stands behind byte 20, its padding and then the old options
+// behind it.
 fn blank_header(header: &[u8], added: usize, key_id: u8, rnext_key_id: u8, n: u8) -> [u8; 60]
     requires { ⌜ Room (now header) added n ⌝ }
     ensures { λ r. ⌜ r ≡ padded 60 (inserted (optionOf «key_id» «rnext_key_id» (replicate n 0)) (now (header .entry))) ⌝ }
@@ -161,7 +162,8 @@ pub(crate) fn ready(
     let conn = state.conn;
     let flow = leaving_flow(conn);
     let extension = extension_of(x);
-    let mac = traffic::tag::begin(secret, flow, extension, 20, len, &header[..whole]);
+    let hidden = traffic::flow::leaving_hidden(secret);
+    let mac = traffic::tag::begin(secret, hidden, flow, extension, 20, len, &header[..whole]);
     let sum = leaving_sum(conn.pair, len);
     SignBegun {
         outcome: Outcome::Good(x, state.ask_id),

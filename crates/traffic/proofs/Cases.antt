@@ -17,9 +17,10 @@ use Rattle.mac.specs.Cmac.{View, cmac, start, absorb, finished}
 use Rattle.keys.specs.Algorithm.{outputBits}
 use Rattle.keys.specs.Entry.{keyOf}
 use Rattle.keys.specs.declared.entry.Secret.{Secret}
-use Rattle.rules.specs.Mac.{Flow, derivationInput, aesKey, isHmac, derivationKey, applied, trafficKey}
+use Rattle.rules.specs.declared.Hidden.{Hidden}
+use Rattle.rules.specs.Mac.{Flow, blanked, derivationInput, aesKey, isHmac, derivationKey, applied, trafficKey, front}
 use Rattle.traffic.specs.Padded.{padded, digestRoom}
-use Rattle.traffic.specs.MacContext.{MacView, Hmac, Cmac, hashFor, byAlgorithm, macStart, macAbsorb, macFinished}
+use Rattle.traffic.specs.MacContext.{MacView, Hmac, Cmac, hashFor, byAlgorithm, macStart, macAbsorb, macFinished, frontedBy}
 
 -- An algorithm that applies an HMAC, by the hash h that the code names.
 module _ (algorithm : ℕ) (is : isHmac algorithm ≡ true) (h : HashAlgorithm) (eh : h ≡ hashFor algorithm) (c : View) where
@@ -57,9 +58,18 @@ module _ (algorithm : ℕ) (other : isHmac algorithm ≡ false) (h : Keyed) wher
   cmac-end c q e = rw other (e ∙ ap (padded digestRoom) q)
 
 -- new under a key, then a front
-pub begun : (algorithm : ℕ) {key k a b : List ℕ} {u v : MacView} → k ≡ key → u ≡ macStart algorithm k → a ≡ b → v ≡ macAbsorb u a
+begun : (algorithm : ℕ) {key k a b : List ℕ} {u v : MacView} → k ≡ key → u ≡ macStart algorithm k → a ≡ b → v ≡ macAbsorb u a
     → v ≡ macAbsorb (macStart algorithm key) b
 begun algorithm ek eu ea ev = ev ∙ (λ i. macAbsorb ((eu ∙ ap (macStart algorithm) ek) i) (ea i))
+
+-- both of a flow g, which is f with its hidden sides blanked
+pub begun-blanked : (s : Secret) (h : Hidden) (extension at len : ℕ) (header : List ℕ) (f g : Flow) {k a : List ℕ} {u v : MacView}
+    → g ≡ blanked h f → k ≡ padded digestRoom (trafficKey s g) → u ≡ macStart (s .algorithm) k → a ≡ front s h g extension at len header
+    → v ≡ macAbsorb u a
+    → v ≡ frontedBy s h f extension at len header
+begun-blanked s h extension at len header f g eg ek eu ea ev =
+    begun (s .algorithm) (ek ∙ ap (λ (g : Flow). padded digestRoom (trafficKey s g)) eg) eu
+    (ea ∙ ap (λ (g : Flow). front s h g extension at len header) eg) ev
 
 -- the key under which a traffic key is derived
 module _ (k : List ℕ) {r : List ℕ} where

@@ -1,5 +1,6 @@
 -- Laws that the functions' proofs share.
 pub mod Assembly
+pub mod Blanked
 pub mod Cases
 pub mod Covered
 pub mod Sizes

@@ -11,7 +11,9 @@ use Rattle.mac.specs.declared.hash_algorithm.HashAlgorithm.{HashAlgorithm}
 use Rattle.mac.specs.declared.hash_algorithm.HashAlgorithm.the-variants.{Sha1, Sha256}
 use Rattle.mac.specs.Cmac.{View, start, absorb, finished}
 use Rattle.mac.specs.CmacContext.{view}
-use Rattle.rules.specs.Mac.{isHmac}
+use Rattle.keys.specs.declared.entry.Secret.{Secret}
+use Rattle.rules.specs.declared.Hidden.{Hidden}
+use Rattle.rules.specs.Mac.{Flow, blanked, isHmac, trafficKey, front}
 use Rattle.traffic.specs.Padded.{padded, digestRoom}
 use Rattle.traffic.specs.declared.context.MacContext.{MacContext}
 
@@ -47,3 +49,8 @@ macAbsorb (Cmac v) m = Cmac (absorb v m)
 unfoldable pub macFinished : MacView → List ℕ
 macFinished (Hmac a v) = padded digestRoom (hmacFinished (partsOf a) v)
 macFinished (Cmac v) = padded digestRoom (finished v)
+
+-- the MAC of a segment after its front, under the secret's traffic key: of len bytes, with the given hidden sides, flow and header
+abbrev pub frontedBy : Secret → Hidden → Flow → ℕ → ℕ → ℕ → List ℕ → MacView
+frontedBy s h f extension at len header =
+    macAbsorb (macStart (s .algorithm) (padded digestRoom (trafficKey s (blanked h f)))) (front s h (blanked h f) extension at len header)

@@ -6,13 +6,15 @@ ghost use Prim.Native.Nat.{_+_, _≤_};
 ghost use lib.ListN.{length};
 ghost use Rattle.octets.specs.Octets.{bytes16, bytes32};
 ghost use Rattle.keys.specs.Entry.{allOptions};
-ghost use Rattle.rules.specs.Mac.{pseudoHeader, blank as blankOf, zeroed as zeroedOf, coveredHeader, front as frontOf};
+ghost use Rattle.rules.specs.Mac.{pseudoHeader, blank as blankOf, blankIf, portsBlanked, zeroed as zeroedOf};
+ghost use Rattle.rules.specs.Mac.{coveredHeader, front as frontOf};
 ghost use Rattle.traffic.specs.Assembled.{Pushed, none};
 ghost use Rattle.traffic.specs.Padded.{padded};
 ghost use Rattle.traffic.specs.Flow.{flowOf};
 use crate::assembled::Assembled;
 use crate::flow::Flow;
 use keys::entry::Secret;
+use rules::Hidden;
 
 // RFC 9293 §3.1: zero, protocol 6, length
 pub(crate) fn protocol_and_length(len: usize) -> [u8; 4]
@@ -63,23 +65,43 @@ fn blank(h: [u8; 60], i: usize, n: usize) -> [u8; 60]
     out
 }
 
-// "the TCP header with checksum and MAC bytes zero": TCP-AO stands at `at`, its MAC has n bytes
-fn zeroed(header: &[u8], at: usize, n: usize) -> [u8; 60]
-    requires { ⌜ (length (now header) ≤ 60) × (at + 4 + n ≤ 60) ⌝ }
-    ensures { λ r. ⌜ r ≡ zeroedOf at n (padded 60 (now (header .entry))) ⌝ }
+// The port of a hidden side.
+fn blank_if(hidden: bool, h: [u8; 60], i: usize) -> [u8; 60]
+    requires { ⌜ i + 2 ≤ 60 ⌝ }
+    ensures { λ r. ⌜ r ≡ blankIf hidden i 2 h ⌝ }
+{
+    if hidden {
+        return blank(h, i, 2);
+    }
+    h
+}
+
+// A header in an array that has room for the longest, the ports of hidden sides zero.
+fn ports_blanked(hidden: Hidden, header: &[u8]) -> [u8; 60]
+    requires { ⌜ length (now header) ≤ 60 ⌝ }
+    ensures { λ r. ⌜ r ≡ portsBlanked hidden (padded 60 (now (header .entry))) ⌝ }
 {
     let mut h = [0u8; 60];
     octets::copy_at(&mut h, 0, header);
+    blank_if(hidden.destination, blank_if(hidden.source, h, 0), 2)
+}
+
+// "the TCP header with checksum and MAC bytes zero": TCP-AO stands at `at`, its MAC has n bytes
+fn zeroed(hidden: Hidden, header: &[u8], at: usize, n: usize) -> [u8; 60]
+    requires { ⌜ (length (now header) ≤ 60) × (at + 4 + n ≤ 60) ⌝ }
+    ensures { λ r. ⌜ r ≡ zeroedOf at n (portsBlanked hidden (padded 60 (now (header .entry)))) ⌝ }
+{
+    let h = ports_blanked(hidden, header);
     blank(blank(h, 16, 2), at + 4, n)
 }
 
 // "With flag 0 only the header's first 20 bytes, data offset as sent, and TCP-AO remain."
-fn push_header(a: Assembled, secret: Secret, at: usize, header: &[u8]) -> Assembled
+fn push_header(a: Assembled, secret: Secret, hidden: Hidden, at: usize, header: &[u8]) -> Assembled
     requires { ⌜ (a .len + 60 ≤ 104) × (20 ≤ at) × (at + 4 + secret .«mac_bytes» ≤ length (now header)) × (length (now header) ≤ 60) ⌝ }
-    ensures { λ r. ⌜ Pushed a (coveredHeader (allOptions secret) at (secret .«mac_bytes») (now (header .entry))) r ⌝ }
+    ensures { λ r. ⌜ Pushed a (coveredHeader (allOptions secret) at (secret .«mac_bytes») (portsBlanked hidden (now (header .entry)))) r ⌝ }
 {
     let n = secret.mac_bytes as usize;
-    let h = zeroed(header, at, n);
+    let h = zeroed(hidden, header, at, n);
     if secret.flags % 2 == 1 {
         let end = header.len();
         return a.push(&h[..end]);
@@ -88,9 +110,11 @@ fn push_header(a: Assembled, secret: Secret, at: usize, header: &[u8]) -> Assemb
     a.push(&h[..20]).push(&h[at..end])
 }
 
-// "In this order: the extension (4 bytes); the IP pseudo-header ..; the TCP header ..; the data", of a segment of len bytes
+// "In this order: the extension (4 bytes); the IP pseudo-header ..; the TCP header ..; the data", of a segment of len bytes, whose flow is
+// blanked already
 pub fn front(
     secret: Secret,
+    hidden: Hidden,
     flow: Flow,
     extension: u32,
     at: usize,
@@ -98,8 +122,8 @@ pub fn front(
     header: &[u8],
 ) -> Assembled
     requires { ⌜ (20 ≤ at) × (at + 4 + secret .«mac_bytes» ≤ length (now header)) × (length (now header) ≤ 60) ⌝ }
-    ensures { λ r. ⌜ Pushed none (frontOf secret (flowOf flow) extension at len (now (header .entry))) r ⌝ }
+    ensures { λ r. ⌜ Pushed none (frontOf secret hidden (flowOf flow) extension at len (now (header .entry))) r ⌝ }
 {
     let a = push_pseudo_header(Assembled::new().push32(extension), flow, len);
-    push_header(a, secret, at, header)
+    push_header(a, secret, hidden, at, header)
 }

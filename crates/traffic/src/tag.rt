@@ -5,16 +5,16 @@
 ghost use mathlib.Core.Path.{_≡_};
 ghost use Prim.Native.Nat.{_+_, _≤_};
 ghost use lib.ListN.{length};
-ghost use Rattle.rules.specs.Mac.{trafficKey, front as frontOf};
-ghost use Rattle.traffic.specs.MacContext.{macView, macStart, macAbsorb};
-ghost use Rattle.traffic.specs.Padded.{padded, digestRoom};
+ghost use Rattle.traffic.specs.MacContext.{macView, frontedBy};
 ghost use Rattle.traffic.specs.Flow.{flowOf};
 use crate::context::MacContext;
 use crate::flow::Flow;
 use keys::entry::Secret;
+use rules::Hidden;
 
 pub fn begin(
     secret: Secret,
+    hidden: Hidden,
     flow: Flow,
     extension: u32,
     at: usize,
@@ -22,11 +22,11 @@ pub fn begin(
     header: &[u8],
 ) -> MacContext
     requires { ⌜ (20 ≤ at) × (at + 4 + secret .«mac_bytes» ≤ length (now header)) × (length (now header) ≤ 60) ⌝ }
-    ensures { λ r. ⌜ macView r ≡ macAbsorb (macStart (secret .algorithm) (padded digestRoom (trafficKey secret (flowOf flow))))
-        (frontOf secret (flowOf flow) extension at len (now (header .entry))) ⌝ }
+    ensures { λ r. ⌜ macView r ≡ frontedBy secret hidden (flowOf flow) extension at len (now (header .entry)) ⌝ }
 {
-    let key = crate::derive::traffic_key(secret, flow);
-    let a = crate::front::front(secret, flow, extension, at, len, header);
+    let seen = crate::flow::blanked(hidden, flow);
+    let key = crate::derive::traffic_key(secret, seen);
+    let a = crate::front::front(secret, hidden, seen, extension, at, len, header);
     let bytes = a.bytes;
     let end = a.len;
     MacContext::new(secret.algorithm, key).update(&bytes[..end])

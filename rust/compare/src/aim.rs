@@ -233,7 +233,7 @@ fn arriving(random: &mut Prng, function: Function, at: &At, arrival: Arrival, ai
         options.extend((0..random.below(3)).map(|_| segments::md5(random)));
     }
     // Where the MAC leaves options out, now and then one by which 0000 and FFFF are both right.
-    let left_out = key.as_ref().is_some_and(|key| key.flags == 0);
+    let left_out = key.as_ref().is_some_and(|key| !key.covers_options());
     let balanced = left_out && length <= 32 && random.one_in(6);
     if balanced && options.len() < 2 {
         options.push(segments::WORD.to_vec());
@@ -360,7 +360,7 @@ pub fn sign(random: &mut Prng, at: &At, aim: &Aim) -> Call {
     }
     let free = 40 - added;
     // Where the MAC leaves options out, now and then one by which the checksum will be 0000.
-    let left_out = key.is_some_and(|key| key.flags == 0);
+    let left_out = key.is_some_and(|key| !key.covers_options());
     let balanced = left_out && options.is_empty() && random.one_in(8);
     if balanced {
         options.push(segments::WORD.to_vec());

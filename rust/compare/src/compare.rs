@@ -9,6 +9,7 @@ use crate::archive::by_archive;
 use crate::counts::Counts;
 use crate::prng::Prng;
 use crate::report;
+use crate::translation::Translation;
 use crate::world::{Caller, Stop, World};
 use kit::{Call, Outcome};
 
@@ -88,7 +89,7 @@ impl Run {
 }
 
 impl Caller for Run {
-    fn call(&mut self, call: &Call) -> Result<Outcome, Stop> {
+    fn call_over(&mut self, call: &Call, way: Option<Translation>) -> Result<Outcome, Stop> {
         if self.calls == self.limit {
             return Err(Stop);
         }
@@ -98,7 +99,7 @@ impl Caller for Run {
         let index = self.calls;
         self.calls += 1;
         let archive = by_archive(call);
-        self.counts.add(call, &archive);
+        self.counts.add(call, way, &archive);
         if self.calls == self.limit {
             self.last = Some((call.clone(), archive.clone()));
         }

@@ -1,6 +1,7 @@
 //! What a run has met: each number of each call, and situations that no number tells.
 
 use crate::numbers::{possible, ALL};
+use crate::translation::{Rewritten, Translation};
 use crate::unknown::{Matched, Unknown};
 use kit::segment::summed;
 use kit::Function::{Judge, JudgeSyn, OpenPassive};
@@ -36,6 +37,45 @@ struct Seen<'a> {
     accepted: Option<Accepted>,
     /// Of a bare SYN with TCP-AO whose KeyID has no entry for its pair.
     unknown: Option<Unknown>,
+    /// Of a segment that the other end signed and in which something was translated on the way.
+    rewritten: Option<Over>,
+}
+
+/// What was translated on the way of a segment, and the entry by which it was accepted or dropped with 29.
+struct Over {
+    way: Translation,
+    family: u8,
+    algorithm: Algorithm,
+    covers_options: bool,
+    local_nat: bool,
+    remote_nat: bool,
+}
+
+impl Over {
+    fn of(call: &Call, way: Option<Translation>, outcome: &Outcome) -> Option<Over> {
+        let way = way.filter(|way| *way != Translation::NOTHING)?;
+        if !matches!(outcome.number(), 0 | 29) {
+            return None;
+        }
+        let header = Header::read(&call.segment)?;
+        let ao = read_options(&call.segment, &header)?.ao?;
+        let entries = table::read(&call.table).ok()?;
+        let pair = Pair {
+            local: &call.destination,
+            remote: &call.source,
+            local_port: header.destination_port,
+            remote_port: header.source_port,
+        };
+        let entry = by_recv_id(&entries, &pair, ao.key_id)?;
+        Some(Over {
+            way,
+            family: if call.source.len() == 4 { 4 } else { 6 },
+            algorithm: entry.algorithm,
+            covers_options: entry.covers_options,
+            local_nat: entry.local_nat,
+            remote_nat: entry.remote_nat,
+        })
+    }
 }
 
 struct Accepted {
@@ -44,6 +84,7 @@ struct Accepted {
     mac_bytes: usize,
     algorithm: Algorithm,
     key_bytes: usize,
+    flags: u8,
     covers_options: bool,
     key_changed: bool,
     asks: Asked,
@@ -73,7 +114,7 @@ enum Asked {
 
 type Situation = (&'static str, fn(&Seen) -> bool);
 
-const SITUATIONS: [Situation; 107] = [
+const SITUATIONS: [Situation; 164] = [
     ("accepted at the reference: repeated", |seen| {
         seen.open(|a, reference| a.position == reference)
     }),
@@ -369,7 +410,171 @@ const SITUATIONS: [Situation; 107] = [
     ("signed, padded, options left out of the MAC", |seen| {
         seen.signed() && seen.with_key(|key| key.mac_bytes % 4 != 0 && !key.covers_options)
     }),
+    ("13 for flags above 7", |seen| seen.flags_refused()),
+    ("signed under flags 0", signed_flags::<0>),
+    ("signed under flags 1", signed_flags::<1>),
+    ("signed under flags 2", signed_flags::<2>),
+    ("signed under flags 3", signed_flags::<3>),
+    ("signed under flags 4", signed_flags::<4>),
+    ("signed under flags 5", signed_flags::<5>),
+    ("signed under flags 6", signed_flags::<6>),
+    ("signed under flags 7", signed_flags::<7>),
+    ("accepted under flags 0", accepted_flags::<0>),
+    ("accepted under flags 1", accepted_flags::<1>),
+    ("accepted under flags 2", accepted_flags::<2>),
+    ("accepted under flags 3", accepted_flags::<3>),
+    ("accepted under flags 4", accepted_flags::<4>),
+    ("accepted under flags 5", accepted_flags::<5>),
+    ("accepted under flags 6", accepted_flags::<6>),
+    ("accepted under flags 7", accepted_flags::<7>),
+    ("accepted, the peer's address translated", |seen| {
+        seen.way_over(0, Rewritten::ADDRESS, Rewritten::NOTHING)
+    }),
+    ("accepted, the peer's port translated", |seen| {
+        seen.way_over(0, Rewritten::PORT, Rewritten::NOTHING)
+    }),
+    ("accepted, the peer's address and port translated", |seen| {
+        seen.way_over(0, Rewritten::BOTH, Rewritten::NOTHING)
+    }),
+    ("accepted, our address translated", |seen| {
+        seen.way_over(0, Rewritten::NOTHING, Rewritten::ADDRESS)
+    }),
+    ("accepted, our port translated", |seen| {
+        seen.way_over(0, Rewritten::NOTHING, Rewritten::PORT)
+    }),
+    ("accepted, our address and port translated", |seen| {
+        seen.way_over(0, Rewritten::NOTHING, Rewritten::BOTH)
+    }),
+    ("accepted, something translated on both sides", |seen| {
+        seen.over(0, both_sides)
+    }),
+    ("29, the peer's address translated", |seen| {
+        seen.way_over(29, Rewritten::ADDRESS, Rewritten::NOTHING)
+    }),
+    ("29, the peer's port translated", |seen| {
+        seen.way_over(29, Rewritten::PORT, Rewritten::NOTHING)
+    }),
+    ("29, the peer's address and port translated", |seen| {
+        seen.way_over(29, Rewritten::BOTH, Rewritten::NOTHING)
+    }),
+    ("29, our address translated", |seen| {
+        seen.way_over(29, Rewritten::NOTHING, Rewritten::ADDRESS)
+    }),
+    ("29, our port translated", |seen| {
+        seen.way_over(29, Rewritten::NOTHING, Rewritten::PORT)
+    }),
+    ("29, our address and port translated", |seen| {
+        seen.way_over(29, Rewritten::NOTHING, Rewritten::BOTH)
+    }),
+    ("29, something translated on both sides", |seen| {
+        seen.over(29, both_sides)
+    }),
+    ("29, the peer's side translated, only ours hidden", |seen| {
+        let peers = |over: &Over| over.way.destination == Rewritten::NOTHING;
+        seen.over(29, |o| peers(o) && o.local_nat && !o.remote_nat)
+    }),
+    ("29, our side translated, only the peer's hidden", |seen| {
+        let ours = |over: &Over| over.way.source == Rewritten::NOTHING;
+        seen.over(29, |o| ours(o) && !o.local_nat && o.remote_nat)
+    }),
+    ("accepted, translated, options covered", |seen| {
+        seen.over(0, |over| over.covers_options)
+    }),
+    ("accepted, translated, options left out", |seen| {
+        seen.over(0, |over| !over.covers_options)
+    }),
+    ("accepted, translated, IPv4, algorithm 1", |seen| {
+        seen.entry_over(0, 4, Algorithm::HmacSha1)
+    }),
+    ("accepted, translated, IPv4, algorithm 2", |seen| {
+        seen.entry_over(0, 4, Algorithm::AesCmac)
+    }),
+    ("accepted, translated, IPv4, algorithm 3", |seen| {
+        seen.entry_over(0, 4, Algorithm::HmacSha256)
+    }),
+    ("accepted, translated, IPv6, algorithm 1", |seen| {
+        seen.entry_over(0, 6, Algorithm::HmacSha1)
+    }),
+    ("accepted, translated, IPv6, algorithm 2", |seen| {
+        seen.entry_over(0, 6, Algorithm::AesCmac)
+    }),
+    ("accepted, translated, IPv6, algorithm 3", |seen| {
+        seen.entry_over(0, 6, Algorithm::HmacSha256)
+    }),
+    ("29, translated, IPv4, algorithm 1", |seen| {
+        seen.entry_over(29, 4, Algorithm::HmacSha1)
+    }),
+    ("29, translated, IPv4, algorithm 2", |seen| {
+        seen.entry_over(29, 4, Algorithm::AesCmac)
+    }),
+    ("29, translated, IPv4, algorithm 3", |seen| {
+        seen.entry_over(29, 4, Algorithm::HmacSha256)
+    }),
+    ("29, translated, IPv6, algorithm 1", |seen| {
+        seen.entry_over(29, 6, Algorithm::HmacSha1)
+    }),
+    ("29, translated, IPv6, algorithm 2", |seen| {
+        seen.entry_over(29, 6, Algorithm::AesCmac)
+    }),
+    ("29, translated, IPv6, algorithm 3", |seen| {
+        seen.entry_over(29, 6, Algorithm::HmacSha256)
+    }),
+    ("judge_syn, accepted, translated", |seen| {
+        seen.call_over(0, JudgeSyn, false)
+    }),
+    ("open_passive, accepted, translated", |seen| {
+        seen.call_over(0, OpenPassive, false)
+    }),
+    ("judge while opening, accepted, translated", |seen| {
+        seen.call_over(0, Judge, false)
+    }),
+    ("judge once open, accepted, translated", |seen| {
+        seen.call_over(0, Judge, true)
+    }),
+    ("judge_syn, 29, translated", |seen| {
+        seen.call_over(29, JudgeSyn, false)
+    }),
+    ("open_passive, 29, translated", |seen| {
+        seen.call_over(29, OpenPassive, false)
+    }),
+    ("judge while opening, 29, translated", |seen| {
+        seen.call_over(29, Judge, false)
+    }),
+    ("judge once open, 29, translated", |seen| {
+        seen.call_over(29, Judge, true)
+    }),
+    ("23 where the entry hides the peer's side", |seen| {
+        let hides = |ao: AoOption| seen.state_entry(ao.key_id, |entry| entry.remote_nat);
+        seen.drops(23) && seen.ao().is_some_and(hides)
+    }),
+    ("33 where the entry hides a side", |seen| {
+        let refused = seen.call.function == Function::Sign && seen.outcome.number() == 33;
+        refused && seen.with_key(|key| key.local_nat || key.remote_nat)
+    }),
 ];
+
+/// Whether something was translated on both sides.
+fn both_sides(over: &Over) -> bool {
+    let Translation {
+        source,
+        destination,
+    } = over.way;
+    source != Rewritten::NOTHING && destination != Rewritten::NOTHING
+}
+
+fn flags_of(entry: &Entry) -> u8 {
+    u8::from(entry.covers_options)
+        | u8::from(entry.local_nat) << 1
+        | u8::from(entry.remote_nat) << 2
+}
+
+fn signed_flags<const FLAGS: u8>(seen: &Seen) -> bool {
+    seen.signed() && seen.with_key(|key| flags_of(key) == FLAGS)
+}
+
+fn accepted_flags<const FLAGS: u8>(seen: &Seen) -> bool {
+    seen.accepts(|a| a.flags == FLAGS)
+}
 
 fn accepted_kind<const KIND: u8>(seen: &Seen) -> bool {
     seen.accepts(|a| a.kind == KIND)
@@ -384,7 +589,7 @@ fn signed_mac<const BYTES: usize>(seen: &Seen) -> bool {
 }
 
 impl<'a> Seen<'a> {
-    fn new(call: &'a Call, outcome: &'a Outcome) -> Seen<'a> {
+    fn new(call: &'a Call, way: Option<Translation>, outcome: &'a Outcome) -> Seen<'a> {
         let before = State::from_bytes(&call.state).unwrap_or(State::EMPTY);
         let accepts = call.function == Function::Judge && outcome.number() == 0;
         Seen {
@@ -393,7 +598,41 @@ impl<'a> Seen<'a> {
             before,
             accepted: accepts.then(|| accepted(call, outcome, &before)).flatten(),
             unknown: Unknown::of(call, outcome),
+            rewritten: Over::of(call, way, outcome),
         }
+    }
+
+    /// Whether a segment in which something was translated got this number, and so.
+    fn over(&self, number: u8, which: impl Fn(&Over) -> bool) -> bool {
+        self.outcome.number() == number && self.rewritten.as_ref().is_some_and(which)
+    }
+
+    /// Whether just this was translated, and the segment got this number.
+    fn way_over(&self, number: u8, source: Rewritten, destination: Rewritten) -> bool {
+        let way = Translation {
+            source,
+            destination,
+        };
+        self.over(number, |over| over.way == way)
+    }
+
+    /// Whether a segment in which something was translated got this number, under such an entry.
+    fn entry_over(&self, number: u8, family: u8, algorithm: Algorithm) -> bool {
+        self.over(number, |over| {
+            over.family == family && over.algorithm == algorithm
+        })
+    }
+
+    /// Whether a segment in which something was translated got this number from this call.
+    fn call_over(&self, number: u8, function: Function, open: bool) -> bool {
+        let here = self.call.function == function && self.before.is_open() == open;
+        here && self.over(number, |_| true)
+    }
+
+    /// Whether the table was refused with 13 at an entry whose flags are above 7.
+    fn flags_refused(&self) -> bool {
+        let entry = || entry_bytes(&self.call.table, self.outcome.value() as usize);
+        self.outcome.number() == 13 && entry().is_some_and(|entry| entry[1] > 7)
     }
 
     /// Whether this call met an unknown KeyID with this setting, the pair matched so.
@@ -481,6 +720,14 @@ impl<'a> Seen<'a> {
             .is_some_and(which)
     }
 
+    /// Whether the entry that the state's pair has for this KeyID is one of these.
+    fn state_entry(&self, key_id: u8, which: impl Fn(&Entry) -> bool) -> bool {
+        let entries = table::read(&self.call.table).unwrap_or_default();
+        let found = |pair| by_recv_id(&entries, &pair, key_id);
+        let entry = self.before.pair().and_then(found);
+        entry.as_ref().is_some_and(which)
+    }
+
     /// Whether signing gave 32, of such a header, entry and length.
     fn too_large(&self, which: impl Fn(&Header, &Entry, usize) -> bool) -> bool {
         if self.call.function != Function::Sign || self.outcome.number() != 32 {
@@ -503,6 +750,21 @@ impl<'a> Seen<'a> {
         Header::read(&self.call.segment)
             .is_some_and(|header| header.sequence.wrapping_sub(reference) == 1 << 31)
     }
+}
+
+/// The bytes from an entry's first on, of a table whose entries before it are whole.
+fn entry_bytes(table: &[u8], index: usize) -> Option<&[u8]> {
+    let mut rest = table;
+    for _ in 0..index {
+        let bytes = match rest.first()? {
+            4 => 104,
+            5 => 105,
+            6 => 128,
+            _ => 129,
+        };
+        rest = rest.get(bytes..)?;
+    }
+    rest.get(..104)
 }
 
 /// How many entries a table has that is not refused.
@@ -529,6 +791,7 @@ fn accepted(call: &Call, outcome: &Outcome, before: &State) -> Option<Accepted> 
         mac_bytes: entry.mac_bytes,
         algorithm: entry.algorithm,
         key_bytes: entry.key.len(),
+        flags: flags_of(&entry),
         covers_options: entry.covers_options,
         key_changed: outcome.state[2] != before.outgoing_send_id,
         asks,
@@ -541,9 +804,9 @@ fn place(number: u8) -> usize {
 }
 
 impl Counts {
-    pub fn add(&mut self, call: &Call, outcome: &Outcome) {
+    pub fn add(&mut self, call: &Call, way: Option<Translation>, outcome: &Outcome) {
         self.numbers[call.function as usize][place(outcome.number())] += 1;
-        let seen = Seen::new(call, outcome);
+        let seen = Seen::new(call, way, outcome);
         for (count, (_, which)) in self.situations.iter_mut().zip(SITUATIONS) {
             *count += which(&seen) as u64;
         }

@@ -1,6 +1,7 @@
 //! The proved archive and the reference side by side.
 //!
-//! A seed gives a list of calls ([`world`], with [`aim`], [`states`], [`tables`] and [`segments`]).
+//! A seed gives a list of calls ([`world`], with [`aim`], [`states`], [`tables`], [`segments`] and
+//! [`translation`]).
 //! Each is made on the archive ([`archive`]) and on the reference ([`against`]), and after each the
 //! answer, the state, the output and what stands around them are compared ([`compare`]). Which
 //! numbers and which situations were met is counted ([`counts`], [`numbers`], [`unknown`]).
@@ -23,5 +24,6 @@ pub mod report;
 pub mod segments;
 pub mod states;
 pub mod tables;
+pub mod translation;
 pub mod unknown;
 pub mod world;

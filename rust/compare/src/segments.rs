@@ -4,7 +4,7 @@ use crate::prng::Prng;
 use crate::tables::entry;
 use kit::segment::{sum, ACK, SYN};
 use kit::{Entry, Segment};
-use reference::mac::{self, Ends};
+use reference::mac::{self, Direction, Ends};
 use reference::segment::{read_options, Header, WithAo};
 
 /// A segment in which what no rule looks at (acknowledgment, reserved bits, window ...) is any.
@@ -140,7 +140,7 @@ pub fn spoil_length(random: &mut Prng, segment: &mut Vec<u8>) {
     }
 }
 
-/// Writes the MAC that the key gives into the first TCP-AO, if there is one with room for it.
+/// Writes the MAC that the receiver's key gives into the first TCP-AO, if there is one with room for it.
 pub fn seal(segment: &mut [u8], key: &Entry, ends: &Ends, extension: u32) {
     let bytes = key.bytes();
     let Some(entry) = entry(&bytes) else { return };
@@ -158,7 +158,7 @@ pub fn seal(segment: &mut [u8], key: &Entry, ends: &Ends, extension: u32) {
         header,
         ao,
     };
-    let mac = mac::mac(&entry, ends, extension, &carrier);
+    let mac = mac::mac(&entry, Direction::Arriving, ends, extension, &carrier);
     segment[ao.at + 4..ao.at + 4 + mac.len()].copy_from_slice(&mac);
 }
 

@@ -1,8 +1,40 @@
 //! Key tables: entries around a socket pair, and the faults that 10 to 17 refuse.
 
 use crate::prng::Prng;
+use crate::translation::{Rewritten, Translation};
 use kit::entry::table;
 use kit::{Entry, Pair, Side};
+
+/// The pair as the other end holds it: in half of the cases the same; otherwise the address, the port or both
+/// of one side, or of both, are translated on the way.
+pub fn pair_there(random: &mut Prng, pair: &Pair) -> Pair {
+    let mut other = pair.mirror();
+    if random.one_in(2) {
+        return other;
+    }
+    let sides = random.pick(&[1, 2, 1, 2, 3]);
+    for (bit, address, port) in [
+        (1, &mut other.remote, &mut other.remote_port),
+        (2, &mut other.local, &mut other.local_port),
+    ] {
+        if sides & bit == 0 {
+            continue;
+        }
+        let parts = 1 + random.below(3);
+        if parts & 1 != 0 {
+            if random.one_in(3) {
+                random.flip(address);
+            } else {
+                *address = random.bytes(address.len());
+            }
+        }
+        if parts & 2 != 0 {
+            let any = random.half();
+            *port = random.pick(&[port.wrapping_add(1), any]);
+        }
+    }
+    other
+}
 
 /// Any pair.
 pub fn pair(random: &mut Prng) -> Pair {
@@ -111,7 +143,7 @@ fn for_pair(random: &mut Prng, pair: &Pair) -> Entry {
     let any = 1 + random.below(80);
     let length = random.pick(&[16, 16, 16, 1, 15, 17, 64, 65, 80, any, any]);
     Entry {
-        flags: random.below(2) as u8,
+        flags: flags(random),
         algorithm: 1 + random.below(3) as u8,
         send_id: id(random),
         recv_id: id(random),
@@ -120,6 +152,11 @@ fn for_pair(random: &mut Prng, pair: &Pair) -> Entry {
         mac_length: mac_length(random),
         key: random.bytes(length),
     }
+}
+
+/// In half of the entries no side is hidden.
+fn flags(random: &mut Prng) -> u8 {
+    random.pick(&[0, 0, 0, 1, 1, 1, 2, 3, 4, 5, 6, 7])
 }
 
 /// The MAC's length, unsaid in one entry of three: kinds 4 and 6.
@@ -167,6 +204,9 @@ fn relative(random: &mut Prng, this: &Entry) -> Entry {
     if random.one_in(2) {
         // Often of the other kind of its family.
         entry.mac_length = mac_length(random);
+    }
+    if random.one_in(2) {
+        entry.flags = flags(random);
     }
     random.flip(&mut entry.key);
     entry
@@ -224,16 +264,53 @@ pub fn around(random: &mut Prng, pair: &Pair) -> Vec<Entry> {
     keys
 }
 
-/// The other end's table: mirrors, now and then one missing, for another pair only, or with another MAC's
-/// length. A length of 12 is often said at one end and left unsaid at the other.
-pub fn other_end(random: &mut Prng, keys: &[Entry]) -> Vec<Entry> {
+/// Often hides at this end the sides that are translated on the way to the other one.
+pub fn hide(random: &mut Prng, keys: &mut [Entry], pair: &Pair, other: &Pair) {
+    let way = Translation::between(pair, other);
+    for key in keys {
+        if !random.one_in(3) {
+            let local = key.local_nat() || way.source != Rewritten::NOTHING;
+            let remote = key.remote_nat() || way.destination != Rewritten::NOTHING;
+            key.flags = key.clone().nat(local, remote).flags;
+        }
+    }
+}
+
+/// Whether a side is for this address and port.
+fn is_for(side: &Side, address: &[u8], port: u16) -> bool {
+    let in_range = side.low <= port && port <= side.high;
+    let bits = 8 * address.len() as u8;
+    in_range && side.address.len() == address.len() && {
+        side.prefix <= bits && masked(address, side.prefix) == side.address
+    }
+}
+
+/// The sides as the other end has them, which holds this pair: where one is for the pair's here and is seen
+/// otherwise there, it is for what is seen.
+fn sides_there(random: &mut Prng, key: &mut Entry, pair: &Pair, other: &Pair) {
+    let ours = is_for(&key.local, &other.remote, other.remote_port);
+    if !ours && is_for(&key.local, &pair.local, pair.local_port) {
+        key.local = side_around(random, &other.remote, other.remote_port);
+    }
+    let theirs = is_for(&key.remote, &other.local, other.local_port);
+    if !theirs && is_for(&key.remote, &pair.remote, pair.remote_port) {
+        key.remote = side_around(random, &other.local, other.local_port);
+    }
+}
+
+/// The other end's table: mirrors, now and then one missing, for another pair only, with another MAC's
+/// length, or with other flags. A length of 12 is often said at one end and left unsaid at the other.
+pub fn other_end(random: &mut Prng, keys: &[Entry], pair: &Pair, other: &Pair) -> Vec<Entry> {
     let mut theirs = vec![];
     for key in keys {
+        let mut key = key.clone();
+        sides_there(random, &mut key, pair, other);
         let mut key = key.mirror();
         match random.below(8) {
             0 => continue,
             1 => key.local = near(random, &key.local),
             2 if random.one_in(3) => key.mac_length = mac_length(random),
+            3 if random.one_in(3) => key.flags = flags(random),
             _ if random.one_in(2) => {
                 key.mac_length = match key.mac_length {
                     None => Some(12),
@@ -323,7 +400,7 @@ fn spoil_entry(random: &mut Prng, entry: &mut [u8]) {
     let prefixes = [13 + address, 14 + 2 * address];
     match random.below(10) {
         0 => entry[0] = random.pick(&[0, 1, 3, 4, 5, 6, 7, 8, 255]),
-        1 => entry[1] = random.pick(&[2, 3, 128, 255]),
+        1 => entry[1] = random.pick(&[8, 8, 9, 12, 15, 16, 128, 255]),
         9 if said == 1 => entry[key_length - 1] = random.pick(&[0, 1, 2, 3, 17, 18, 255]),
         2 => entry[2] = random.pick(&[0, 4, 5, 255]),
         3 => {

@@ -1,18 +1,25 @@
 //! Two ends of a connection and what goes on between them: the opening, segments signed at one end
-//! that arrive at the other in any order, twice or not at all, keys asked for, leaps over a
-//! rollover; and, all the while, calls that are aimed at numbers.
+//! that arrive at the other in any order, twice or not at all, often with addresses and ports translated
+//! on the way, keys asked for, leaps over a rollover; and, all the while, calls that are aimed at numbers.
 
 use crate::aim::{self, Aim, At};
 use crate::prng::Prng;
 use crate::segments;
 use crate::states::{any_state, number, reference};
 use crate::tables;
+use crate::translation::Translation;
 use kit::segment::{ACK, SYN};
-use kit::{entry, Call, Entry, Function, Outcome, Pair, State};
+use kit::{entry, translated, Call, Entry, Function, Outcome, Pair, State};
 
 /// Makes a call on both sides; an error ends the run.
 pub trait Caller {
-    fn call(&mut self, call: &Call) -> Result<Outcome, Stop>;
+    /// `way` is given where the segment is one that the other end signed: what was translated, and nothing
+    /// else has changed.
+    fn call_over(&mut self, call: &Call, way: Option<Translation>) -> Result<Outcome, Stop>;
+
+    fn call(&mut self, call: &Call) -> Result<Outcome, Stop> {
+        self.call_over(call, None)
+    }
 }
 
 /// The run is over.
@@ -86,12 +93,14 @@ impl World {
 
     fn new(random: &mut Prng) -> World {
         let pair = tables::pair(random);
-        let keys = tables::around(random, &pair);
-        let theirs = tables::other_end(random, &keys);
+        let other = tables::pair_there(random, &pair);
+        let mut keys = tables::around(random, &pair);
+        tables::hide(random, &mut keys, &pair, &other);
+        let theirs = tables::other_end(random, &keys, &pair, &other);
         World {
             ends: [
-                End::new(random, pair.clone(), keys),
-                End::new(random, pair.mirror(), theirs),
+                End::new(random, pair, keys),
+                End::new(random, other, theirs),
             ],
         }
     }
@@ -102,15 +111,28 @@ impl World {
         let call = aim::open_active(random, &a.at(&a.state), &a.pair, a.isn, &Aim::NONE);
         a.make(&call, caller)?;
         if let Some(syn) = a.sign(random, caller)? {
+            let syn = translated(&syn, &a.pair, &b.pair);
+            let way = Some(b.way_from(&a.pair));
             let mut call = b.arrives(Function::JudgeSyn, &syn);
             aim::set_listening(random, &mut call);
-            caller.call(&call)?;
+            caller.call_over(&call, way)?;
             let mut call = b.arrives(Function::OpenPassive, &syn);
             aim::set_listening(random, &mut call);
-            b.make(&call, caller)?;
+            b.make_over(&call, way, caller)?;
+        }
+        if !b.state().is_open() && random.one_in(2) {
+            // As if the SYN had been taken, so that A judges a SYN+ACK all the same.
+            let mut state = any_state(random, &b.pair);
+            state.put_pair(&b.pair);
+            state.stage = 1;
+            state.peer_isn = a.isn;
+            state.signing_reference = state.our_isn.into();
+            b.set(&state);
         }
         if let Some(syn_ack) = b.sign_syn_ack(random, caller)? {
-            a.make(&a.arrives(Function::Judge, &syn_ack), caller)?;
+            let syn_ack = translated(&syn_ack, &b.pair, &a.pair);
+            let way = Some(a.way_from(&b.pair));
+            a.make_over(&a.arrives(Function::Judge, &syn_ack), way, caller)?;
         }
         if !a.state().is_open() || !b.state().is_open() || random.one_in(3) {
             self.set_open(random);
@@ -145,11 +167,11 @@ impl World {
                     me.sent.push(segment);
                 }
             }
-            4..=8 => me.receive(random, caller, &mut peer.sent)?,
+            4..=8 => me.receive(random, caller, peer)?,
             9..=12 => me.judge(random, caller)?,
             13..=14 => me.try_sign(random, caller)?,
             15 => me.ask(random, caller)?,
-            16..=19 => me.listen(random, caller, &peer.sent)?,
+            16..=19 => me.listen(random, caller, peer)?,
             20..=21 => me.open_active(random, caller)?,
             22 => me.check_table(random, caller)?,
             _ => self.happen(random),
@@ -190,9 +212,23 @@ impl World {
 }
 
 impl End {
+    /// What is translated on the way from an end that holds this pair.
+    fn way_from(&self, sender: &Pair) -> Translation {
+        Translation::between(sender, &self.pair)
+    }
+
     /// Makes a call and keeps the state after it, if it was this end's.
     fn make(&mut self, call: &Call, caller: &mut dyn Caller) -> Result<(), Stop> {
-        let outcome = caller.call(call)?;
+        self.make_over(call, None, caller)
+    }
+
+    fn make_over(
+        &mut self,
+        call: &Call,
+        way: Option<Translation>,
+        caller: &mut dyn Caller,
+    ) -> Result<(), Stop> {
+        let outcome = caller.call_over(call, way)?;
         if call.state == self.state {
             self.state = outcome.state;
         }
@@ -238,8 +274,9 @@ impl End {
         &mut self,
         random: &mut Prng,
         caller: &mut dyn Caller,
-        sent: &mut Vec<Vec<u8>>,
+        peer: &mut End,
     ) -> Result<(), Stop> {
+        let sent = &mut peer.sent;
         if sent.is_empty() {
             return Ok(());
         }
@@ -247,7 +284,8 @@ impl End {
             sent.swap_remove(random.below(sent.len()));
         }
         let which = random.below(sent.len());
-        let mut segment = sent[which].clone();
+        let as_sent = translated(&sent[which], &peer.pair, &self.pair);
+        let mut segment = as_sent.clone();
         match random.below(8) {
             0 => random.flip(&mut segment),
             1 => {
@@ -265,7 +303,8 @@ impl End {
             let (source, destination) = (&self.pair.remote, &self.pair.local);
             segments::put_checksum(random, &mut segment, source, destination);
         }
-        self.make(&self.arrives(Function::Judge, &segment), caller)
+        let way = (segment == as_sent).then(|| self.way_from(&peer.pair));
+        self.make_over(&self.arrives(Function::Judge, &segment), way, caller)
     }
 
     /// This end's state, or any in its place.
@@ -304,11 +343,13 @@ impl End {
         &mut self,
         random: &mut Prng,
         caller: &mut dyn Caller,
-        sent: &[Vec<u8>],
+        peer: &End,
     ) -> Result<(), Stop> {
         let function = random.pick(&[Function::JudgeSyn, Function::OpenPassive]);
+        let sent = &peer.sent;
         let mut call = if !sent.is_empty() && random.one_in(8) {
-            self.arrives(function, &sent[random.below(sent.len())])
+            let segment = &sent[random.below(sent.len())];
+            self.arrives(function, &translated(segment, &peer.pair, &self.pair))
         } else {
             let aim = Aim::at(random, function);
             aim::syn(random, function, &self.at(&self.state), &self.pair, &aim)

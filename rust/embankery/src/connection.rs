@@ -255,7 +255,8 @@ impl Connection {
         }
     }
 
-    /// Judges an arriving segment, of which `source` is the peer's address.
+    /// Judges an arriving segment, of which `source` is the peer's address. Addresses and ports are taken as
+    /// the segment arrives with them, also of a side that the entry says is translated on the way.
     ///
     /// While the connection is opening, an accepted SYN+ACK opens it: that sets the peer's ISN and both
     /// references, to the ISNs, and clears the counts. Once open, acceptance sets the arriving

@@ -130,8 +130,8 @@ const RECV_ID: usize = 4;
 
 impl Entry {
     /// An entry for IPv4. Until the builder is told otherwise it matches every address and port,
-    /// has SendID and RecvID 0, HMAC-SHA-1-96, a MAC of 12 bytes, all options covered, and no key,
-    /// which [`build`] refuses.
+    /// has SendID and RecvID 0, HMAC-SHA-1-96, a MAC of 12 bytes, all options covered, no side translated
+    /// on the way, and no key, which [`build`] refuses.
     ///
     /// [`build`]: EntryBuilder::build
     pub fn ipv4() -> EntryBuilder {
@@ -178,6 +178,8 @@ pub struct EntryBuilder {
     recv_id: u8,
     algorithm: Algorithm,
     covered: Covered,
+    local_nat: bool,
+    remote_nat: bool,
     mac_length: Option<u8>,
     key: Vec<u8>,
 }
@@ -197,6 +199,8 @@ impl EntryBuilder {
             recv_id: 0,
             algorithm: Algorithm::HmacSha1_96,
             covered: Covered::AllOptions,
+            local_nat: false,
+            remote_nat: false,
             mac_length: None,
             key: Vec::new(),
         }
@@ -252,6 +256,64 @@ impl EntryBuilder {
         self
     }
 
+    /// Whether our own address and port are translated on the way (RFC 6978's localNAT). They then count as
+    /// zero for the MAC and for the traffic key, so that whoever translates them may change either or both;
+    /// the checksum is his to set right. The peer's entry says the same of its [`remote_nat`].
+    ///
+    /// All else goes by what is seen at each end: an entry matches, a segment arrives and a connection holds
+    /// the addresses and ports as they are there.
+    ///
+    /// A station at 192.168.1.7, port 40000, that others see as 203.0.113.9, port 61001:
+    ///
+    /// ```
+    /// use embankery::{Connection, Entry, KeyTable, UnknownKeyId};
+    /// # fn summed(source: [u8; 4], destination: [u8; 4], segment: &mut [u8]) {
+    /// #     segment[16..18].fill(0);
+    /// #     let length = segment.len() as u8;
+    /// #     let bytes = [&source[..], &destination, &[0, 6, 0, length], segment].concat();
+    /// #     let words = bytes.chunks(2).map(|pair| u32::from(pair[0]) << 8 | u32::from(pair[1]));
+    /// #     let sum: u32 = words.sum();
+    /// #     segment[16..18].copy_from_slice(&(!(sum % 0xffff) as u16).to_be_bytes());
+    /// # }
+    ///
+    /// let (inside, outside, head) = ([192, 168, 1, 7], [203, 0, 113, 9], [198, 51, 100, 1]);
+    /// let entry = || Entry::ipv4().key(b"key");
+    /// let at_station = entry().local(inside, 32).remote(head, 32).local_nat(true).build()?;
+    /// let at_head = entry().local(head, 32).remote(outside, 32).remote_nat(true).build()?;
+    /// let (station_keys, head_keys) = (KeyTable::new([&at_station])?, KeyTable::new([&at_head])?);
+    ///
+    /// let (from, to) = ((inside, 40_000), (head, 179));
+    /// let mut station = Connection::open_active(&station_keys, from, to, 1_000, 0)?;
+    /// let mut syn = [0; 20];
+    /// syn[0..4].copy_from_slice(&[0x9c, 0x40, 0, 179]); // ports 40000 and 179
+    /// syn[4..8].copy_from_slice(&1_000_u32.to_be_bytes());
+    /// syn[12] = 0x50; // data offset: five words
+    /// syn[13] = 0x02; // SYN
+    /// let mut sent = station.sign(&station_keys, &syn)?;
+    /// assert_eq!(sent[0..4], syn[0..4]);
+    ///
+    /// // On the way the address and the port become others, and `summed` puts in the checksum.
+    /// sent[0..2].copy_from_slice(&61_001_u16.to_be_bytes());
+    /// summed(outside, head, &mut sent);
+    /// let drop = UnknownKeyId::Drop;
+    /// let opened = Connection::open_passive(&head_keys, outside, head, &sent, 2_000, drop)?;
+    /// assert_eq!(opened.expect("accepted").remote(), (outside, 61_001).into());
+    /// # Ok::<(), embankery::Refusal>(())
+    /// ```
+    ///
+    /// [`remote_nat`]: EntryBuilder::remote_nat
+    pub fn local_nat(mut self, translated: bool) -> EntryBuilder {
+        self.local_nat = translated;
+        self
+    }
+
+    /// Whether the peer's address and port are translated on the way (RFC 6978's remoteNAT), as
+    /// [`local_nat`](EntryBuilder::local_nat) has it for our own.
+    pub fn remote_nat(mut self, translated: bool) -> EntryBuilder {
+        self.remote_nat = translated;
+        self
+    }
+
     /// How many bytes the MAC has, 4 to 16, the same at both ends; 12 where it is not said. Said or not,
     /// 12 is the same MAC: the entry is of another kind, 5 (IPv4) or 7 (IPv6) where it is said and 4 or
     /// 6 where it is not.
@@ -302,16 +364,17 @@ impl EntryBuilder {
     }
 
     /// The bytes, in document 01's order, with the MAC's length, if it is said, before the key's (document
-    /// 02, Ticket 4). A key that does not fit is cut to 80 bytes, with a length above 80 beside it that the
-    /// archive refuses.
+    /// 02, Ticket 4; the flags of translated sides are Ticket 10's). A key that does not fit is cut to 80
+    /// bytes, with a length above 80 beside it that the archive refuses.
     fn bytes(&self) -> Vec<u8> {
         const KEY_BYTES: usize = 80;
         let family = if self.any.is_ipv4() { 4 } else { 6 };
         let kind = family + u8::from(self.mac_length.is_some());
-        let flags = match self.covered {
+        let covered = match self.covered {
             Covered::OnlyTcpAo => 0,
             Covered::AllOptions => 1,
         };
+        let flags = covered | u8::from(self.local_nat) << 1 | u8::from(self.remote_nat) << 2;
         let algorithm = match self.algorithm {
             Algorithm::HmacSha1_96 => 1,
             Algorithm::Aes128Cmac96 => 2,

@@ -3,7 +3,7 @@
 
 mod common;
 
-use common::{kinds, segment, Ends, Kind, ALGORITHMS, FIRST_KIND, IDS, ISNS, PORTS};
+use common::{kinds, octets, segment, Ends, Kind, ALGORITHMS, FIRST_KIND, IDS, ISNS, PORTS};
 use embankery::{
     judge_syn, Algorithm, Connection, Covered, Entry, EntryBuilder, KeyTable, Refusal,
     UnknownKeyId, Verdict,
@@ -71,6 +71,36 @@ fn bytes_of_entries_with_a_mac_length() {
     }
 }
 
+/// The flags: 1 for all options, 2 and 4 for our side and the peer's translated on the way.
+#[test]
+fn bytes_of_the_flags() {
+    for flags in 0..8u8 {
+        let covered = if flags & 1 == 0 {
+            Covered::OnlyTcpAo
+        } else {
+            Covered::AllOptions
+        };
+        for entry in [Entry::ipv4(), Entry::ipv6().mac_length(4)] {
+            let entry = entry.covered(covered).key(b"key");
+            let entry = entry.local_nat(flags & 2 != 0).remote_nat(flags & 4 != 0);
+            let entry = entry.build().unwrap();
+            assert_eq!(entry.as_bytes()[1], flags);
+        }
+    }
+    let entry = |bytes: &[u8]| KeyTable::from_bytes(bytes).map(|table| table.len());
+    let mut bytes = Entry::ipv4()
+        .key(b"key")
+        .build()
+        .unwrap()
+        .as_bytes()
+        .to_vec();
+    for flags in 0..=255 {
+        bytes[1] = flags;
+        let refused = Err(Refusal::NotListed { entry: 0 });
+        assert_eq!(entry(&bytes), if flags < 8 { Ok(1) } else { refused });
+    }
+}
+
 /// Each algorithm has its number.
 #[test]
 fn bytes_of_the_algorithms() {
@@ -123,7 +153,7 @@ fn numbers_of_the_table() {
         (10, &[(0, 5)]),
         (11, &[(0, 3)]),
         (11, &[(0, 8)]),
-        (13, &[(1, 2)]),
+        (13, &[(1, 8)]),
         (13, &[(2, 0)]),
         (13, &[(2, 4)]),
         (14, &[(5, 255), (7, 254)]),
@@ -448,6 +478,71 @@ fn rollover() {
         let furthest = u64::from(extension) << 32 | u64::from(number);
         assert_eq!(ends.ends[0].sent_reference(), furthest);
         assert_eq!(ends.ends[1].seen_reference(), furthest);
+    }
+}
+
+/// A station behind address translation, or both: what is rewritten on a side that both ends say is
+/// translated is accepted, on another side it is dropped with 29.
+#[test]
+fn translation() {
+    let outside: IpAddr = [203, 0, 113, 9].into();
+    let port = 61_001;
+    for kind in kinds().into_iter().filter(|kind| !kind.ipv6) {
+        for (said, at_head) in [(true, true), (true, false), (false, true), (false, false)] {
+            let [inside, head] = Ends::open(kind).addresses;
+            let entry = |end: usize| {
+                let entry = Entry::ipv4().send_id(IDS[end]).recv_id(IDS[1 - end]);
+                let entry = entry.algorithm(kind.algorithm).covered(kind.covered);
+                entry.key(b"a key of both ends")
+            };
+            let ours = entry(0).local(inside, 32).remote(head, 32).local_nat(said);
+            let theirs = entry(1)
+                .local(head, 32)
+                .remote(outside, 32)
+                .remote_nat(at_head);
+            let ours = KeyTable::new([&ours.build().unwrap()]).unwrap();
+            let theirs = KeyTable::new([&theirs.build().unwrap()]).unwrap();
+            let (from, to) = ((inside, PORTS[0]), (head, PORTS[1]));
+            let mut station = Connection::open_active(&ours, from, to, ISNS[0], IDS[0]).unwrap();
+            let syn = segment(PORTS, ISNS[0], SYN, &[], &[]);
+            let sent = station.sign(&ours, &syn).unwrap();
+            assert_eq!(sent[..12], syn[..12]);
+            let rewritten = |sent: &[u8]| {
+                let mut seen = sent.to_vec();
+                seen[0..2].copy_from_slice(&u16::to_be_bytes(port));
+                kit::segment::summed(&octets(outside), &octets(head), &seen)
+            };
+            let choice = UnknownKeyId::Drop;
+            let seen = rewritten(&sent);
+            let verdict = judge_syn(&theirs, outside, head, &seen, choice);
+            let opened = Connection::open_passive(&theirs, outside, head, &seen, ISNS[1], choice);
+            if !said || !at_head {
+                assert_eq!(verdict, Verdict::Drop(Refusal::MacDiffers));
+                assert_eq!(opened, Err(Refusal::MacDiffers));
+                continue;
+            }
+            assert_eq!(verdict, Verdict::Accept { extension: 0 });
+            let mut end = opened.unwrap().unwrap();
+            assert_eq!(end.remote(), SocketAddr::new(outside, port));
+
+            // The answer goes to what the head station sees, and is translated back.
+            let back = segment([PORTS[1], port], ISNS[1], SYN | ACK, &[], &[]);
+            let mut back = end.sign(&theirs, &back).unwrap();
+            back[2..4].copy_from_slice(&PORTS[0].to_be_bytes());
+            let back = kit::segment::summed(&octets(head), &octets(inside), &back);
+            let verdict = station.judge(&ours, head, inside, &back);
+            assert_eq!(verdict, Verdict::Accept { extension: 0 });
+
+            // Rewritten to what the other end does not hold: another connection's.
+            let data = segment(PORTS, ISNS[0] + 1, ACK, &[], b"data");
+            let sent = station.sign(&ours, &data).unwrap();
+            let seen = rewritten(&sent);
+            let verdict = end.judge(&theirs, outside, head, &seen);
+            assert_eq!(verdict, Verdict::Accept { extension: 0 });
+            let unchanged = kit::segment::summed(&octets(outside), &octets(head), &sent);
+            let verdict = end.judge(&theirs, outside, head, &unchanged);
+            assert_eq!(verdict, Verdict::Drop(Refusal::OtherPair));
+        }
     }
 }
 

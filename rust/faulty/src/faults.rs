@@ -240,7 +240,7 @@ pub const FAULTS: &[Planted] = &[
         file: "calls.rs",
         function: "fn mac_agrees(",
         edits: &[Instead(
-            "mac::mac(entry, ends, extension, carrier)",
+            "mac::mac(entry, Direction::Arriving, ends, extension, carrier)",
             "let from_us = Ends {
                 source: ends.destination,
                 destination: ends.source,
@@ -249,8 +249,11 @@ pub const FAULTS: &[Planted] = &[
                 source_isn: ends.destination_isn,
                 destination_isn: ends.source_isn,
             };
-            let key = mac::traffic_key(entry.algorithm, entry.key, &from_us);
-            let covered = mac::message(entry.covers_options, ends, extension, carrier);
+            let hidden = mac::Hidden::of(entry, Direction::Arriving);
+            let ours = mac::Hidden::of(entry, Direction::Leaving).counted(&from_us);
+            let key = mac::traffic_key(entry.algorithm, entry.key, &ours);
+            let covered =
+                mac::message(entry.covers_options, hidden, &hidden.counted(ends), extension, carrier);
             mac::leftmost(entry, &key, &covered)",
         )],
     },
@@ -661,8 +664,10 @@ pub const FAULTS: &[Planted] = &[
         edits: &[Before(
             "Ok(Entry {",
             "let mac_bytes = MAC_BYTES;
+            let (local_nat, remote_nat) = (body[0] >> 1 & 1 == 1, body[0] >> 2 & 1 == 1);
             return Ok(Entry {
-                kind, covers_options, algorithm, send_id: body[2], recv_id: body[3], local, remote, mac_bytes, key,
+                kind, covers_options: body[0] & 1 == 1, local_nat, remote_nat, algorithm,
+                send_id: body[2], recv_id: body[3], local, remote, mac_bytes, key,
             });",
         )],
     },
@@ -972,6 +977,343 @@ pub const FAULTS: &[Planted] = &[
         file: "crypto.rs",
         function: "fn sha256_block(",
         edits: &[Instead("e.rotate_right(25)", "e.rotate_right(24)")],
+    },
+    // Sides that are translated on the way: Ticket 10.
+    Planted {
+        name: "NewFlagsRefused",
+        does: "13 for flags above 1, as before Ticket 10.",
+        breaks: "\"Refusal 13 admits both bits\"",
+        file: "table.rs",
+        function: "fn read_body(",
+        edits: &[Instead("flags > 7", "flags > 1")],
+    },
+    Planted {
+        name: "FlagsAboveSevenAdmitted",
+        does: "Of the flags only the lowest three bits are looked at.",
+        breaks: "13: \"flags or algorithm not listed\"",
+        file: "table.rs",
+        function: "fn read_body(",
+        edits: &[Instead("flags > 7", "false")],
+    },
+    Planted {
+        name: "FlagEightAdmitted",
+        does: "13 admits 8 beside the lower bits.",
+        breaks: "\"Refusal 13 admits both bits\"",
+        file: "table.rs",
+        function: "fn read_body(",
+        edits: &[Instead("flags > 7", "flags > 15")],
+    },
+    Planted {
+        name: "SidesExchanged",
+        does: "2 stands for the remote side and 4 for the local one.",
+        breaks: "\"flags 2 for the local and 4 for the remote side\"",
+        file: "table.rs",
+        function: "fn read_body(",
+        edits: &[
+            Instead("flags & 2 != 0", "flags & 4 != 0"),
+            Instead("flags & 4 != 0", "flags & 2 != 0"),
+        ],
+    },
+    Planted {
+        name: "OnlyOneSideHidden",
+        does: "Where both bits are set only the local side counts as zero.",
+        breaks: "\"under which that side's address and port count as zero\"",
+        file: "table.rs",
+        function: "fn read_body(",
+        edits: &[Instead("flags & 4 != 0", "flags & 6 == 4")],
+    },
+    Planted {
+        name: "BitsByDirection",
+        does: "2 hides the source and 4 the destination, also of what arrives.",
+        breaks: "\"flags 2 for the local and 4 for the remote side\": by side, not by direction",
+        file: "mac.rs",
+        function: "fn of(entry",
+        edits: &[Before(
+            "match direction {",
+            "return Hidden { source: entry.local_nat, destination: entry.remote_nat };",
+        )],
+    },
+    Planted {
+        name: "BitsAsIfArriving",
+        does: "2 hides the destination and 4 the source, also of what we sign.",
+        breaks: "\"flags 2 for the local and 4 for the remote side\": by side, not by direction",
+        file: "mac.rs",
+        function: "fn of(entry",
+        edits: &[Before(
+            "match direction {",
+            "return Hidden { source: entry.remote_nat, destination: entry.local_nat };",
+        )],
+    },
+    Planted {
+        name: "HiddenOnlyWithFlagOne",
+        does: "A side counts as zero only where all options are covered.",
+        breaks: "\"count as zero in the traffic key context and in the MAC's pseudo-header and header\"",
+        file: "mac.rs",
+        function: "fn of(entry",
+        edits: &[Before(
+            "match direction {",
+            "if !entry.covers_options { return Hidden { source: false, destination: false }; }",
+        )],
+    },
+    Planted {
+        name: "NothingHidden",
+        does: "The new bits are admitted and change nothing.",
+        breaks: "\"under which that side's address and port count as zero\"",
+        file: "mac.rs",
+        function: "fn of(entry",
+        edits: &[Before(
+            "match direction {",
+            "return Hidden { source: false, destination: false };",
+        )],
+    },
+    Planted {
+        name: "IsnsHidden",
+        does: "A hidden side's ISN counts as zero, too.",
+        breaks: "\"that side's address and port count as zero\"",
+        file: "mac.rs",
+        function: "fn counted<",
+        edits: &[
+            Behind("counted.source_port = 0;", "counted.source_isn = 0;"),
+            Behind("counted.destination_port = 0;", "counted.destination_isn = 0;"),
+        ],
+    },
+    Planted {
+        name: "AddressLeftInContext",
+        does: "A hidden side's address is in the traffic key's context.",
+        breaks: "\"that side's address and port count as zero in the traffic key context\"",
+        file: "mac.rs",
+        function: "fn mac(",
+        edits: &[Instead(
+            "traffic_key(entry.algorithm, entry.key, &counted)",
+            "let left = Ends { source: ends.source, destination: ends.destination, ..counted };
+            traffic_key(entry.algorithm, entry.key, &left)",
+        )],
+    },
+    Planted {
+        name: "PortLeftInContext",
+        does: "A hidden side's port is in the traffic key's context.",
+        breaks: "\"that side's address and port count as zero in the traffic key context\"",
+        file: "mac.rs",
+        function: "fn mac(",
+        edits: &[Instead(
+            "traffic_key(entry.algorithm, entry.key, &counted)",
+            "let (source_port, destination_port) = (ends.source_port, ends.destination_port);
+            traffic_key(entry.algorithm, entry.key, &Ends { source_port, destination_port, ..counted })",
+        )],
+    },
+    Planted {
+        name: "AddressLeftInPseudoHeader",
+        does: "A hidden side's address is in the pseudo-header under the MAC.",
+        breaks: "\"count as zero ... in the MAC's pseudo-header and header\"",
+        file: "mac.rs",
+        function: "fn mac(",
+        edits: &[Instead(
+            "message(entry.covers_options, hidden, &counted, extension, carrier)",
+            "message(entry.covers_options, hidden, ends, extension, carrier)",
+        )],
+    },
+    Planted {
+        name: "PortLeftUnderMac",
+        does: "A hidden side's port is in the header under the MAC.",
+        breaks: "\"count as zero ... in the MAC's pseudo-header and header\"",
+        file: "mac.rs",
+        function: "fn message(",
+        edits: &[Instead("hidden.source", "false"), Instead("hidden.destination", "false")],
+    },
+    Planted {
+        name: "PortLeftUnderMacWithFlagZero",
+        does: "With flag 0 a hidden side's port is in the header under the MAC.",
+        breaks: "\"count as zero ... in the MAC's pseudo-header and header\"",
+        file: "mac.rs",
+        function: "fn message(",
+        edits: &[
+            Instead("hidden.source", "hidden.source && covers_options"),
+            Instead("hidden.destination", "hidden.destination && covers_options"),
+        ],
+    },
+    Planted {
+        name: "BareSynNotHidden",
+        does: "In a bare SYN no side counts as zero.",
+        breaks: "\"under which that side's address and port count as zero\"",
+        file: "mac.rs",
+        function: "fn mac(",
+        edits: &[Instead(
+            "Hidden::of(entry, direction)",
+            "if carrier.header.is_bare_syn() {
+                Hidden { source: false, destination: false }
+            } else {
+                Hidden::of(entry, direction)
+            }",
+        )],
+    },
+    Planted {
+        name: "SynAckNotHidden",
+        does: "In a SYN+ACK no side counts as zero.",
+        breaks: "\"under which that side's address and port count as zero\"",
+        file: "mac.rs",
+        function: "fn mac(",
+        edits: &[Instead(
+            "Hidden::of(entry, direction)",
+            "if carrier.header.is_syn_ack() {
+                Hidden { source: false, destination: false }
+            } else {
+                Hidden::of(entry, direction)
+            }",
+        )],
+    },
+    Planted {
+        name: "HiddenPortsSent",
+        does: "What is sent has zero in the place of a hidden side's port.",
+        breaks: "\"count as zero in the traffic key context and in the MAC's pseudo-header and header\": nowhere else",
+        file: "calls.rs",
+        function: "fn sign(",
+        edits: &[Before(
+            "// The checksum, over all that is sent",
+            "if entry.local_nat { signed[0..2].fill(0); }
+            if entry.remote_nat { signed[2..4].fill(0); }",
+        )],
+    },
+    Planted {
+        name: "ChecksumOverHidden",
+        does: "Signing sums over zero in the place of a hidden side's address and port.",
+        breaks: "\"The signer now writes the right TCP checksum over the pseudo-header\"; \"its checksum set right\"",
+        file: "calls.rs",
+        function: "fn sign(",
+        edits: &[Instead(
+            "checksum::checksum(pair.local, pair.remote, &signed)",
+            "let counted = mac::Hidden::of(&entry, Direction::Leaving).counted(&ends);
+            let mut blank = signed.clone();
+            blank[0..2].copy_from_slice(&counted.source_port.to_be_bytes());
+            blank[2..4].copy_from_slice(&counted.destination_port.to_be_bytes());
+            checksum::checksum(counted.source, counted.destination, &blank)",
+        )],
+    },
+    Planted {
+        name: "SumOverHidden",
+        does: "On a connection, the sum is over a zero address where an entry for the pair hides the peer's side.",
+        breaks: "\"Arriving segments whose one's complement sum, pseudo-header and checksum included\"",
+        file: "calls.rs",
+        function: "fn take_arrival(",
+        edits: &[Instead(
+            "readable(source, destination, segment)",
+            "let hides = |entry: &Entry| entry.remote_nat && entry.matches(&pair);
+            let zero = &[0; 16][..source.len()];
+            readable(if entries.iter().any(hides) { zero } else { source }, destination, segment)",
+        )],
+    },
+    Planted {
+        name: "MatchedByHiddenAddress",
+        does: "A hidden side is matched as address and port zero.",
+        breaks: "\"matching still uses the addresses as seen\"",
+        file: "table.rs",
+        function: "fn matches(&self, pair",
+        edits: &[
+            Instead(
+                "self.local.matches(pair.local, pair.local_port)",
+                "if self.local_nat {
+                    self.local.matches(&[0; 16][..family], 0)
+                } else {
+                    self.local.matches(pair.local, pair.local_port)
+                }",
+            ),
+            Instead(
+                "self.remote.matches(pair.remote, pair.remote_port)",
+                "if self.remote_nat {
+                    self.remote.matches(&[0; 16][..family], 0)
+                } else {
+                    self.remote.matches(pair.remote, pair.remote_port)
+                }",
+            ),
+        ],
+    },
+    Planted {
+        name: "HiddenSideMatchesAll",
+        does: "A hidden side matches every address and port.",
+        breaks: "\"matching still uses the addresses as seen\"",
+        file: "table.rs",
+        function: "fn matches(&self, pair",
+        edits: &[
+            Instead(
+                "self.local.matches(pair.local, pair.local_port)",
+                "self.local_nat || self.local.matches(pair.local, pair.local_port)",
+            ),
+            Instead(
+                "self.remote.matches(pair.remote, pair.remote_port)",
+                "self.remote_nat || self.remote.matches(pair.remote, pair.remote_port)",
+            ),
+        ],
+    },
+    Planted {
+        name: "HiddenSidesClash",
+        does: "17 takes sides that both entries hide as shared, whatever their addresses and ports.",
+        breaks: "\"a socket pair exists that two entries both match\"; \"matching still uses the addresses as seen\"",
+        file: "table.rs",
+        function: "fn clashes(",
+        edits: &[
+            Instead(
+                "self.local.overlaps(&other.local)",
+                "(self.local_nat && other.local_nat || self.local.overlaps(&other.local))",
+            ),
+            Instead(
+                "self.remote.overlaps(&other.remote)",
+                "(self.remote_nat && other.remote_nat || self.remote.overlaps(&other.remote))",
+            ),
+        ],
+    },
+    Planted {
+        name: "HiddenSidesDoNotClash",
+        does: "17 not for entries that hide different sides.",
+        breaks: "\"a socket pair exists that two entries both match while they share SendID or share RecvID\"",
+        file: "table.rs",
+        function: "fn clashes(",
+        edits: &[Before(
+            "let shared",
+            "if (self.local_nat, self.remote_nat) != (other.local_nat, other.remote_nat) { return false; }",
+        )],
+    },
+    Planted {
+        name: "HiddenPeerNotCompared",
+        does: "23 does not look at the peer's side where the entry for the KeyID hides it.",
+        breaks: "23: \"pair is not the state's\"; \"so that the segment comes under the pair that the receiver holds\"",
+        file: "calls.rs",
+        function: "fn take_arrival(",
+        edits: &[Instead(
+            "arriving_pair(source, destination, &header) != pair",
+            "let seen = arriving_pair(source, destination, &header);
+            let entry = options.ao.and_then(|ao| by_recv_id(&entries, &pair, ao.key_id));
+            let peer = seen.remote == pair.remote && seen.remote_port == pair.remote_port;
+            let ours = seen.local == pair.local && seen.local_port == pair.local_port;
+            !ours || !(peer || entry.is_some_and(|entry| entry.remote_nat))",
+        )],
+    },
+    Planted {
+        name: "HiddenPortsNotTested",
+        does: "33 does not look at a port that the outgoing key's entry hides.",
+        breaks: "33: \"ports not the state's\"",
+        file: "calls.rs",
+        function: "fn sign(",
+        edits: &[Instead(
+            "header.source_port != pair.local_port || header.destination_port != pair.remote_port",
+            "let entry = by_send_id(&entries, &pair, state.outgoing_send_id);
+            let ours = entry.is_some_and(|entry| entry.local_nat);
+            let theirs = entry.is_some_and(|entry| entry.remote_nat);
+            !ours && header.source_port != pair.local_port
+                || !theirs && header.destination_port != pair.remote_port",
+        )],
+    },
+    Planted {
+        name: "StateHoldsHidden",
+        does: "A passive opening writes a zero address and port for a peer that the entry hides.",
+        breaks: "\"A second call takes the same SYN ... opens with the entry found\": the connection has the SYN's pair",
+        file: "calls.rs",
+        function: "fn open_passive(",
+        edits: &[Before(
+            "key_rule(&syn.entries",
+            "if syn.entry.remote_nat {
+                state.remote = [0; 16];
+                state.remote_port = 0;
+            }",
+        )],
     },
     // Opening.
     Planted {

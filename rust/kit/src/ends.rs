@@ -1,7 +1,7 @@
 //! Socket pairs, and one end of a connection.
 
 use crate::calls::{number, value, Boundary};
-use crate::segment::{summed, Segment};
+use crate::segment::{sum, summed, Segment};
 use crate::state::State;
 
 /// A socket pair as one end holds it. Addresses have 4 or 16 bytes.
@@ -23,6 +23,28 @@ impl Pair {
             remote_port: self.local_port,
         }
     }
+}
+
+/// The segment that one end sends, as it comes to the other: where the two hold another address or port of a
+/// side, that was translated on the way. Ports that are not the sender's stay, and so does a wrong checksum.
+pub fn translated(segment: &[u8], sender: &Pair, receiver: &Pair) -> Vec<u8> {
+    let mut translated = segment.to_vec();
+    if segment.len() < 4 || *receiver == sender.mirror() {
+        return translated;
+    }
+    let ports = [
+        (sender.local_port, receiver.remote_port),
+        (sender.remote_port, receiver.local_port),
+    ];
+    for (port, (sent, seen)) in translated.chunks_exact_mut(2).zip(ports) {
+        if port == sent.to_be_bytes() {
+            port.copy_from_slice(&seen.to_be_bytes());
+        }
+    }
+    if sum(&sender.local, &sender.remote, segment) == 0xffff {
+        translated = summed(&receiver.remote, &receiver.local, &translated);
+    }
+    translated
 }
 
 /// One end of a connection, and which side makes its calls.

@@ -1,4 +1,4 @@
-//! Entries of a key table: document 01, "Key table (house bytes)", and document 02, Ticket 4.
+//! Entries of a key table: document 01, "Key table (house bytes)", and document 02, Tickets 4 and 10.
 
 /// One side of whom an entry is for: a range of ports, its ends included, and a prefix of addresses.
 #[derive(Clone, Debug, PartialEq, Eq)]
@@ -95,14 +95,35 @@ impl Entry {
         }
     }
 
-    /// What the other end holds.
+    /// With our side, the peer's, both or none translated on the way (RFC 6978): flags 2 and 4.
+    pub fn nat(self, local: bool, remote: bool) -> Entry {
+        let flags = self.flags & !6 | u8::from(local) << 1 | u8::from(remote) << 2;
+        Entry { flags, ..self }
+    }
+
+    /// Whether the MAC covers all options.
+    pub fn covers_options(&self) -> bool {
+        self.flags & 1 != 0
+    }
+
+    /// Whether our side is translated on the way.
+    pub fn local_nat(&self) -> bool {
+        self.flags & 2 != 0
+    }
+
+    /// Whether the peer's side is.
+    pub fn remote_nat(&self) -> bool {
+        self.flags & 4 != 0
+    }
+
+    /// What the other end holds, if it sees the same addresses and ports.
     pub fn mirror(&self) -> Entry {
         Entry {
             send_id: self.recv_id,
             recv_id: self.send_id,
             local: self.remote.clone(),
             remote: self.local.clone(),
-            ..self.clone()
+            ..self.clone().nat(self.remote_nat(), self.local_nat())
         }
     }
 

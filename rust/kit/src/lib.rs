@@ -16,7 +16,7 @@ pub mod state;
 
 pub use bytes::Bytes;
 pub use calls::{number, value, word, Boundary, Call, Function, Outcome};
-pub use ends::{End, Pair};
+pub use ends::{translated, End, Pair};
 pub use entry::{Entry, Side};
 pub use segment::Segment;
 pub use state::State;

@@ -6,7 +6,7 @@
 
 use crate::answer::{Refusal, Verdict};
 use crate::checksum::{self, CHECKSUM};
-use crate::mac::{self, Ends};
+use crate::mac::{self, Direction, Ends};
 use crate::position::{extension, moved, position};
 use crate::segment::{
     read_options, AoOption, Header, Options, WithAo, KIND_NO_OPERATION, KIND_TCP_AO, OPTIONS_AT,
@@ -453,11 +453,12 @@ pub fn sign(table: &[u8], segment: &[u8], room: usize, state: &State) -> Result<
         },
         ao,
     };
-    let mac = mac::mac(&entry, &ends, extension(x), &carrier);
+    let mac = mac::mac(&entry, Direction::Leaving, &ends, extension(x), &carrier);
     let mac_at = ao.at + AoOption::FRONT;
     signed[mac_at..mac_at + mac.len()].copy_from_slice(&mac);
 
-    // The checksum, over all that is sent: the MAC is in already.
+    // The checksum, over all that is sent: the MAC is in already, and a hidden side's address and port
+    // count as they are.
     let right = checksum::checksum(pair.local, pair.remote, &signed);
     signed[CHECKSUM].copy_from_slice(&right.to_be_bytes());
 
@@ -558,7 +559,7 @@ fn mac_length(entry: &Entry, ao: &AoOption) -> Result<(), Refusal> {
 
 /// 29: "MAC differs".
 fn mac_agrees(entry: &Entry, ends: &Ends, extension: u32, carrier: &WithAo) -> Result<(), Refusal> {
-    let mac = mac::mac(entry, ends, extension, carrier);
+    let mac = mac::mac(entry, Direction::Arriving, ends, extension, carrier);
     if carrier.mac() == mac {
         Ok(())
     } else {

@@ -2,7 +2,7 @@
 
 use crate::checksum::CHECKSUM;
 use crate::crypto;
-use crate::segment::{AoOption, WithAo};
+use crate::segment::{AoOption, WithAo, DESTINATION_PORT, SOURCE_PORT};
 use crate::table::{Algorithm, Entry};
 
 /// The two ends of a segment. "'source' is whoever sent the segment."
@@ -20,6 +20,62 @@ pub struct Ends<'a> {
     pub source_isn: u32,
     /// The receiver's ISN. "For a bare SYN (SYN set, ACK clear) the destination ISN is zero."
     pub destination_isn: u32,
+}
+
+/// Whether we sign a segment or it arrives.
+#[derive(Clone, Copy, Debug, PartialEq, Eq)]
+pub enum Direction {
+    /// We sign it: our side is the source.
+    Leaving,
+    /// It arrives: our side is the destination.
+    Arriving,
+}
+
+/// Which sides of a segment count as zero for its MAC.
+#[derive(Clone, Copy, Debug, PartialEq, Eq)]
+pub struct Hidden {
+    /// The source's address and port do.
+    pub source: bool,
+    /// The destination's address and port do.
+    pub destination: bool,
+}
+
+impl Hidden {
+    /// Ticket 10: "flags 2 for the local and 4 for the remote side, under which that side's address and port
+    /// count as zero". By side, as in RFC 6978: our side is the source of what we sign and the destination
+    /// of what arrives.
+    pub fn of(entry: &Entry, direction: Direction) -> Hidden {
+        match direction {
+            Direction::Leaving => Hidden {
+                source: entry.local_nat,
+                destination: entry.remote_nat,
+            },
+            Direction::Arriving => Hidden {
+                source: entry.remote_nat,
+                destination: entry.local_nat,
+            },
+        }
+    }
+
+    /// The ends as they count: on a hidden side the address is zero, as long as its family has it, and so is
+    /// the port. The ISNs stay.
+    pub fn counted<'a>(self, ends: &Ends<'a>) -> Ends<'a> {
+        let mut counted = *ends;
+        if self.source {
+            counted.source = zero_address(ends.source.len());
+            counted.source_port = 0;
+        }
+        if self.destination {
+            counted.destination = zero_address(ends.destination.len());
+            counted.destination_port = 0;
+        }
+        counted
+    }
+}
+
+/// The address of 4 or 16 bytes that is all zero.
+fn zero_address(bytes: usize) -> &'static [u8] {
+    &[0; 16][..bytes]
 }
 
 /// "The context is source address, destination address, source port, destination port, source ISN,
@@ -70,7 +126,14 @@ pub fn traffic_key(algorithm: Algorithm, master_key: &[u8], ends: &Ends) -> Vec<
 /// as for the checksum, with the whole segment's length; the TCP header with checksum and MAC bytes
 /// zero; the data. With flag 0 only the header's first 20 bytes, data offset as sent, and TCP-AO
 /// remain." What pads a TCP-AO is no part of it: it stands in the header, and with flag 0 it is left out.
-pub fn message(covers_options: bool, ends: &Ends, extension: u32, carrier: &WithAo) -> Vec<u8> {
+/// A hidden side's port is zero in the header, with flag 0 too; the ends are as they count.
+pub fn message(
+    covers_options: bool,
+    hidden: Hidden,
+    ends: &Ends,
+    extension: u32,
+    carrier: &WithAo,
+) -> Vec<u8> {
     let WithAo {
         segment,
         header,
@@ -83,6 +146,12 @@ pub fn message(covers_options: bool, ends: &Ends, extension: u32, carrier: &With
     let mut zeroed = header_part.to_vec();
     zeroed[CHECKSUM].fill(0);
     zeroed[ao.at + AoOption::FRONT..ao.at + ao.length].fill(0);
+    if hidden.source {
+        zeroed[SOURCE_PORT].fill(0);
+    }
+    if hidden.destination {
+        zeroed[DESTINATION_PORT].fill(0);
+    }
 
     let covered = if covers_options {
         zeroed
@@ -136,9 +205,18 @@ pub fn leftmost(entry: &Entry, traffic_key: &[u8], message: &[u8]) -> Vec<u8> {
     all[..entry.mac_bytes].to_vec()
 }
 
-/// The MAC that a segment must have under an entry.
-pub fn mac(entry: &Entry, ends: &Ends, extension: u32, carrier: &WithAo) -> Vec<u8> {
-    let key = traffic_key(entry.algorithm, entry.key, ends);
-    let covered = message(entry.covers_options, ends, extension, carrier);
+/// The MAC that a segment must have under an entry. Hidden sides are zero "in the traffic key context and in
+/// the MAC's pseudo-header and header".
+pub fn mac(
+    entry: &Entry,
+    direction: Direction,
+    ends: &Ends,
+    extension: u32,
+    carrier: &WithAo,
+) -> Vec<u8> {
+    let hidden = Hidden::of(entry, direction);
+    let counted = hidden.counted(ends);
+    let key = traffic_key(entry.algorithm, entry.key, &counted);
+    let covered = message(entry.covers_options, hidden, &counted, extension, carrier);
     leftmost(entry, &key, &covered)
 }

@@ -7,6 +7,11 @@ pub const KIND_MD5: u8 = 19;
 /// The kind of TCP-AO.
 pub const KIND_TCP_AO: u8 = 29;
 
+/// Where the ports stand in a segment.
+pub const SOURCE_PORT: std::ops::Range<usize> = 0..2;
+/// The destination's.
+pub const DESTINATION_PORT: std::ops::Range<usize> = 2..4;
+
 /// "The option area is read as the part from byte 20 to the header's end."
 pub const OPTIONS_AT: usize = 20;
 

@@ -85,6 +85,11 @@ pub struct Entry<'a> {
     pub kind: u8,
     /// "flags (1: all options covered by the MAC; 0: only TCP-AO)".
     pub covers_options: bool,
+    /// RFC 6978's localNAT: our own side is translated on the way. Ticket 10: "flags 2 for the local and 4
+    /// for the remote side".
+    pub local_nat: bool,
+    /// RFC 6978's remoteNAT: the peer's side is.
+    pub remote_nat: bool,
     /// The algorithm.
     pub algorithm: Algorithm,
     /// The KeyID of segments that we sign with this entry.
@@ -216,12 +221,12 @@ fn read_body(kind: u8, address_bytes: usize, body: &[u8]) -> Result<Entry<'_>, u
         prefix: remote_part[address_bytes] as usize,
     };
 
-    // 13: "flags or algorithm not listed". Ticket 13: "Refusal 13 admits 3."
-    let covers_options = match body[0] {
-        0 => false,
-        1 => true,
-        _ => return Err(13),
-    };
+    // 13: "flags or algorithm not listed". Ticket 10: "Refusal 13 admits both bits", 2 and 4, beside 1.
+    // Ticket 13: "Refusal 13 admits 3."
+    let flags = body[0];
+    if flags > 7 {
+        return Err(13);
+    }
     let algorithm = match body[1] {
         1 => Algorithm::HmacSha1,
         2 => Algorithm::AesCmac,
@@ -261,7 +266,9 @@ fn read_body(kind: u8, address_bytes: usize, body: &[u8]) -> Result<Entry<'_>, u
 
     Ok(Entry {
         kind,
-        covers_options,
+        covers_options: flags & 1 != 0,
+        local_nat: flags & 2 != 0,
+        remote_nat: flags & 4 != 0,
         algorithm,
         send_id: body[2],
         recv_id: body[3],

@@ -97,6 +97,26 @@ fn fields_stand_in_their_places() {
     }
 }
 
+/// Flags 0 to 7, bit by bit; all others are 13.
+#[test]
+fn the_flags() {
+    for flags in 0..=255 {
+        let key = Entry {
+            flags,
+            ..Entry::between(&A4, &B4)
+        };
+        let expected = (flags > 7).then_some((13, 0));
+        assert_eq!(number_of(std::slice::from_ref(&key)), expected);
+        if flags <= 7 {
+            let bytes = key.bytes();
+            let entry = table::read(&bytes).unwrap()[0];
+            assert_eq!(entry.covers_options, [1, 3, 5, 7].contains(&flags));
+            assert_eq!(entry.local_nat, [2, 3, 6, 7].contains(&flags));
+            assert_eq!(entry.remote_nat, [4, 5, 6, 7].contains(&flags));
+        }
+    }
+}
+
 #[test]
 fn sixty_four_entries_are_taken() {
     let key = Entry::between(&A6, &B6);

@@ -6,7 +6,7 @@ use common::*;
 use kit::Pair;
 use reference::boundary as c;
 use reference::crypto;
-use reference::mac::{self, Ends};
+use reference::mac::{self, Direction, Ends};
 use reference::segment::{read_options, Header, WithAo};
 use reference::table;
 
@@ -263,7 +263,7 @@ fn rfc_9235_keys_and_macs() {
         let sum = reference::checksum::sum(&packet.source, &packet.destination, &packet.segment);
         assert_eq!(sum, 0xffff, "{}", packet.section);
         assert_eq!(
-            mac::mac(&entry, &ends, 0, &packet.carrier()),
+            mac::mac(&entry, Direction::Leaving, &ends, 0, &packet.carrier()),
             packet.mac(),
             "{}",
             packet.section

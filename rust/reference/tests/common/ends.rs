@@ -3,8 +3,8 @@
 use super::calls::REFERENCE;
 use kit::entry::{mirrored, table};
 use kit::segment::{ACK, SYN};
-use kit::{End, Entry, Pair};
-use reference::mac::{self, Ends};
+use kit::{End, Entry, Pair, Side};
+use reference::mac::{self, Direction, Ends};
 use reference::segment::{read_options, Header, WithAo};
 
 pub const A4: [u8; 4] = [10, 0, 0, 1];
@@ -62,6 +62,77 @@ pub fn opened(a: &[u8], b: &[u8]) -> (End, End) {
     (a, b)
 }
 
+/// What is translated on the way, of one side.
+#[derive(Clone, Copy, Debug, PartialEq, Eq)]
+pub struct Rewritten {
+    pub address: bool,
+    pub port: bool,
+}
+
+impl Rewritten {
+    pub const NOTHING: Rewritten = Rewritten {
+        address: false,
+        port: false,
+    };
+    pub const BOTH: Rewritten = Rewritten {
+        address: true,
+        port: true,
+    };
+    /// What there is to rewrite.
+    pub const SOMETHING: [Rewritten; 3] = [
+        Rewritten {
+            address: true,
+            port: false,
+        },
+        Rewritten {
+            address: false,
+            port: true,
+        },
+        Rewritten::BOTH,
+    ];
+
+    /// The address and port that the other end sees.
+    fn seen(self, address: &[u8], port: u16) -> (Vec<u8>, u16) {
+        let mut address = address.to_vec();
+        if self.address {
+            address[1] ^= 0x80;
+            *address.last_mut().unwrap() ^= 0x11;
+        }
+        (address, if self.port { port ^ 0x2222 } else { port })
+    }
+}
+
+/// A and B, not opened, with one entry each for the pair as each of them holds it; of A's side and of B's so
+/// much is rewritten on the way.
+pub fn translated_ends(entry: &Entry, of_a: Rewritten, of_b: Rewritten) -> (End, End) {
+    let (a, b) = (&entry.local.address, &entry.remote.address);
+    let (seen_a, seen_a_port) = of_a.seen(a, A_PORT);
+    let (seen_b, seen_b_port) = of_b.seen(b, B_PORT);
+    let from_a = Pair {
+        local: a.clone(),
+        remote: seen_b.clone(),
+        local_port: A_PORT,
+        remote_port: seen_b_port,
+    };
+    let from_b = Pair {
+        local: b.clone(),
+        remote: seen_a.clone(),
+        local_port: B_PORT,
+        remote_port: seen_a_port,
+    };
+    let held = |pair: &Pair, entry: Entry| Entry {
+        local: Side::host(&pair.local).ports(pair.local_port, pair.local_port),
+        remote: Side::host(&pair.remote).ports(pair.remote_port, pair.remote_port),
+        ..entry
+    };
+    let ours = held(&from_a, entry.clone()).bytes();
+    let theirs = held(&from_b, entry.mirror()).bytes();
+    (
+        End::new(REFERENCE, from_a, ours),
+        End::new(REFERENCE, from_b, theirs),
+    )
+}
+
 /// An end's pair, for the reference.
 pub fn lent(pair: &Pair) -> reference::table::Pair<'_> {
     reference::table::Pair {
@@ -72,7 +143,8 @@ pub fn lent(pair: &Pair) -> reference::table::Pair<'_> {
     }
 }
 
-/// Writes into a segment's first TCP-AO the MAC that the entry gives for these ends.
+/// Writes into a segment's first TCP-AO the MAC that the entry gives for these ends. The entry is the
+/// receiver's, or one that hides no side.
 pub fn seal(key: &Entry, ends: &Ends, extension: u32, mut segment: Vec<u8>) -> Vec<u8> {
     let bytes = key.bytes();
     let entry = reference::table::read(&bytes).unwrap()[0];
@@ -84,7 +156,7 @@ pub fn seal(key: &Entry, ends: &Ends, extension: u32, mut segment: Vec<u8>) -> V
             header,
             ao,
         };
-        mac::mac(&entry, ends, extension, &carrier)
+        mac::mac(&entry, Direction::Arriving, ends, extension, &carrier)
     };
     segment[ao.at + 4..ao.at + 4 + mac.len()].copy_from_slice(&mac);
     segment

@@ -25,30 +25,39 @@ part-carried-mac-end c = let l = lies (c .before .before .before .before .before
 
 slice-aggregate-begin : tie.Need-slice-aggregate-begin
 slice-aggregate-begin c =
-    let b = c .before .before .before .before .before .before .before .before .before .before in
+    let k = c .before .before .before .before .before .before .before in
+    let b = k .before .before .before .before in
     let l = lies (b .args .segment .now) (b .pre .1) (b .pre .0) in
-    let e = c .before .before .before .before .before .before .header-end in
+    let e = k .header-end in
     sym (length-take-le (e .result) (b .args .segment .now) (omega (arith, e .ensures, l .segment)))
 
 begin-requires : tie.Need-begin-requires
 begin-requires c κs =
-    let k = c .before .before .before .before .before .before .before .before .before in
+    let h = c .before .before .before .before .before .before .before in
+    let k = h .before .before .before in
     let b = k .before in
     let l = lies (b .args .segment .now) (b .pre .1) (b .pre .0) in
-    let e = c .before .before .before .before .before .before .header-end in
+    let e = h .header-end in
     let z = length-take-le (e .result) (b .args .segment .now) (omega (arith, e .ensures, l .segment)) in
     (omega arith, omega (arith, e .ensures, l .header, b .pre .2), omega (arith, e .ensures, k .shared-slice-known .given 12))
 
 returns : tie.Need-returns
 returns c =
-    let a = c .before .before .before .before .before .before .before .before .before .before .before .args in
-    let p = c .before .before .before .before .before .before .before .before .before .before .before .pre in
+    let hidden = c .before .before .arriving-hidden in
+    let ext = c .before .before .before .extension-of in
+    let carried = c .before .before .before .before .carried-mac in
+    let h = c .before .before .before .before .before .before .before .before in
+    let s = h .before .before .before .before in
+    let a = s .args in
+    let p = s .pre in
     let from = 20 + a .option .at + 4 in
     let n : from + a .entry .secret .«mac_bytes» - from ≡ a .entry .secret .«mac_bytes» = omega arith in
-    ready-is (a .x) (a .rnext) (a .entry) (flowOf (a .flow)) (a .segment .now) (p .0) (p .1) (p .2) (p .3) (c .begin .result) (c .before .before .before .carried-mac .result)
-    (c .before .before .before .before .before .before .before .header-end .ensures) (c .before .before .extension-of .ensures) n (c .begin .ensures) (c .before .before .before .carried-mac .ensures)
+    ready-is (a .x) (a .rnext) (a .entry) (flowOf (a .flow)) (a .segment .now) (p .0) (p .1) (p .2) (p .3) (hidden .result) (c .begin .result)
+    (carried .result) (h .header-end .ensures) (ext .ensures) (hidden .ensures) n (c .begin .ensures) (carried .ensures)
 
 pub ready-spec : {M : Type 1} → statement M
 ready-spec =
     tie.close
-    (tie.spec (λ c κs. search needs) (λ c. search needs) add-at add-from add-carried-mac (λ c. search needs) (λ c. search needs) part-carried-mac-end (λ c κs. search needs) (λ c κs. search needs) slice-aggregate-begin begin-requires returns)
+    (tie.spec
+    (λ c κs. search needs) (λ c. search needs) add-at add-from add-carried-mac (λ c. search needs) (λ c. search needs) part-carried-mac-end
+    (λ c κs. search needs) (λ c κs. search needs) (λ c κs. search needs) slice-aggregate-begin begin-requires returns)

@@ -5,6 +5,7 @@ use mathlib.Core.Path.{_≡_, sym}
 use native.Mathlib.Omega.{arith}
 use lib.ListN.{length}
 use lib.Seq.{length-take-le}
+use Rattle.traffic.specs.Flow.{flowOf}
 use Rattle.tcpao.proofs.SignedLaws.{cut, has-room, starts-is}
 use Rattle.tcpao.proofs.sign_begun.ready.Statement.{statement}
 use Rattle.tcpao.proofs.sign_begun.ready.Tie as tie
@@ -22,7 +23,7 @@ blank-header-requires c κs =
 -- the header's part of the array
 slice-aggregate-begin : tie.Need-slice-aggregate-begin
 slice-aggregate-begin c =
-    let p = c .before .before .before .before in
+    let p = c .before .before .before .before .before in
     let b = p .before .before .before in
     let h = p .blank-header .result in
     let k : length h ≡ 60 = search needs in
@@ -30,7 +31,7 @@ slice-aggregate-begin c =
 
 begin-requires : tie.Need-begin-requires
 begin-requires c κs =
-    let p = c .before .before .before .before in
+    let p = c .before .before .before .before .before in
     let b = p .before .before .before in
     let h = p .blank-header .result in
     let k : length h ≡ 60 = search needs in
@@ -39,12 +40,15 @@ begin-requires c κs =
 
 returns : tie.Need-returns
 returns c =
-    let f = c .before .before .before .before in
+    let m = c .before in
+    let v = m .before .before in
+    let f = v .before .before in
     let p = f .before .before in
     let b = p .before .before .before in
-    starts-is (b .args .x) (b .args .secret) (b .args .state) (b .args .segment .now) (b .pre .0) (c .before .begin .result)
-    (p .blank-header .result) (c .leaving-sum .result) (b .pre .1) (b .pre .2) (f .leaving-flow .ensures)
-    (c .before .before .before .extension-of .ensures) (p .blank-header .ensures) (c .before .begin .ensures) (c .leaving-sum .ensures)
+    starts-is (b .args .x) (b .args .secret) (b .args .state) (b .args .segment .now) (b .pre .0) (flowOf (f .leaving-flow .result))
+    (v .leaving-hidden .result) (m .begin .result) (p .blank-header .result) (c .leaving-sum .result) (b .pre .1) (b .pre .2)
+    (f .leaving-flow .ensures) (v .before .extension-of .ensures) (v .leaving-hidden .ensures) (p .blank-header .ensures) (m .begin .ensures)
+    (c .leaving-sum .ensures)
 
 pub ready-spec : {M : Type 1} → statement M
 ready-spec =
@@ -54,6 +58,7 @@ ready-spec =
     blank-header-requires
     (λ c. search needs)
     (λ c. search needs)
+    (λ c κs. search needs)
     (λ c κs. search needs)
     (λ c κs. search needs)
     (λ c. search needs)

@@ -7,7 +7,7 @@ use lib.ListN.{length, take, drop}
 use lib.Seq.{length-take-le}
 use borrow.Author.Needs.{needs}
 use Rattle.traffic.proofs.Assembly.{pushed-is, pushed-more}
-use Rattle.traffic.proofs.Covered.{all-covered, ao-covered}
+use Rattle.traffic.proofs.Covered.{all-seen, ao-seen}
 use Rattle.traffic.proofs.Zeros.{at-most}
 use Rattle.traffic.proofs.front.push_header.Statement.{statement}
 use Rattle.traffic.proofs.front.push_header.Tie as tie
@@ -43,7 +43,7 @@ returns c =
     let z = c .before .before .before .before in
     let s = z .before .before .before in
     let a = s .args in
-    pushed-is (all-covered (a .at) (a .secret .«mac_bytes») (a .header .now) (omega arith) (omega arith) (a .secret .flags) (z .zeroed .ensures) (c .before .before .if1 .taken))
+    pushed-is (all-seen (a .hidden) (a .at) (a .secret .«mac_bytes») (a .header .now) (omega arith) (omega arith) (a .secret .flags) (z .zeroed .ensures) (c .before .before .if1 .taken))
     (c .push .ensures)
 
 returns-2 : tie.Need-returns-2
@@ -58,7 +58,7 @@ returns-2 c =
     let l : length (a .a .bytes) ≡ 104 = room s in
     pushed-is
     (ap (λ (i : ℕ). take 20 h ++ take i (drop (a .at) h)) e
-    ∙ ao-covered (a .at) (a .secret .«mac_bytes») (a .header .now) (omega (arith, s .pre)) (omega (arith, s .pre)) (a .secret .flags) (z .zeroed .ensures) (p .before .before .if1 .left))
+    ∙ ao-seen (a .hidden) (a .at) (a .secret .«mac_bytes») (a .header .now) (omega (arith, s .pre)) (omega (arith, s .pre)) (a .secret .flags) (z .zeroed .ensures) (p .before .before .if1 .left))
     (pushed-more (take 20 h) (take n (drop (a .at) h)) (omega (arith, s .pre .0, p .push2 .ensures .len, at-most 20 h)) (p .push2 .ensures) (c .push3 .ensures))
 
 pub push-header-spec : {M : Type 1} → statement M

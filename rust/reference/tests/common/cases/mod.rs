@@ -10,8 +10,9 @@ pub mod open;
 pub mod sha256;
 pub mod sign;
 pub mod table;
+pub mod translation;
 
-use super::calls::Case;
+use super::calls::{Case, REFERENCE};
 use super::ends::*;
 use kit::segment::{summed, ACK, SYN};
 use kit::{Call, End, Entry, Function, Segment, State};
@@ -46,6 +47,10 @@ pub fn cases() -> Vec<Case> {
     checksum::other_addresses(&scene, &mut list);
     checksum::lengths(&mut list);
     checksum::zero(&mut list);
+    translation::taken(&scene, &mut list);
+    translation::hidden(&mut list);
+    translation::not_hidden(&mut list);
+    translation::as_seen(&mut list);
     ask::ids(&scene, &mut list);
     list.0
 }

@@ -39,7 +39,7 @@ pub fn bad_tables() -> Vec<(String, Vec<u8>, Answer)> {
         after_one(bytes)
     };
     let mut worst = good.clone();
-    worst.flags = 2;
+    worst.flags = 8;
     (worst.local.low, worst.local.high) = (2, 1);
     worst.local.prefix = 33;
     add("flags, ports, prefix, key", with_bad_key(&worst), 13, 1);
@@ -109,6 +109,7 @@ pub fn bad_tables() -> Vec<(String, Vec<u8>, Answer)> {
     };
     add("a clash of nested prefixes", after_one(wide.bytes()), 17, 1);
     list.extend(mac_lengths::bad_tables());
+    list.extend(translation::bad_tables());
     list
 }
 
