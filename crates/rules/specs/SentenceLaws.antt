@@ -11,10 +11,11 @@ use Rattle.octets.specs.Tests.{any}
 use Rattle.wire.specs.Header.{sourcePort, destinationPort, sequence, dataOffset, headerEnd, syn}
 use Rattle.checksum.specs.Checksum.{onesSum, checksumOf, checksummed}
 use Rattle.mac.specs.Cmac.{cmac}
-use Rattle.keys.specs.Algorithm.{outputBits}
+use Rattle.keys.specs.Algorithm.{macBytes, outputBits}
 use Rattle.keys.specs.declared.entry.Pair.{Pair}
-use Rattle.keys.specs.Entry.{isFamily, width, keyOf}
+use Rattle.keys.specs.Entry.{knownKind, familyOf, extra, body, isFamily, width, macLength, secretOf, keyOf}
 use Rattle.keys.specs.Table as K
+use Rattle.keys.specs.Table.{numberOf}
 use Rattle.rules.specs.declared.Place.{Place}
 use Rattle.rules.specs.declared.Outcome.{Outcome}
 use Rattle.rules.specs.declared.Outcome.the-variants.{Good, Passed, Bad}
@@ -32,6 +33,7 @@ use Rattle.rules.specs.MacLaws.{length-context, length-key-1, length-key
 use Rattle.rules.specs.RoundTripLaws.{whole-words}
 use Rattle.rules.specs.GrowthLaws.{above-15}
 use Rattle.rules.specs.Sentences.{NumberRow, row, firstOf, badSize, judgeRows, synRows, signRows, entriesRow, JudgeTable, SynTable, SignTable}
+use Rattle.rules.specs.Sentences.{EntryBytes, Listed}
 use Rattle.rules.specs.Sentences.{OpenTable, AskTable, EntryOrder, AnswerNumbers, CountsStop, Context, Contexts, TrafficKeys}
 use Rattle.rules.specs.Sentences.{PseudoHeaders, MessageOrder, Lengths, SegmentMacs, SignedExample, CheckedExamples, PaddedExample, Covered, optionWords}
 use Rattle.rules.specs.Sentences.{SignedAs, HiddenContexts, HiddenCovered}
@@ -125,6 +127,22 @@ ask-table t id l =
 
 pub entry-order : EntryOrder
 entry-order limit i before x = refl
+
+pub entry-bytes : EntryBytes
+unfolding knownKind familyOf extra body width macLength macBytes secretOf
+entry-bytes =
+    record {
+      known = refl;
+      bodies = refl;
+      families = refl;
+      mac-lengths = λ e. refl;
+      key-lengths = λ e. refl;
+      twelve = refl;
+    }
+
+pub listed-is : Listed
+unfolding numberOf
+listed-is = record { flags = refl; algorithms = refl; lengths = refl }
 
 pub answer-numbers : AnswerNumbers
 unfolding verdictAnswer

@@ -3,9 +3,9 @@
 -- each, PositionLaws `PlaceAnswers`.
 use Prim.Native.Nat.{ℕ, _+_, _*_, _/_, _%_, _<_}
 use mathlib.Core.Path.{_≡_}
-use mathlib.Core.Bool.{Bool, true, cond, not, _&&_}
+use mathlib.Core.Bool.{Bool, true, false, cond, not, _&&_}
 use mathlib.Core.List.{List, [], _∷_, _++_, map}
-use lib.ListN.{length, take, drop, replicate}
+use lib.ListN.{length, getD, take, drop, replicate}
 use lib.Dec.{eqb, ltb}
 use Rattle.octets.specs.Tests.{Test, any}
 use Rattle.wire.specs.Bytes.{sameBytes}
@@ -16,7 +16,8 @@ use Rattle.keys.specs.declared.entry.Pair.{Pair}
 use Rattle.keys.specs.declared.entry.Entry.{Entry}
 use Rattle.keys.specs.declared.entry.Secret.{Secret}
 use Rattle.keys.specs.declared.table.Found.{Found}
-use Rattle.keys.specs.Entry.{Item, isFamily, keyOf, allOptions}
+use Rattle.keys.specs.Algorithm.{macBytes}
+use Rattle.keys.specs.Entry.{Item, knownKind, familyOf, body, secretOf, isFamily, keyOf, allOptions}
 use Rattle.keys.specs.Table as K
 use Rattle.rules.specs.declared.Place.{Place}
 use Rattle.rules.specs.declared.Place.the-variants.{At}
@@ -175,6 +176,29 @@ abbrev pub EntryOrder : Type 0
 EntryOrder = (limit i : ℕ) (before : List Entry) (x : Item)
     → map (λ (r : Test ℕ). r .gives) (K.loadTests limit i before x)
     ≡ 12 ∷ 11 ∷ 10 ∷ 13 ∷ 13 ∷ 13 ∷ 13 ∷ 13 ∷ 14 ∷ 14 ∷ 15 ∷ 15 ∷ 15 ∷ 15 ∷ 16 ∷ 16 ∷ 16 ∷ 17 ∷ []
+
+-- The key table's bytes as numerals: "kind 4 (IPv4) has 103 bytes, kind 6 (IPv6) 127"; Ticket 4: "kinds 5 and 7, like 4 and 6 with one more
+-- byte, 4 to 16, before the key length"; "MAC bytes (12 and 12)", and 12 of algorithm 3, where the kind has no such byte.
+pub record EntryBytes : Type 0 where
+  pub known : map knownKind (3 ∷ 4 ∷ 5 ∷ 6 ∷ 7 ∷ 8 ∷ []) ≡ false ∷ true ∷ true ∷ true ∷ true ∷ false ∷ []
+  pub bodies : map body (4 ∷ 5 ∷ 6 ∷ 7 ∷ []) ≡ 103 ∷ 104 ∷ 127 ∷ 128 ∷ []
+  pub families : map familyOf (4 ∷ 5 ∷ 6 ∷ 7 ∷ []) ≡ 4 ∷ 4 ∷ 6 ∷ 6 ∷ []
+  pub mac-lengths : (e : List ℕ) → map (λ (k : ℕ). secretOf k e .«mac_bytes») (4 ∷ 5 ∷ 6 ∷ 7 ∷ [])
+      ≡ macBytes (getD e 2 0) ∷ getD e 23 0 ∷ macBytes (getD e 2 0) ∷ getD e 47 0 ∷ []
+  pub key-lengths : (e : List ℕ) → map (λ (k : ℕ). secretOf k e .«key_len») (4 ∷ 5 ∷ 6 ∷ 7 ∷ [])
+      ≡ getD e 23 0 ∷ getD e 24 0 ∷ getD e 47 0 ∷ getD e 48 0 ∷ []
+  pub twelve : map macBytes (1 ∷ 2 ∷ 3 ∷ []) ≡ 12 ∷ 12 ∷ 12 ∷ []
+
+-- 13: "flags or algorithm not listed": Ticket 10 lists the flags up to 7, Ticket 13 algorithm 3; Ticket 4: "also covers the new byte". Of
+-- flags, algorithm and MAC length, what an entry gets for these three; 0 is nothing.
+abbrev pub listed : ℕ → ℕ → ℕ → ℕ
+listed flags algorithm n =
+    K.numberOf (K.secretTests (record { flags = flags; algorithm = algorithm; «mac_bytes» = n; «key_len» = 1; key = [] }))
+
+pub record Listed : Type 0 where
+  pub flags : map (λ (f : ℕ). listed f 1 12) (0 ∷ 1 ∷ 7 ∷ 8 ∷ 255 ∷ []) ≡ 0 ∷ 0 ∷ 0 ∷ 13 ∷ 13 ∷ []
+  pub algorithms : map (λ (a : ℕ). listed 0 a 12) (0 ∷ 1 ∷ 2 ∷ 3 ∷ 4 ∷ []) ≡ 13 ∷ 0 ∷ 0 ∷ 0 ∷ 13 ∷ []
+  pub lengths : map (λ (n : ℕ). listed 0 1 n) (3 ∷ 4 ∷ 16 ∷ 17 ∷ []) ≡ 13 ∷ 0 ∷ 0 ∷ 13 ∷ []
 
 -- Answers. "A verdict is accept with its extension, pass, or drop with a number": accept has the number 0, pass 1.
 pub record AnswerNumbers : Type 0 where

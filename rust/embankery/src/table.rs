@@ -263,7 +263,7 @@ impl EntryBuilder {
     /// All else goes by what is seen at each end: an entry matches, a segment arrives and a connection holds
     /// the addresses and ports as they are there.
     ///
-    /// A station at 192.168.1.7, port 40000, that others see as 203.0.113.9, port 61001:
+    /// A client at 192.168.1.7, port 40000, that others see as 203.0.113.9, port 61001:
     ///
     /// ```
     /// use embankery::{Connection, Entry, KeyTable, UnknownKeyId};
@@ -276,27 +276,27 @@ impl EntryBuilder {
     /// #     segment[16..18].copy_from_slice(&(!(sum % 0xffff) as u16).to_be_bytes());
     /// # }
     ///
-    /// let (inside, outside, head) = ([192, 168, 1, 7], [203, 0, 113, 9], [198, 51, 100, 1]);
+    /// let (inside, outside, server) = ([192, 168, 1, 7], [203, 0, 113, 9], [198, 51, 100, 1]);
     /// let entry = || Entry::ipv4().key(b"key");
-    /// let at_station = entry().local(inside, 32).remote(head, 32).local_nat(true).build()?;
-    /// let at_head = entry().local(head, 32).remote(outside, 32).remote_nat(true).build()?;
-    /// let (station_keys, head_keys) = (KeyTable::new([&at_station])?, KeyTable::new([&at_head])?);
+    /// let at_client = entry().local(inside, 32).remote(server, 32).local_nat(true).build()?;
+    /// let at_server = entry().local(server, 32).remote(outside, 32).remote_nat(true).build()?;
+    /// let (client_keys, server_keys) = (KeyTable::new([&at_client])?, KeyTable::new([&at_server])?);
     ///
-    /// let (from, to) = ((inside, 40_000), (head, 179));
-    /// let mut station = Connection::open_active(&station_keys, from, to, 1_000, 0)?;
+    /// let (from, to) = ((inside, 40_000), (server, 179));
+    /// let mut client = Connection::open_active(&client_keys, from, to, 1_000, 0)?;
     /// let mut syn = [0; 20];
     /// syn[0..4].copy_from_slice(&[0x9c, 0x40, 0, 179]); // ports 40000 and 179
     /// syn[4..8].copy_from_slice(&1_000_u32.to_be_bytes());
     /// syn[12] = 0x50; // data offset: five words
     /// syn[13] = 0x02; // SYN
-    /// let mut sent = station.sign(&station_keys, &syn)?;
+    /// let mut sent = client.sign(&client_keys, &syn)?;
     /// assert_eq!(sent[0..4], syn[0..4]);
     ///
     /// // On the way the address and the port become others, and `summed` puts in the checksum.
     /// sent[0..2].copy_from_slice(&61_001_u16.to_be_bytes());
-    /// summed(outside, head, &mut sent);
+    /// summed(outside, server, &mut sent);
     /// let drop = UnknownKeyId::Drop;
-    /// let opened = Connection::open_passive(&head_keys, outside, head, &sent, 2_000, drop)?;
+    /// let opened = Connection::open_passive(&server_keys, outside, server, &sent, 2_000, drop)?;
     /// assert_eq!(opened.expect("accepted").remote(), (outside, 61_001).into());
     /// # Ok::<(), embankery::Refusal>(())
     /// ```

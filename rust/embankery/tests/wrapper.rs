@@ -481,7 +481,7 @@ fn rollover() {
     }
 }
 
-/// A station behind address translation, or both: what is rewritten on a side that both ends say is
+/// A client behind address translation, or both: what is rewritten on a side that both ends say is
 /// translated is accepted, on another side it is dropped with 29.
 #[test]
 fn translation() {
@@ -489,33 +489,33 @@ fn translation() {
     let port = 61_001;
     for kind in kinds().into_iter().filter(|kind| !kind.ipv6) {
         for (said, at_head) in [(true, true), (true, false), (false, true), (false, false)] {
-            let [inside, head] = Ends::open(kind).addresses;
+            let [inside, server] = Ends::open(kind).addresses;
             let entry = |end: usize| {
                 let entry = Entry::ipv4().send_id(IDS[end]).recv_id(IDS[1 - end]);
                 let entry = entry.algorithm(kind.algorithm).covered(kind.covered);
                 entry.key(b"a key of both ends")
             };
-            let ours = entry(0).local(inside, 32).remote(head, 32).local_nat(said);
+            let ours = entry(0).local(inside, 32).remote(server, 32).local_nat(said);
             let theirs = entry(1)
-                .local(head, 32)
+                .local(server, 32)
                 .remote(outside, 32)
                 .remote_nat(at_head);
             let ours = KeyTable::new([&ours.build().unwrap()]).unwrap();
             let theirs = KeyTable::new([&theirs.build().unwrap()]).unwrap();
-            let (from, to) = ((inside, PORTS[0]), (head, PORTS[1]));
-            let mut station = Connection::open_active(&ours, from, to, ISNS[0], IDS[0]).unwrap();
+            let (from, to) = ((inside, PORTS[0]), (server, PORTS[1]));
+            let mut client = Connection::open_active(&ours, from, to, ISNS[0], IDS[0]).unwrap();
             let syn = segment(PORTS, ISNS[0], SYN, &[], &[]);
-            let sent = station.sign(&ours, &syn).unwrap();
+            let sent = client.sign(&ours, &syn).unwrap();
             assert_eq!(sent[..12], syn[..12]);
             let rewritten = |sent: &[u8]| {
                 let mut seen = sent.to_vec();
                 seen[0..2].copy_from_slice(&u16::to_be_bytes(port));
-                kit::segment::summed(&octets(outside), &octets(head), &seen)
+                kit::segment::summed(&octets(outside), &octets(server), &seen)
             };
             let choice = UnknownKeyId::Drop;
             let seen = rewritten(&sent);
-            let verdict = judge_syn(&theirs, outside, head, &seen, choice);
-            let opened = Connection::open_passive(&theirs, outside, head, &seen, ISNS[1], choice);
+            let verdict = judge_syn(&theirs, outside, server, &seen, choice);
+            let opened = Connection::open_passive(&theirs, outside, server, &seen, ISNS[1], choice);
             if !said || !at_head {
                 assert_eq!(verdict, Verdict::Drop(Refusal::MacDiffers));
                 assert_eq!(opened, Err(Refusal::MacDiffers));
@@ -525,22 +525,22 @@ fn translation() {
             let mut end = opened.unwrap().unwrap();
             assert_eq!(end.remote(), SocketAddr::new(outside, port));
 
-            // The answer goes to what the head station sees, and is translated back.
+            // The answer goes to what the server sees, and is translated back.
             let back = segment([PORTS[1], port], ISNS[1], SYN | ACK, &[], &[]);
             let mut back = end.sign(&theirs, &back).unwrap();
             back[2..4].copy_from_slice(&PORTS[0].to_be_bytes());
-            let back = kit::segment::summed(&octets(head), &octets(inside), &back);
-            let verdict = station.judge(&ours, head, inside, &back);
+            let back = kit::segment::summed(&octets(server), &octets(inside), &back);
+            let verdict = client.judge(&ours, server, inside, &back);
             assert_eq!(verdict, Verdict::Accept { extension: 0 });
 
             // Rewritten to what the other end does not hold: another connection's.
             let data = segment(PORTS, ISNS[0] + 1, ACK, &[], b"data");
-            let sent = station.sign(&ours, &data).unwrap();
+            let sent = client.sign(&ours, &data).unwrap();
             let seen = rewritten(&sent);
-            let verdict = end.judge(&theirs, outside, head, &seen);
+            let verdict = end.judge(&theirs, outside, server, &seen);
             assert_eq!(verdict, Verdict::Accept { extension: 0 });
-            let unchanged = kit::segment::summed(&octets(outside), &octets(head), &sent);
-            let verdict = end.judge(&theirs, outside, head, &unchanged);
+            let unchanged = kit::segment::summed(&octets(outside), &octets(server), &sent);
+            let verdict = end.judge(&theirs, outside, server, &unchanged);
             assert_eq!(verdict, Verdict::Drop(Refusal::OtherPair));
         }
     }
