@@ -11,10 +11,12 @@ use Rattle.wire.specs.Header.{sourcePort, destinationPort, sequence, wellSized}
 use Rattle.keys.specs.declared.entry.Pair.{Pair}
 use Rattle.keys.specs.declared.entry.Entry.{Entry}
 use Rattle.keys.specs.declared.entry.Secret.{Secret}
-use Rattle.keys.specs.Entry.{isFamily, localHidden, remoteHidden, entries}
-use Rattle.keys.specs.Table.{Tables, ValidTable, recvEntry}
+use Rattle.keys.specs.Entry.{isFamily, localHidden, remoteHidden, keyOf}
 use Rattle.keys.specs.Places.{At as EntryAt}
+use Rattle.keys.specs.Match.{matches}
 use Rattle.keys.specs.Mirror.{Mirror}
+use Rattle.tables.specs.Tables.{Tables, recvEntry}
+use Rattle.tables.specs.Valid.{ValidTables}
 use Rattle.rules.specs.declared.Place.the-variants.{At}
 use Rattle.rules.specs.declared.Connection.{Connection}
 use Rattle.rules.specs.declared.State.{State}
@@ -23,7 +25,7 @@ use Rattle.rules.specs.declared.Signed.{Signed}
 use Rattle.rules.specs.Mac.{arrivingHidden, segmentMac}
 use Rattle.rules.specs.Checksum.{sumsRight}
 use Rattle.rules.specs.Segment.{malformed, ao, md5, aoAt, keyId, macIn, isBareSyn}
-use Rattle.rules.specs.Connection.{Arrival, localAddress, remoteAddress, isOpen, arriving, placeOn, slots}
+use Rattle.rules.specs.Connection.{Arrival, localAddress, remoteAddress, isOpen, isMd5, arriving, placeOn, slots}
 use Rattle.rules.specs.Calls.{outgoing, signed, output}
 
 -- What a value of a Rattle type is known to be, where it matters: references are below 2 ^ 64, ISNs below 2 ^ 32, arrays full.
@@ -99,13 +101,27 @@ pub record SignedAt (q : State) (e : Entry) (x : ℕ) (bytes : List ℕ) : Type 
   pub position : placeOn (q .conn) (q .sent) (sequence unsigned) ≡ At x
 
 -- "it holds the mirrored key in a valid table": of the other end's entry e, on the connection whose pair this end holds as p and that end
--- as q
+-- as q. Ticket 9: "the MD5 table given beside the key table is not refused (10 to 17, 45)"
 pub record Holds (t : Tables) (p q : Pair) (e : Entry) : Type 0 where
-  pub valid : ValidTable t
+  pub valid : ValidTables t
   pub ours : Entry
   pub place : ℕ
-  pub among : EntryAt (entries t) place ours
+  pub among : EntryAt (t .keys) place ours
   pub mirror : Mirror p q ours e
+
+-- MD5 entries that mirror each other: "each matches the pair as its own end holds it", and the keys agree
+pub record Md5Mirror (p q : Pair) (e f : Entry) : Type 0 where
+  pub here : matches (e .selector) p ≡ true
+  pub there : matches (f .selector) q ≡ true
+  pub key : keyOf (e .secret) ≡ keyOf (f .secret)
+
+-- the same of an MD5 entry
+pub record HoldsMd5 (t : Tables) (p q : Pair) (e : Entry) : Type 0 where
+  pub valid : ValidTables t
+  pub ours : Entry
+  pub place : ℕ
+  pub among : EntryAt (t .md5s) place ours
+  pub mirror : Md5Mirror p q ours e
 
 -- "A true segment was signed at the other end, in a state open on this connection .., under a mirror of one of the table's entries; it
 -- arrives with our state's pair and as signed, except perhaps for its checksum."; Ticket 10: "Demand 3's true segments come so too",
@@ -113,10 +129,12 @@ pub record Holds (t : Tables) (p q : Pair) (e : Entry) : Type 0 where
 pub record TrueSegment (t : Tables) (l : Connection) (a : Arrival) (x r : ℕ) : Type 0 where
   pub peer : State
   pub typed : Typed peer
+  -- it signs by TCP-AO
+  pub way : isMd5 (peer .conn) ≡ false
   pub ours : Entry
   pub theirs : Entry
   pub place : ℕ
-  pub among : EntryAt (entries t) place ours
+  pub among : EntryAt (t .keys) place ours
   pub mirror : Mirror (l .pair) (peer .conn .pair) ours theirs
   pub other : OtherEnd (theirs .secret) l (peer .conn)
   pub bytes : List ℕ

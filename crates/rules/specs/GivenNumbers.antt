@@ -29,16 +29,24 @@ among n (m ∷ l) = eqb n m || among n l
 
 -- The numbers of each call.
 
--- a table's: 10 to 17
+-- the tables': 10 to 17, and Ticket 9's 45
 abbrev pub tableNumbers : List ℕ
-tableNumbers = 10 ∷ 11 ∷ 12 ∷ 13 ∷ 14 ∷ 15 ∷ 16 ∷ 17 ∷ []
+tableNumbers = 10 ∷ 11 ∷ 12 ∷ 13 ∷ 14 ∷ 15 ∷ 16 ∷ 17 ∷ 45 ∷ []
 
 abbrev pub judgeNumbers : List ℕ
 judgeNumbers = 18 ∷ 19 ∷ (tableNumbers ++ (20 ∷ 21 ∷ 22 ∷ 23 ∷ 24 ∷ 25 ∷ 26 ∷ 27 ∷ 28 ∷ 29 ∷ 40 ∷ []))
 
+-- Ticket 9: 46 and 47 are of the MD5 way alone, where 25 and 28 are not given
+abbrev pub md5JudgeNumbers : List ℕ
+md5JudgeNumbers = 18 ∷ 19 ∷ (tableNumbers ++ (20 ∷ 21 ∷ 22 ∷ 23 ∷ 24 ∷ 26 ∷ 27 ∷ 29 ∷ 40 ∷ 46 ∷ 47 ∷ []))
+
 -- a bare SYN comes without a state, whose family or pair could be another, and has its own number as position: not 18, 23 or 28
 abbrev pub synNumbers : List ℕ
 synNumbers = 19 ∷ (tableNumbers ++ (20 ∷ 21 ∷ 22 ∷ 24 ∷ 25 ∷ 26 ∷ 27 ∷ 29 ∷ 40 ∷ []))
+
+-- one whose pair an MD5 entry matches
+abbrev pub md5SynNumbers : List ℕ
+md5SynNumbers = 19 ∷ (tableNumbers ++ (20 ∷ 21 ∷ 22 ∷ 24 ∷ 27 ∷ 29 ∷ 40 ∷ 46 ∷ 47 ∷ []))
 
 abbrev pub signNumbers : List ℕ
 signNumbers = 18 ∷ (tableNumbers ++ (30 ∷ 31 ∷ 32 ∷ 33 ∷ 34 ∷ 35 ∷ 36 ∷ 37 ∷ []))
@@ -50,12 +58,13 @@ abbrev pub openNumbers : List ℕ
 openNumbers = 19 ∷ (tableNumbers ++ (35 ∷ []))
 
 abbrev pub numbersOf : Request → List ℕ
-numbersOf (on (judge t a) q) = judgeNumbers
+numbersOf (on (judge t a) q) = cond (isMd5 (q .conn)) md5JudgeNumbers judgeNumbers
 numbersOf (on (sign t s out) q) = signNumbers
 numbersOf (on (ask t id) q) = askNumbers
-numbersOf (judgeSyn t a strict) = synNumbers
-numbersOf (openPassively t a isn strict) = synNumbers
+numbersOf (judgeSyn t a strict) = cond (synIsMd5 t (arrivalPair a)) md5SynNumbers synNumbers
+numbersOf (openPassively t a isn strict) = cond (synIsMd5 t (arrivalPair a)) md5SynNumbers synNumbers
 numbersOf (openActively t local remote localPort remotePort isn sendId) = openNumbers
+numbersOf (openActivelyMd5 t local remote localPort remotePort isn) = openNumbers
 
 -- the loader's counts and indices stay at or below the limit, and its numbers are these
 abbrev pub Bounded : ℕ → Loaded → Type 0
