@@ -119,10 +119,10 @@ pub(crate) fn by_key(
         return nothing(unknown);
     }
     if option.len != size {
-        return nothing(Outcome::Bad(27, 0));
+        return nothing(Outcome::Bad(27, NO_INDEX));
     }
     let Place::At(x) = place else {
-        return nothing(Outcome::Bad(28, 0));
+        return nothing(Outcome::Bad(28, NO_INDEX));
     };
     let rnext = byte_at(segment, 20 + option.at + 3);
     ready(x, rnext, entry, flow, option, segment)
@@ -166,7 +166,7 @@ impl Begun {
         let n = mac_length(self.mac_bytes);
         let tag = mac.finish();
         if !same_throughout(&carried[..n], &tag[..n]) {
-            return Outcome::Bad(29, 0);
+            return Outcome::Bad(29, NO_INDEX);
         }
         outcome
     }

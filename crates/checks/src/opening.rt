@@ -11,27 +11,27 @@ use rules::Connection;
 use rules::Outcome;
 
 // 10 to 17, then 35, where no entry answers.
-pub fn key_faults(table: &[u8], there: bool) -> Outcome
-    ensures { λ r. ⌜ r ≡ first (tableTests (now (table .entry)) ++ (test (refuse 35) (not there) ∷ [])) unrefused ⌝ }
+pub fn key_faults(keys: &[u8], md5: &[u8], there: bool) -> Outcome
+    ensures { λ r. ⌜ r ≡ first (tableTests (tablesOf (now (keys .entry)) (now (md5 .entry))) ++ (test (refuse 35) (not there) ∷ [])) unrefused ⌝ }
 {
-    let loaded = table_faults(table);
+    let loaded = table_faults(keys, md5);
     let Outcome::Good(_, _) = loaded else {
         return loaded;
     };
     if there {
         return Outcome::Good(0, 0);
     }
-    Outcome::Bad(35, 0)
+    Outcome::Bad(35, NO_INDEX)
 }
 
 // Which number: 18, 10 to 17, then 35, "no entry matching the pair has .. the RecvID to ask".
-pub fn ask_faults(table: &[u8], recv_id: u8, conn: Connection) -> Outcome
-    ensures { λ r. ⌜ r ≡ first (askTests (now (table .entry)) «recv_id» conn) unrefused ⌝ }
+pub fn ask_faults(keys: &[u8], md5: &[u8], recv_id: u8, conn: Connection) -> Outcome
+    ensures { λ r. ⌜ r ≡ first (askTests (tablesOf (now (keys .entry)) (now (md5 .entry))) «recv_id» conn) unrefused ⌝ }
 {
     let family = family_faults(conn);
     let Outcome::Good(_, _) = family else {
         return family;
     };
-    let found = keys::table::find_recv(table, conn.pair, recv_id);
-    key_faults(table, found.there)
+    let found = tables::find_recv(keys, md5, conn.pair, recv_id);
+    key_faults(keys, md5, found.there)
 }

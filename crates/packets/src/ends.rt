@@ -99,9 +99,9 @@ fn address(field: &[u8; 16], family: u8) -> &[u8]
 // The table in an array that has room for an entry of IPv6.
 pub fn entries(table: &[u8; 128], family: u8) -> &[u8] {
     if family == 4 {
-        return front(table, 104);
+        return front(keys, md5, 104);
     }
-    front(table, 128)
+    front(keys, md5, 128)
 }
 
 // The entry's bytes before the addresses: document 01, "Key table (house bytes)".

@@ -49,13 +49,13 @@ fn index_of(o: Outcome) -> usize
 }
 
 // "if RNextKeyID differs from the outgoing SendID, and an entry matching the pair has that SendID, it becomes the outgoing key (7.5.2.e)"
-fn next_key(table: &[u8], pair: Pair, rnext: u8, current: u8) -> u8
-    ensures { λ r. ⌜ r ≡ nextKey (now (table .entry)) pair rnext current ⌝ }
+fn next_key(keys: &[u8], md5: &[u8], pair: Pair, rnext: u8, current: u8) -> u8
+    ensures { λ r. ⌜ r ≡ nextKey (tablesOf (now (keys .entry)) (now (md5 .entry))) pair rnext current ⌝ }
 {
     if rnext == current {
         return current;
     }
-    let found = keys::table::find_send(table, pair, rnext);
+    let found = tables::find_send(keys, md5, pair, rnext);
     if found.there {
         return rnext;
     }
@@ -63,14 +63,14 @@ fn next_key(table: &[u8], pair: Pair, rnext: u8, current: u8) -> u8
 }
 
 // An accepted segment at position x, whose number is `number`: it opens, or is counted and moves the reference.
-fn accepted(table: &[u8], q: State, x: u64, rnext: u8, number: u32) -> State
+fn accepted(keys: &[u8], md5: &[u8], q: State, x: u64, rnext: u8, number: u32) -> State
     requires { ⌜ (isOpen (q .conn) ≡ false → x ≡ number) ⌝ }
-    ensures { λ r. ⌜ r ≡ afterJudging (now (table .entry)) q (Outcome.Good x rnext) ⌝ }
+    ensures { λ r. ⌜ r ≡ afterJudging (tablesOf (now (keys .entry)) (now (md5 .entry))) q (Outcome.Good x rnext) ⌝ }
 {
     let conn = q.conn;
     let pair = conn.pair;
     let ask = q.ask_id;
-    let key = next_key(table, pair, rnext, q.send_id);
+    let key = next_key(keys, md5, pair, rnext, q.send_id);
     if is_open(conn) {
         return with_accepted(x, key, q);
     }
@@ -88,12 +88,12 @@ fn dropped(n: u8, q: State) -> State
     q
 }
 
-fn after_judging(table: &[u8], q: State, number: u32, o: Outcome) -> State
+fn after_judging(keys: &[u8], md5: &[u8], q: State, number: u32, o: Outcome) -> State
     requires { ⌜ AtNumber (q .conn) number o ⌝ }
-    ensures { λ r. ⌜ r ≡ afterJudging (now (table .entry)) q o ⌝ }
+    ensures { λ r. ⌜ r ≡ afterJudging (tablesOf (now (keys .entry)) (now (md5 .entry))) q o ⌝ }
 {
     match o {
-        Outcome::Good(x, rnext) => accepted(table, q, x, rnext, number),
+        Outcome::Good(x, rnext) => accepted(keys, md5, q, x, rnext, number),
         Outcome::Passed => q,
         Outcome::Bad(n, _) => dropped(n, q),
     }
@@ -101,22 +101,23 @@ fn after_judging(table: &[u8], q: State, number: u32, o: Outcome) -> State
 
 // Judges an arriving segment with a state, opening or open.
 pub fn judge(
-    table: &[u8],
+    keys: &[u8],
+    md5: &[u8],
     source: &[u8],
     destination: &[u8],
     segment: &[u8],
     state: State,
 ) -> Judged
     ensures answer { λ r. ⌜ r
-        ≡ judged (now (table .entry)) (arrivalOf (now (source .entry)) (now (destination .entry)) (now (segment .entry))) state ⌝ }
+        ≡ judged (tablesOf (now (keys .entry)) (now (md5 .entry))) (arrivalOf (now (source .entry)) (now (destination .entry)) (now (segment .entry))) state ⌝ }
     ensures number { λ r. ⌜ verdictAnswer (r .verdict) (r .index)
-        ≡ judgedNumber (now (table .entry)) (arrivalOf (now (source .entry)) (now (destination .entry)) (now (segment .entry))) state ⌝ }
+        ≡ judgedNumber (tablesOf (now (keys .entry)) (now (md5 .entry))) (arrivalOf (now (source .entry)) (now (destination .entry)) (now (segment .entry))) state ⌝ }
 {
     let conn = state.conn;
-    let o = check(table, source, destination, segment, conn, state.seen);
+    let o = check(keys, md5, source, destination, segment, conn, state.seen);
     let verdict = verdict_of(o);
     let index = index_of(o);
-    let next = after_judging(table, state, sequence(segment), o);
+    let next = after_judging(keys, md5, state, sequence(segment), o);
     Judged {
         verdict,
         index,
@@ -127,18 +128,19 @@ pub fn judge(
 // "a bare SYN is judged without a state". Where an entry matches the pair an unknown KeyID gets 26; where none does, `strict` decides: 26
 // or pass.
 pub fn judge_syn(
-    table: &[u8],
+    keys: &[u8],
+    md5: &[u8],
     source: &[u8],
     destination: &[u8],
     segment: &[u8],
     strict: bool,
 ) -> SynJudged
     ensures answer { λ r. ⌜ r
-        ≡ judgedSyn (now (table .entry)) (arrivalOf (now (source .entry)) (now (destination .entry)) (now (segment .entry))) strict ⌝ }
+        ≡ judgedSyn (tablesOf (now (keys .entry)) (now (md5 .entry))) (arrivalOf (now (source .entry)) (now (destination .entry)) (now (segment .entry))) strict ⌝ }
     ensures number { λ r. ⌜ verdictAnswer (r .verdict) (r .index)
-        ≡ synNumber (now (table .entry)) (arrivalOf (now (source .entry)) (now (destination .entry)) (now (segment .entry))) strict ⌝ }
+        ≡ synNumber (tablesOf (now (keys .entry)) (now (md5 .entry))) (arrivalOf (now (source .entry)) (now (destination .entry)) (now (segment .entry))) strict ⌝ }
 {
-    let o = check_syn(table, source, destination, segment, strict);
+    let o = check_syn(keys, md5, source, destination, segment, strict);
     let verdict = verdict_of(o);
     let index = index_of(o);
     SynJudged { verdict, index }
@@ -146,7 +148,8 @@ pub fn judge_syn(
 
 // "only on accept, opens with the entry found, then applies the key rule": its IDs, which judging found.
 fn opened_by(
-    table: &[u8],
+    keys: &[u8],
+    md5: &[u8],
     source: &[u8],
     destination: &[u8],
     segment: &[u8],
@@ -154,21 +157,22 @@ fn opened_by(
     ids: Ids,
     o: Outcome,
 ) -> State
-    requires { ⌜ TakenBy (now table) (arrivalOf (now source) (now destination) (now segment)) ids o ⌝ }
+    requires { ⌜ TakenBy (tablesOf (now keys) (now md5)) (arrivalOf (now source) (now destination) (now segment)) ids o ⌝ }
     ensures { λ r. ⌜ r
-        ≡ openedFrom (now (table .entry)) (arrivalOf (now (source .entry)) (now (destination .entry)) (now (segment .entry))) isn o ⌝ }
+        ≡ openedFrom (tablesOf (now (keys .entry)) (now (md5 .entry))) (arrivalOf (now (source .entry)) (now (destination .entry)) (now (segment .entry))) isn o ⌝ }
 {
     let Outcome::Good(_, rnext) = o else {
         return empty();
     };
     let pair = arrival_pair(source, destination, segment);
-    let key = next_key(table, pair, rnext, ids.send);
+    let key = next_key(keys, md5, pair, rnext, ids.send);
     opened(pair, isn, sequence(segment), key, ids.recv)
 }
 
 // "A second call takes the same SYN and our ISN, judges it again and, only on accept, opens".
 pub fn open_passive(
-    table: &[u8],
+    keys: &[u8],
+    md5: &[u8],
     source: &[u8],
     destination: &[u8],
     segment: &[u8],
@@ -176,17 +180,17 @@ pub fn open_passive(
     strict: bool,
 ) -> Judged
     ensures answer { λ r. ⌜ r
-        ≡ openedPassively (now (table .entry))
+        ≡ openedPassively (tablesOf (now (keys .entry)) (now (md5 .entry)))
         (arrivalOf (now (source .entry)) (now (destination .entry)) (now (segment .entry))) isn strict ⌝ }
     ensures number { λ r. ⌜ verdictAnswer (r .verdict) (r .index)
-        ≡ synNumber (now (table .entry)) (arrivalOf (now (source .entry)) (now (destination .entry)) (now (segment .entry))) strict ⌝ }
+        ≡ synNumber (tablesOf (now (keys .entry)) (now (md5 .entry))) (arrivalOf (now (source .entry)) (now (destination .entry)) (now (segment .entry))) strict ⌝ }
 {
-    let begun = begin_syn(table, source, destination, segment, strict);
+    let begun = begin_syn(keys, md5, source, destination, segment, strict);
     let ids = begun.ids;
     let o = finished(begun, segment);
     let verdict = verdict_of(o);
     let index = index_of(o);
-    let state = opened_by(table, source, destination, segment, isn, ids, o);
+    let state = opened_by(keys, md5, source, destination, segment, isn, ids, o);
     Judged {
         verdict,
         index,

@@ -20,12 +20,12 @@ pub(crate) fn settled_by(outcome: Outcome, old: State, new: State) -> Settled
     match outcome {
         Outcome::Good(_, _) => Settled {
             answer: Done::Done,
-            index: 0,
+            index: NO_INDEX,
             state: new,
         },
         Outcome::Passed => Settled {
             answer: Done::Done,
-            index: 0,
+            index: NO_INDEX,
             state: old,
         },
         Outcome::Bad(n, i) => Settled {
@@ -38,7 +38,8 @@ pub(crate) fn settled_by(outcome: Outcome, old: State, new: State) -> Settled
 
 // "It gives the outgoing key and, by RecvID, the key asked of the peer." An opening refused returns the empty state.
 pub fn open_active(
-    table: &[u8],
+    keys: &[u8],
+    md5: &[u8],
     local: &[u8],
     remote: &[u8],
     local_port: u16,
@@ -47,9 +48,9 @@ pub fn open_active(
     send_id: u8,
 ) -> Settled
     ensures answer { λ r. ⌜ r
-        ≡ openedActively (now (table .entry)) (now (local .entry)) (now (remote .entry)) «local_port» «remote_port» isn «send_id» ⌝ }
+        ≡ openedActively (tablesOf (now (keys .entry)) (now (md5 .entry))) (now (local .entry)) (now (remote .entry)) «local_port» «remote_port» isn «send_id» ⌝ }
     ensures number { λ r. ⌜ doneAnswer (r .answer) (r .index)
-        ≡ openedNumber (now (table .entry)) (now (local .entry)) (now (remote .entry)) «local_port» «remote_port» «send_id» ⌝ }
+        ≡ openedNumber (tablesOf (now (keys .entry)) (now (md5 .entry))) (now (local .entry)) (now (remote .entry)) «local_port» «remote_port» «send_id» ⌝ }
 {
     let none = empty();
     let sizes = address_faults(local, remote);
@@ -57,8 +58,8 @@ pub fn open_active(
         return settled_by(sizes, none, none);
     };
     let pair = pair_of(local, remote, local_port, remote_port);
-    let found = keys::table::find_send(table, pair, send_id);
-    let keyed = key_faults(table, found.there);
+    let found = tables::find_send(keys, md5, pair, send_id);
+    let keyed = key_faults(keys, md5, found.there);
     settled_by(
         keyed,
         none,

@@ -23,16 +23,16 @@ use states::writers::with_sent;
 use wire::header::header_of;
 
 // All that needs no data: every number, and what waits for the data. `room` is the output's length.
-pub fn begin(table: &[u8], segment: &[u8], room: usize, state: State) -> SignBegun
-    ensures { λ r. ⌜ SignBegins (now (table .entry)) (now (segment .entry)) room state r ⌝ }
+pub fn begin(keys: &[u8], md5: &[u8], segment: &[u8], room: usize, state: State) -> SignBegun
+    ensures { λ r. ⌜ SignBegins (tablesOf (now (keys .entry)) (now (md5 .entry))) (now (segment .entry)) room state r ⌝ }
 {
     let conn = state.conn;
-    let input = input_faults(table, segment, conn);
+    let input = input_faults(keys, md5, segment, conn);
     let Outcome::Good(_, _) = input else {
         return nothing(input);
     };
     let header = header_of(segment, segment.len());
-    let found = keys::table::find_send(table, conn.pair, state.send_id);
+    let found = tables::find_send(keys, md5, conn.pair, state.send_id);
     let entry = found.entry;
     let secret = entry.secret;
     let added = added_bytes(secret.mac_bytes);
@@ -75,13 +75,13 @@ fn refused(n: u8, i: usize, state: State) -> Signed
 }
 
 // The answer with the new state, and every byte of the output.
-pub fn sign(table: &[u8], segment: &[u8], out: &mut [u8], state: State) -> Signed
-    ensures answer { λ r. ⌜ r ≡ signed (now (table .entry)) (now (segment .entry)) (now (out .entry)) state ⌝ }
-    ensures storage { λ _. ⌜ now (out .exit) ≡ output (now (table .entry)) (now (segment .entry)) (now (out .entry)) state ⌝ }
+pub fn sign(keys: &[u8], md5: &[u8], segment: &[u8], out: &mut [u8], state: State) -> Signed
+    ensures answer { λ r. ⌜ r ≡ signed (tablesOf (now (keys .entry)) (now (md5 .entry))) (now (segment .entry)) (now (out .entry)) state ⌝ }
+    ensures storage { λ _. ⌜ now (out .exit) ≡ output (tablesOf (now (keys .entry)) (now (md5 .entry))) (now (segment .entry)) (now (out .entry)) state ⌝ }
     ensures number { λ r. ⌜ signingAnswer (r .answer) (r .index)
-        ≡ signedNumber (now (table .entry)) (now (segment .entry)) (now (out .entry)) state ⌝ }
+        ≡ signedNumber (tablesOf (now (keys .entry)) (now (md5 .entry))) (now (segment .entry)) (now (out .entry)) state ⌝ }
 {
-    let begun = begin(table, segment, out.len(), state);
+    let begun = begin(keys, md5, segment, out.len(), state);
     let outcome = begun.outcome;
     let added = begun.added;
     match outcome {
@@ -89,7 +89,7 @@ pub fn sign(table: &[u8], segment: &[u8], out: &mut [u8], state: State) -> Signe
             finish(begun, segment, out);
             Signed {
                 answer: Signing::Signed(segment.len() + added),
-                index: 0,
+                index: NO_INDEX,
                 state: with_sent(x, state),
             }
         }

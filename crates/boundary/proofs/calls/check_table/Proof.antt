@@ -13,7 +13,7 @@ use Rattle.boundary.proofs.calls.check_table.Tie as tie
 of-table-requires : tie.Need-of-table-requires
 of-table-requires c κs =
     subst (λ (o : Loaded). tableAnswer o .value < 2 ^ 32) (sym (c .check-table .ensures .0))
-    (table-fits (c .before .before .args .table .now) .value)
+    (table-fits (tablesOf (c .before .before .args .keys .now) (c .before .before .args .md5 .now)) .value)
 
 returns : tie.Need-returns
 unfolding checkTableExport

@@ -19,7 +19,7 @@ returns c =
     let a = c .before .before .before .before .before .before .before .before .before .args in
     left
     (refused ofJudged (λ (j : Judged). encodeOf (j .state)) (a .state .now)
-    (judged (a .table .now) (arrivalOf (a .source .now) (a .destination .now) (a .segment .now)) (decodeOf (a .state .now)))
+    (judged (tablesOf (a .keys .now) (a .md5 .now)) (arrivalOf (a .source .now) (a .destination .now) (a .segment .now)) (decodeOf (a .state .now)))
     _ (other (a .state .now) _ (c .before .before .is-state .ensures) (c .before .if1 .taken)) (c .word .ensures))
 
 decode-requires : tie.Need-decode-requires
@@ -47,11 +47,11 @@ returns-2 c =
     let a = e .before .before .before .before .before .before .before .before .before .before .before .args in
     left
     (done ofJudged (λ (j : Judged). encodeOf (j .state)) (a .state .now)
-    (judged (a .table .now) (arrivalOf (a .source .now) (a .destination .now) (a .segment .now)) (decodeOf (a .state .now)))
+    (judged (tablesOf (a .keys .now) (a .md5 .now)) (arrivalOf (a .source .now) (a .destination .now) (a .segment .now)) (decodeOf (a .state .now)))
     (e .judge .result) _ _
     (whole (a .state .now) _ (e .before .before .before .before .is-state .ensures) (e .before .before .before .if1 .left))
     (e .judge .ensures .0
-    ∙ ap (judged (a .table .now) (arrivalOf (a .source .now) (a .destination .now) (a .segment .now))) (e .before .decode .ensures .0))
+    ∙ ap (judged (tablesOf (a .keys .now) (a .md5 .now)) (arrivalOf (a .source .now) (a .destination .now) (a .segment .now))) (e .before .decode .ensures .0))
     (c .of-verdict .ensures) (c .before .before .before .put .ensures))
 
 pub judge-spec : {M : Type 1} → statement M

@@ -23,7 +23,7 @@ returns c =
     let a = c .before .before .before .before .before .before .before .before .args in
     left
     (refused ofSettled (bytes (a .state .now)) (a .state .now)
-    (openedActively (a .table .now) (a .local .now) (a .remote .now) (a .local-port) (a .remote-port) (a .isn) (a .send-id))
+    (openedActively (tablesOf (a .keys .now) (a .md5 .now)) (a .local .now) (a .remote .now) (a .local-port) (a .remote-port) (a .isn) (a .send-id))
     _ (other (a .state .now) _ (c .before .before .is-state .ensures) (c .before .if1 .taken)) (c .word .ensures))
 
 put-where-requires : tie.Need-put-where-requires
@@ -45,7 +45,7 @@ returns-2 c =
     let a = e .before .before .before .before .before .before .before .before .args in
     left
     (done ofSettled (bytes (a .state .now)) (a .state .now)
-    (openedActively (a .table .now) (a .local .now) (a .remote .now) (a .local-port) (a .remote-port) (a .isn) (a .send-id))
+    (openedActively (tablesOf (a .keys .now) (a .md5 .now)) (a .local .now) (a .remote .now) (a .local-port) (a .remote-port) (a .isn) (a .send-id))
     (e .open-active .result) _ _ (whole (a .state .now) _ (e .before .before .is-state .ensures) (e .before .if1 .left))
     (e .open-active .ensures .0) (c .of-done .ensures)
     (p .put-where .ensures

@@ -24,7 +24,7 @@ returns c =
     let a = c .before .before .before .before .before .before .before .before .before .args in
     left
     (refused ofJudged (bytes (a .state .now)) (a .state .now)
-    (openedPassively (a .table .now) (arrivalOf (a .source .now) (a .destination .now) (a .segment .now)) (a .isn) (strictly (a .setting)))
+    (openedPassively (tablesOf (a .keys .now) (a .md5 .now)) (arrivalOf (a .source .now) (a .destination .now) (a .segment .now)) (a .isn) (strictly (a .setting)))
     _ (other (a .state .now) _ (c .before .before .is-state .ensures) (c .before .if1 .taken)) (c .word .ensures))
 
 put-where-requires : tie.Need-put-where-requires
@@ -47,7 +47,7 @@ returns-2 c =
     let a = e .before .before .before .before .before .before .before .before .before .args in
     left
     (done ofJudged (bytes (a .state .now)) (a .state .now)
-    (openedPassively (a .table .now) (arrivalOf (a .source .now) (a .destination .now) (a .segment .now)) (a .isn) (strictly (a .setting)))
+    (openedPassively (tablesOf (a .keys .now) (a .md5 .now)) (arrivalOf (a .source .now) (a .destination .now) (a .segment .now)) (a .isn) (strictly (a .setting)))
     (e .open-passive .result) _ _ (whole (a .state .now) _ (e .before .before .is-state .ensures) (e .before .if1 .left))
     (e .open-passive .ensures .0) (c .of-verdict .ensures)
     (p .put-where .ensures

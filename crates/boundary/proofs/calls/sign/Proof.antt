@@ -19,9 +19,9 @@ returns c =
     let h = other (a .state .now) _ (c .before .before .is-state .ensures) (c .before .if1 .taken) in
     let q = decodeOf (a .state .now) in
     let r =
-    refused ofSigned (λ (s : Signed). encodeOf (s .state)) (a .state .now) (signed (a .table .now) (a .segment .now) (a .out .now) q)
+    refused ofSigned (λ (s : Signed). encodeOf (s .state)) (a .state .now) (signed (tablesOf (a .keys .now) (a .md5 .now)) (a .segment .now) (a .out .now) q)
     _ h (c .word .ensures) in
-    let o = unchanged (a .state .now) (output (a .table .now) (a .segment .now) (a .out .now) q) (a .out .now) h in
+    let o = unchanged (a .state .now) (output (tablesOf (a .keys .now) (a .md5 .now)) (a .segment .now) (a .out .now) q) (a .out .now) h in
     λ i. writes (r .0 i) (r .1 i) (o i)
 
 decode-requires : tie.Need-decode-requires
@@ -49,14 +49,14 @@ returns-2 c =
     let h = whole (a .state .now) _ (d .before .before .before .is-state .ensures) (d .before .before .if1 .left) in
     let q = decodeOf (a .state .now) in
     let r =
-    done ofSigned (λ (s : Signed). encodeOf (s .state)) (a .state .now) (signed (a .table .now) (a .segment .now) (a .out .now) q)
+    done ofSigned (λ (s : Signed). encodeOf (s .state)) (a .state .now) (signed (tablesOf (a .keys .now) (a .md5 .now)) (a .segment .now) (a .out .now) q)
     (e .sign .result) _ _ h
-    (e .sign .ensures .0 ∙ ap (signed (a .table .now) (a .segment .now) (a .out .now)) (d .decode .ensures .0))
+    (e .sign .ensures .0 ∙ ap (signed (tablesOf (a .keys .now) (a .md5 .now)) (a .segment .now) (a .out .now)) (d .decode .ensures .0))
     (c .of-signing .ensures) (c .before .before .before .put .ensures) in
     let o =
     e .sign .ensures .1 .0
-    ∙ (ap (output (a .table .now) (a .segment .now) (a .out .now)) (d .decode .ensures .0)
-    ∙ made (a .state .now) (output (a .table .now) (a .segment .now) (a .out .now) q) (a .out .now) h) in
+    ∙ (ap (output (tablesOf (a .keys .now) (a .md5 .now)) (a .segment .now) (a .out .now)) (d .decode .ensures .0)
+    ∙ made (a .state .now) (output (tablesOf (a .keys .now) (a .md5 .now)) (a .segment .now) (a .out .now) q) (a .out .now) h) in
     λ i. writes (r .0 i) (r .1 i) (o i)
 
 pub sign-spec : {M : Type 1} → statement M

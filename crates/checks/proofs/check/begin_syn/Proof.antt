@@ -12,7 +12,7 @@ arrival s = arrivalOf (s .args .source .now) (s .args .destination .now) (s .arg
 returns : tie.Need-returns
 returns c =
     let s = c .before .before .before .before .before .before .before in
-    syn-early (s .args .table .now) (arrival s) (s .args .strict) (c .nothing .result) (c .nothing .ensures)
+    syn-early (tablesOf (s .args .keys .now) (s .args .md5 .now)) (arrival s) (s .args .strict) (c .nothing .result) (c .nothing .ensures)
     (c .before .before .early-syn-faults .ensures) (c .before .match .keys2)
 
 returns-2 : tie.Need-returns-2
@@ -30,8 +30,8 @@ arrival-pair-requires c κs =
     let told = c .before .before .before .before in
     let s = told .before .before .before .before .before .before .before in
     let a = s .args in
-    early-input (a .table .now) (a .source .now) (a .destination .now) (a .segment .now)
-    (early-syn-none (a .table .now) (arrival s) (a .strict) (told .before .before .early-syn-faults .ensures) (told .enum-told .given .1))
+    early-input (tablesOf (a .keys .now) (a .md5 .now)) (a .source .now) (a .destination .now) (a .segment .now)
+    (early-syn-none (tablesOf (a .keys .now) (a .md5 .now)) (arrival s) (a .strict) (told .before .before .early-syn-faults .ensures) (told .enum-told .given .1))
 
 keyed-syn-requires : tie.Need-keyed-syn-requires
 keyed-syn-requires c κs =
@@ -39,8 +39,8 @@ keyed-syn-requires c κs =
     let told = read .before in
     let s = told .before .before .before .before .before .before .before in
     let a = s .args in
-    let l = early-left (a .table .now) (a .source .now) (a .destination .now) (a .segment .now)
-    (early-syn-none (a .table .now) (arrival s) (a .strict) (told .before .before .early-syn-faults .ensures) (told .enum-told .given .1)) in
+    let l = early-left (tablesOf (a .keys .now) (a .md5 .now)) (a .source .now) (a .destination .now) (a .segment .now)
+    (early-syn-none (tablesOf (a .keys .now) (a .md5 .now)) (arrival s) (a .strict) (told .before .before .early-syn-faults .ensures) (told .enum-told .given .1)) in
     (l .0, l .1, read .header-of .ensures)
 
 returns-3 : tie.Need-returns-3

@@ -17,7 +17,7 @@ returns-2 c =
     let a = c .before .before .before .before .before .before .args in
     pass (familyTests (a .conn)) refl (c .before .before .before .before .family-faults .ensures) (c .before .before .enum-told .given .1)
     (c .key-faults .ensures
-    ∙ (λ i. first (tableTests (a .table .now) ++ (test (refuse 35) (not (c .before .find-recv .ensures i .there)) ∷ [])) unrefused))
+    ∙ (λ i. first (tableTests (tablesOf (a .keys .now) (a .md5 .now)) ++ (test (refuse 35) (not (c .before .find-recv .ensures i .there)) ∷ [])) unrefused))
 
 pub ask-faults-spec : {M : Type 1} → statement M
 ask-faults-spec =

@@ -11,7 +11,7 @@ returns : tie.Need-returns
 returns c =
     let a = c .before .before .before .before .before .before .args in
     let p = arrivalPair (arrivalOf (a .source .now) (a .destination .now) (a .segment .now)) in
-    not-opened (a .table .now) p (a .isn) (recvEntry (a .table .now) p (keyId (a .segment .now)) .entry) (a .o) (c .before .match .keys2) (c .empty .ensures)
+    not-opened (tablesOf (a .keys .now) (a .md5 .now)) p (a .isn) (recvEntry (tablesOf (a .keys .now) (a .md5 .now)) p (keyId (a .segment .now)) .entry) (a .o) (c .before .match .keys2) (c .empty .ensures)
 
 arrival-pair-requires : tie.Need-arrival-pair-requires
 arrival-pair-requires c κs = c .before .before .before .before .before .before .before .pre _ _ (c .before .o .given .1) .addresses
@@ -21,7 +21,7 @@ returns-2 c =
     let a = c .before .before .before .before .before .before .before .before .before .before .before .args in
     let good = c .before .before .before .before .before .o .given .1 in
     let taken = c .before .before .before .before .before .before .before .before .before .before .before .pre _ _ good in
-    opened-is (a .table .now) (arrivalOf (a .source .now) (a .destination .now) (a .segment .now)) (a .isn) good (c .before .sequence .ensures) (taken .position)
+    opened-is (tablesOf (a .keys .now) (a .md5 .now)) (arrivalOf (a .source .now) (a .destination .now) (a .segment .now)) (a .isn) good (c .before .sequence .ensures) (taken .position)
     (c .before .before .before .arrival-pair .ensures) (taken .found) (c .before .before .next-key .ensures) (c .opened .ensures)
 
 pub opened-by-spec : {M : Type 1} → statement M

@@ -9,8 +9,8 @@ returns : tie.Need-returns
 returns c =
     let a = c .before .before .before .before .before .before .args in
     let gave =
-    at-input (a .table .now) (a .segment .now) (a .room) (a .state) (c .before .before .input-faults .ensures) (c .before .match .keys2) in
-    nothing-begins (a .table .now) (a .segment .now) (a .room) (a .state) (c .nothing .ensures) gave (c .before .match .keys2)
+    at-input (tablesOf (a .keys .now) (a .md5 .now)) (a .segment .now) (a .room) (a .state) (c .before .before .input-faults .ensures) (c .before .match .keys2) in
+    nothing-begins (tablesOf (a .keys .now) (a .md5 .now)) (a .segment .now) (a .room) (a .state) (c .nothing .ensures) gave (c .before .match .keys2)
 
 returns-2 : tie.Need-returns-2
 returns-2 c =
@@ -19,9 +19,9 @@ returns-2 c =
     let i = f .before .before .before .before in
     let a = i .before .before .before .before .args in
     let gave =
-    at-signing (a .table .now) (a .segment .now) (a .room) (a .state) (i .input-faults .ensures) (f .before .before .enum-told .given .1)
+    at-signing (tablesOf (a .keys .now) (a .md5 .now)) (a .segment .now) (a .room) (a .state) (i .input-faults .ensures) (f .before .before .enum-told .given .1)
     (f .find-send .ensures) (p .before .added-bytes .ensures) (f .before .header-of .ensures) (p .sign-faults .ensures) in
-    nothing-begins (a .table .now) (a .segment .now) (a .room) (a .state) (c .nothing2 .ensures) gave (c .before .match2 .keys2)
+    nothing-begins (tablesOf (a .keys .now) (a .md5 .now)) (a .segment .now) (a .room) (a .state) (c .nothing2 .ensures) gave (c .before .match2 .keys2)
 
 ready-requires : tie.Need-ready-requires
 ready-requires c κs =
@@ -30,9 +30,9 @@ ready-requires c κs =
     let i = f .before .before .before .before in
     let a = i .before .before .before .before .args in
     let gave =
-    at-signing (a .table .now) (a .segment .now) (a .room) (a .state) (i .input-faults .ensures) (f .before .before .enum-told .given .1)
+    at-signing (tablesOf (a .keys .now) (a .md5 .now)) (a .segment .now) (a .room) (a .state) (i .input-faults .ensures) (f .before .before .enum-told .given .1)
     (f .find-send .ensures) (p .before .added-bytes .ensures) (f .before .header-of .ensures) (p .sign-faults .ensures) in
-    may-start (a .table .now) (a .segment .now) (a .room) (a .state) (f .find-send .ensures) gave (c .before .outcome .given .1)
+    may-start (tablesOf (a .keys .now) (a .md5 .now)) (a .segment .now) (a .room) (a .state) (f .find-send .ensures) gave (c .before .outcome .given .1)
     (p .before .added-bytes .ensures) (f .before .header-of .ensures)
 
 returns-3 : tie.Need-returns-3
@@ -42,9 +42,9 @@ returns-3 c =
     let i = f .before .before .before .before in
     let a = i .before .before .before .before .args in
     let gave =
-    at-signing (a .table .now) (a .segment .now) (a .room) (a .state) (i .input-faults .ensures) (f .before .before .enum-told .given .1)
+    at-signing (tablesOf (a .keys .now) (a .md5 .now)) (a .segment .now) (a .room) (a .state) (i .input-faults .ensures) (f .before .before .enum-told .given .1)
     (f .find-send .ensures) (p .before .added-bytes .ensures) (f .before .header-of .ensures) (p .sign-faults .ensures) in
-    begins (a .table .now) (a .segment .now) (a .room) (a .state) (f .find-send .ensures) gave (c .before .before .outcome .given .1)
+    begins (tablesOf (a .keys .now) (a .md5 .now)) (a .segment .now) (a .room) (a .state) (f .find-send .ensures) gave (c .before .before .outcome .given .1)
     (c .ready .ensures)
 
 pub begin-spec : {M : Type 1} → statement M

@@ -21,14 +21,14 @@ finish-requires : tie.Need-finish-requires
 finish-requires c κs =
     let o = c .before .before .before .before .begin in
     let a = c .before .before .before .before .before .before .before .before .args in
-    may-write (a .table .now) (a .segment .now) (a .out .now) (a .state) (o .result) (o .ensures) (c .before .before .outcome .given .1)
+    may-write (tablesOf (a .keys .now) (a .md5 .now)) (a .segment .now) (a .out .now) (a .state) (o .result) (o .ensures) (c .before .before .outcome .given .1)
 
 add-t17 : tie.Need-add-t17
 add-t17 c =
     let p = c .before .before .before .before .before in
     let o = p .before .before .begin in
     let a = p .before .before .before .before .before .before .args in
-    let w = sum-fits (a .table .now) (a .segment .now) (a .out .now) (a .state) (o .result) (o .ensures) (p .outcome .given .1) in
+    let w = sum-fits (tablesOf (a .keys .now) (a .md5 .now)) (a .segment .now) (a .out .now) (a .state) (o .result) (o .ensures) (p .outcome .given .1) in
     record { fits = omega (arith, w) }
 
 returns : tie.Need-returns
@@ -36,16 +36,16 @@ returns c =
     let p = c .before .before .before .before .before .before in
     let o = p .before .before .begin in
     let a = p .before .before .before .before .before .before .args in
-    let n = adds (a .table .now) (a .segment .now) (a .out .now) (a .state) (o .result) (o .ensures) (p .outcome .given .1) in
+    let n = adds (tablesOf (a .keys .now) (a .md5 .now)) (a .segment .now) (a .out .now) (a .state) (o .result) (o .ensures) (p .outcome .given .1) in
     let st = p .before .before .before .before .before .before in
-    let b = writes (a .table .now) (a .segment .now) (a .out .now) (a .state) (o .result) (o .ensures) (p .outcome .given .1)
+    let b = writes (tablesOf (a .keys .now) (a .md5 .now)) (a .segment .now) (a .out .now) (a .state) (o .result) (o .ensures) (p .outcome .given .1)
     (local st) (remote st) (c .before .before .before .finish .ensures) in
-    let e = answers (a .table .now) (a .segment .now) (a .out .now) (a .state) (o .result) (o .ensures) _ (p .outcome .given .1)
+    let e = answers (tablesOf (a .keys .now) (a .md5 .now)) (a .segment .now) (a .out .now) (a .state) (o .result) (o .ensures) _ (p .outcome .given .1)
     (λ i. record { answer = S.Signed (length (a .segment .now) + n i); index = 0; state = c .with-sent .ensures i }) in (
       e,
       (
-        outputs (a .table .now) (a .segment .now) (a .out .now) (a .state) (o .result) (o .ensures) _ (p .outcome .given .1) b,
-        signed-numbered (a .table .now) (a .segment .now) (a .out .now) (a .state) e,
+        outputs (tablesOf (a .keys .now) (a .md5 .now)) (a .segment .now) (a .out .now) (a .state) (o .result) (o .ensures) _ (p .outcome .given .1) b,
+        signed-numbered (tablesOf (a .keys .now) (a .md5 .now)) (a .segment .now) (a .out .now) (a .state) e,
       ),
     )
 
@@ -54,11 +54,11 @@ returns-2 c =
     let o = c .before .before .before .begin in
     let a = c .before .before .before .before .before .before .before .args in
     let g = c .before .enum-told .given .1 in
-    let e = answers (a .table .now) (a .segment .now) (a .out .now) (a .state) (o .result) (o .ensures) Passed g (c .refused .ensures) in (
+    let e = answers (tablesOf (a .keys .now) (a .md5 .now)) (a .segment .now) (a .out .now) (a .state) (o .result) (o .ensures) Passed g (c .refused .ensures) in (
       e,
       (
-        outputs (a .table .now) (a .segment .now) (a .out .now) (a .state) (o .result) (o .ensures) Passed g refl,
-        signed-numbered (a .table .now) (a .segment .now) (a .out .now) (a .state) e,
+        outputs (tablesOf (a .keys .now) (a .md5 .now)) (a .segment .now) (a .out .now) (a .state) (o .result) (o .ensures) Passed g refl,
+        signed-numbered (tablesOf (a .keys .now) (a .md5 .now)) (a .segment .now) (a .out .now) (a .state) e,
       ),
     )
 
@@ -67,11 +67,11 @@ returns-3 c =
     let o = c .before .before .before .before .begin in
     let a = c .before .before .before .before .before .before .before .before .args in
     let g = c .before .before .outcome2 .given .1 in
-    let e = answers (a .table .now) (a .segment .now) (a .out .now) (a .state) (o .result) (o .ensures) _ g (c .refused2 .ensures) in (
+    let e = answers (tablesOf (a .keys .now) (a .md5 .now)) (a .segment .now) (a .out .now) (a .state) (o .result) (o .ensures) _ g (c .refused2 .ensures) in (
       e,
       (
-        outputs (a .table .now) (a .segment .now) (a .out .now) (a .state) (o .result) (o .ensures) _ g refl,
-        signed-numbered (a .table .now) (a .segment .now) (a .out .now) (a .state) e,
+        outputs (tablesOf (a .keys .now) (a .md5 .now)) (a .segment .now) (a .out .now) (a .state) (o .result) (o .ensures) _ g refl,
+        signed-numbered (tablesOf (a .keys .now) (a .md5 .now)) (a .segment .now) (a .out .now) (a .state) e,
       ),
     )
 
