@@ -18,6 +18,7 @@ ghost use Rattle.checks.specs.Begin.{Begins, Fed, macLength, agrees, end
 use keys::entry::Entry;
 use keys::entry::Ids;
 use keys::table::Found;
+use rules::NO_INDEX;
 use rules::Outcome;
 use rules::Place;
 use states::position::extension_of;
@@ -126,6 +127,48 @@ pub(crate) fn by_key(
     };
     let rnext = byte_at(segment, 20 + option.at + 3);
     ready(x, rnext, entry, flow, option, segment)
+}
+
+// Behind 27, on the MD5 way: the digest that the option carries, and the digest after its front.
+fn ready_md5(number: u32, entry: Entry, flow: Flow, option: Occurrence, segment: &[u8]) -> Begun {
+    let secret = entry.secret;
+    let end = wire::header::header_end(segment);
+    let from = 20 + option.at + 2;
+    let carried = carried_mac(&segment[from..from + 16]);
+    let mac = traffic::digest::begin(secret, flow, segment.len(), &segment[..end]);
+    Begun {
+        outcome: Outcome::Good(number as u64, 0),
+        ids: Ids { send: 0, recv: 0 },
+        mac,
+        carried,
+        mac_bytes: 16,
+    }
+}
+
+// Ticket 9, the MD5 way: 46, 47, 26, 27. `ao` says how many TCP-AO options there are, `option` is the segment's MD5 option, `found` the
+// MD5 entry that matches the pair.
+pub(crate) fn by_md5(
+    found: Found,
+    flow: Flow,
+    number: u32,
+    ao: usize,
+    option: Occurrence,
+    segment: &[u8],
+) -> Begun {
+    let entry = found.entry;
+    if 0 < ao {
+        return nothing(Outcome::Bad(46, NO_INDEX));
+    }
+    if option.count == 0 {
+        return nothing(Outcome::Bad(47, NO_INDEX));
+    }
+    if !found.there {
+        return nothing(Outcome::Bad(26, NO_INDEX));
+    }
+    if option.len != 18 {
+        return nothing(Outcome::Bad(27, NO_INDEX));
+    }
+    ready_md5(number, entry, flow, option, segment)
 }
 
 // How many bytes a MAC has: what its length says, but never more than there is room for.

@@ -24,6 +24,7 @@ use crate::verify::key_id;
 use keys::entry::Pair;
 use keys::table::Found;
 use rules::Connection;
+use rules::NO_INDEX;
 use rules::Outcome;
 use rules::Place;
 use states::position::place_on;

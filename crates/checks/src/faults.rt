@@ -9,21 +9,22 @@ ghost use Rattle.rules.specs.Calls.{unrefused, familyTests, addressTests, table
 ghost use Rattle.checks.specs.Groups.{intactTests, countTests, optionTests, headerPairTests, headerStageTests, headerSynTests};
 ghost use Rattle.checks.specs.Groups.{headerArrivalTests};
 use keys::entry::Pair;
-use keys::table::Loaded;
 use rules::Connection;
+use rules::NO_INDEX;
 use rules::Outcome;
 use states::writers::is_address;
 use states::writers::is_open;
+use tables::Admitted;
 use wire::header::Header;
 use wire::options::Options;
 
-// 10 to 17, with the entry's index.
+// 10 to 17 and 45, with the entry's table and index.
 pub fn table_faults(keys: &[u8], md5: &[u8]) -> Outcome
     ensures { λ r. ⌜ r ≡ first (tableTests (tablesOf (now (keys .entry)) (now (md5 .entry)))) unrefused ⌝ }
 {
     match tables::check(keys, md5) {
-        Loaded::Valid(_) => Outcome::Good(0, 0),
-        Loaded::Refused(n, i) => Outcome::Bad(n, i),
+        Admitted::Valid(_) => Outcome::Good(0, 0),
+        Admitted::Refused(n, i) => Outcome::Bad(n, i),
     }
 }
 
@@ -89,7 +90,7 @@ fn state_faults(
     input_faults(keys, md5, source, destination)
 }
 
-// 22: "two TCP-AO, or TCP-AO and MD5 together".
+// 22: "two TCP-AO, or TCP-AO and MD5 together"; Ticket 9: "Two kind 19 give 22".
 fn option_faults(ao: usize, md5: usize) -> Outcome
     ensures { λ r. ⌜ r ≡ first (countTests ao md5) unrefused ⌝ }
 {
@@ -97,6 +98,9 @@ fn option_faults(ao: usize, md5: usize) -> Outcome
         return Outcome::Bad(22, NO_INDEX);
     }
     if ao == 0 {
+        if 1 < md5 {
+            return Outcome::Bad(22, NO_INDEX);
+        }
         return Outcome::Good(0, 0);
     }
     if md5 == 0 {

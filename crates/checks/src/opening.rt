@@ -8,6 +8,7 @@ ghost use Rattle.rules.specs.Calls.{refuse, tableTests, askTests, unrefused};
 use crate::faults::family_faults;
 use crate::faults::table_faults;
 use rules::Connection;
+use rules::NO_INDEX;
 use rules::Outcome;
 
 // 10 to 17, then 35, where no entry answers.

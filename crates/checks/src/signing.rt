@@ -15,6 +15,7 @@ use crate::faults::family_faults;
 use crate::faults::table_faults;
 use keys::entry::Pair;
 use rules::Connection;
+use rules::NO_INDEX;
 use rules::Outcome;
 use rules::Place;
 use rules::State;

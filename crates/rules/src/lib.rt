@@ -10,6 +10,9 @@ pub enum Place {
     Nowhere,
 }
 
+// Where a number names no entry.
+pub const NO_INDEX: Index = Index { table: 0, entry: 0 };
+
 // What the tests of an arriving or outgoing segment come to: its position and RNextKeyID; pass; or document 01's or 02's number, with the
 // entry's table and index beside 10 to 17 and 45, and zeros beside every other number.
 pub enum Outcome {

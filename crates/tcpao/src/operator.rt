@@ -1,4 +1,4 @@
-// What the operator calls: the check of a key keys, md5, and the RecvID asked of the peer. Document 01, "Key table (house bytes)" and
+// What the operator calls: the check of a key table, and the RecvID asked of the peer. Document 01, "Key table (house bytes)" and
 // "A connection's life", "An operator call sets the RecvID asked of the peer; nothing else does." Assumes nothing.
 ghost use mathlib.Core.Path.{_≡_};
 ghost use Rattle.tables.specs.Tables.{checked};
