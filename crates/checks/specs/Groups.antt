@@ -75,7 +75,3 @@ arrivingOn p sourceIsn destinationIsn =
       sourceIsn = sourceIsn;
       destinationIsn = destinationIsn;
     }
-
--- what is given where no test applies
-abbrev pub goodAt : Place → List ℕ → Outcome
-goodAt x s = Good (value x) (rnextKeyId s)

@@ -70,7 +70,7 @@ fn entry_for(keys: &[u8], md5: &[u8], pair: Pair, option: Occurrence, segment: &
     tables::find_recv(keys, md5, pair, key_id(option, segment))
 }
 
-// 25 to 28 with a state, on a table that is not refused.
+// 25 to 28 with a state, on tables that are not refused, by TCP-AO.
 fn keyed(
     keys: &[u8],
     md5: &[u8],
@@ -99,6 +99,37 @@ fn keyed(
         option,
         segment,
     )
+}
+
+// Ticket 9: 46, 47, 26 and 27, by MD5, under the entry that matches the pair.
+fn keyed_md5(found: Found, segment: &[u8], header: Header, flow: Flow) -> Begun {
+    let options = header.options;
+    by_md5(
+        found,
+        flow,
+        header.sequence,
+        carried(options).count,
+        carried_md5(options),
+        segment,
+    )
+}
+
+// "A connection goes by the way it was opened and never accepts the other".
+fn keyed_by_way(
+    keys: &[u8],
+    md5: &[u8],
+    segment: &[u8],
+    header: Header,
+    conn: Connection,
+    reference: u64,
+) -> Begun {
+    if !is_md5(conn) {
+        return keyed(keys, md5, segment, header, conn, reference);
+    }
+    let pair = conn.pair;
+    let found = tables::find_md5(keys, md5, pair);
+    let flow = arriving_flow(pair, peer_isn(conn, header.sequence), conn.isn);
+    keyed_md5(found, segment, header, flow)
 }
 
 // With a state, opening or open: every test but 29.
