@@ -104,10 +104,24 @@ KeyedSyn t p strict f s b =
     (goodBy false (At (sequence s)) s))
     (byAo (recvEntry t p (keyId s) .entry) f s) b
 
--- by MD5, on a pair and of its flow
-abbrev pub KeyedMd5 : Tables → Pair → Flow → List ℕ → Begun → Type 0
-KeyedMd5 t p f s b =
-    Begins (first (md5Tests (md5Entry t p) s) (goodBy true (At (sequence s)) s)) (byMd5 (md5Entry t p .entry) f s) b
+-- by either way
+abbrev pub KeyedByWay : Tables → Connection → ℕ → List ℕ → Begun → Type 0
+KeyedByWay t l reference s b =
+    Begins
+    (first
+    (cond (isMd5 l) (md5Tests (md5Entry t (l .pair)) s)
+    (keyTests (refuse 25) (refuse 26) (recvEntry t (l .pair) (keyId s)) (placeOn l reference (sequence s)) s))
+    (goodBy (isMd5 l) (placeOn l reference (sequence s)) s))
+    (expected t l s) b
+
+abbrev pub KeyedSynByWay : Tables → Pair → Bool → Flow → List ℕ → Begun → Type 0
+KeyedSynByWay t p strict f s b =
+    Begins
+    (first
+    (cond (synIsMd5 t p) (md5Tests (md5Entry t p) s)
+    (keyTests (synMissing t p) (synUnknown t p strict) (recvEntry t p (keyId s)) (At (sequence s)) s))
+    (goodBy (synIsMd5 t p) (At (sequence s)) s))
+    (expectedSyn t p f s) b
 
 -- data go into the MAC, and nothing else changes
 pub record Fed (b : Begun) (d : List ℕ) (c : Begun) : Type 0 where

@@ -4,15 +4,18 @@ ghost use mathlib.Core.Path.{_≡_};
 ghost use mathlib.Core.Bool.{true, false, cond, _||_};
 ghost use Rattle.wire.specs.Header.{sequence as sequenceOf, wellSized, headerOf};
 ghost use lib.ListN.{length};
-ghost use Rattle.tables.specs.Tables.{checked, recvEntry};
+ghost use Rattle.tables.specs.Tables.{tablesOf, recvEntry};
 ghost use Rattle.rules.specs.Segment.{ao, keyId};
 ghost use Rattle.rules.specs.Connection.{sized, arrivalOf, arrivalPair, isOpen};
-ghost use Rattle.rules.specs.Calls.{isRefused, refuse, check as checkOf, checkSyn};
+ghost use Rattle.octets.specs.Tests.{first};
+ghost use Rattle.rules.specs.Calls.{isRefused, refuse, md5Tests, goodBy, check as checkOf, checkSyn};
+ghost use Rattle.rules.specs.declared.Place.the-variants.{At};
 ghost use Rattle.traffic.specs.Flow.{flowOf};
 ghost use Rattle.checks.specs.Groups.{arrivingOn};
-ghost use Rattle.checks.specs.Begin.{Judges, JudgesSyn, Keyed, KeyedSyn};
+ghost use Rattle.checks.specs.Begin.{Begins, byMd5, Judges, JudgesSyn, Keyed, KeyedByWay, KeyedSyn, KeyedSynByWay};
 use crate::begun::Begun;
 use crate::begun::by_key;
+use crate::begun::by_md5;
 use crate::begun::finished;
 use crate::begun::nothing;
 use crate::faults::early_faults;
@@ -20,6 +23,7 @@ use crate::faults::early_syn_faults;
 use crate::faults::formed_faults;
 use crate::faults::formed_syn_faults;
 use crate::verify::carried;
+use crate::verify::carried_md5;
 use crate::verify::key_id;
 use keys::entry::Pair;
 use keys::table::Found;
@@ -28,6 +32,7 @@ use rules::NO_INDEX;
 use rules::Outcome;
 use rules::Place;
 use states::position::place_on;
+use states::writers::is_md5;
 use states::writers::is_open;
 use states::writers::pair_of;
 use traffic::flow::Flow;
@@ -102,7 +107,12 @@ fn keyed(
 }
 
 // Ticket 9: 46, 47, 26 and 27, by MD5, under the entry that matches the pair.
-fn keyed_md5(found: Found, segment: &[u8], header: Header, flow: Flow) -> Begun {
+fn keyed_md5(found: Found, segment: &[u8], header: Header, flow: Flow) -> Begun
+    requires { ⌜ (wellSized (now segment) ≡ true) × (header ≡ headerOf (length (now segment)) (now segment)) ⌝ }
+    ensures { λ r. ⌜ Begins
+        (first (md5Tests found (now (segment .entry))) (goodBy true (At (sequenceOf (now (segment .entry)))) (now (segment .entry))))
+        (byMd5 (found .entry) (flowOf flow) (now (segment .entry))) r ⌝ }
+{
     let options = header.options;
     by_md5(
         found,
@@ -122,7 +132,11 @@ fn keyed_by_way(
     header: Header,
     conn: Connection,
     reference: u64,
-) -> Begun {
+) -> Begun
+    requires { ⌜ (isRefused (tablesOf (now keys) (now md5) .answer) ≡ false) × (wellSized (now segment) ≡ true)
+        × (header ≡ headerOf (length (now segment)) (now segment)) ⌝ }
+    ensures { λ r. ⌜ KeyedByWay (tablesOf (now (keys .entry)) (now (md5 .entry))) conn reference (now (segment .entry)) r ⌝ }
+{
     if !is_md5(conn) {
         return keyed(keys, md5, segment, header, conn, reference);
     }
@@ -154,7 +168,7 @@ pub fn begin(
     let Outcome::Good(_, _) = formed else {
         return nothing(formed);
     };
-    keyed(keys, md5, segment, header, conn, reference)
+    keyed_by_way(keys, md5, segment, header, conn, reference)
 }
 
 // The whole of it.
@@ -247,7 +261,29 @@ fn keyed_syn(
     )
 }
 
-// A bare SYN, without a state: every test but 29, with the IDs of the entry that was found.
+// Ticket 9: "a bare SYN without one by the table that matches, else as before".
+fn keyed_syn_by_way(
+    keys: &[u8],
+    md5: &[u8],
+    segment: &[u8],
+    header: Header,
+    pair: Pair,
+    strict: bool,
+) -> Begun
+    requires { ⌜ (isRefused (tablesOf (now keys) (now md5) .answer) ≡ false) × (wellSized (now segment) ≡ true)
+        × (header ≡ headerOf (length (now segment)) (now segment)) ⌝ }
+    ensures { λ r. ⌜ KeyedSynByWay (tablesOf (now (keys .entry)) (now (md5 .entry))) pair strict
+        (arrivingOn pair (sequenceOf (now (segment .entry))) 0) (now (segment .entry)) r ⌝ }
+{
+    let found = tables::find_md5(keys, md5, pair);
+    if !found.there {
+        return keyed_syn(keys, md5, segment, header, pair, strict);
+    }
+    let flow = arriving_flow(pair, header.sequence, 0);
+    keyed_md5(found, segment, header, flow)
+}
+
+// A bare SYN, without a state: every test but 29, with the way and the IDs of the entry that was found.
 pub fn begin_syn(
     keys: &[u8],
     md5: &[u8],
@@ -269,7 +305,7 @@ pub fn begin_syn(
         return nothing(formed);
     };
     let pair = arrival_pair(source, destination, segment);
-    keyed_syn(keys, md5, segment, header, pair, strict)
+    keyed_syn_by_way(keys, md5, segment, header, pair, strict)
 }
 
 // The whole of it.

@@ -10,8 +10,9 @@ use crate::faults::table_faults;
 use rules::Connection;
 use rules::NO_INDEX;
 use rules::Outcome;
+use states::writers::is_md5;
 
-// 10 to 17, then 35, where no entry answers.
+// 10 to 17 and 45, then 35, where no entry answers.
 pub fn key_faults(keys: &[u8], md5: &[u8], there: bool) -> Outcome
     ensures { λ r. ⌜ r ≡ first (tableTests (tablesOf (now (keys .entry)) (now (md5 .entry))) ++ (test (refuse 35) (not there) ∷ [])) unrefused ⌝ }
 {
@@ -25,7 +26,7 @@ pub fn key_faults(keys: &[u8], md5: &[u8], there: bool) -> Outcome
     Outcome::Bad(35, NO_INDEX)
 }
 
-// Which number: 18, 10 to 17, then 35, "no entry matching the pair has .. the RecvID to ask".
+// Which number: 18, 10 to 17 and 45, then 35, "no entry matching the pair has .. the RecvID to ask"; Ticket 9: by MD5 "always 35".
 pub fn ask_faults(keys: &[u8], md5: &[u8], recv_id: u8, conn: Connection) -> Outcome
     ensures { λ r. ⌜ r ≡ first (askTests (tablesOf (now (keys .entry)) (now (md5 .entry))) «recv_id» conn) unrefused ⌝ }
 {
@@ -33,6 +34,9 @@ pub fn ask_faults(keys: &[u8], md5: &[u8], recv_id: u8, conn: Connection) -> Out
     let Outcome::Good(_, _) = family else {
         return family;
     };
+    if is_md5(conn) {
+        return key_faults(keys, md5, false);
+    }
     let found = tables::find_recv(keys, md5, conn.pair, recv_id);
     key_faults(keys, md5, found.there)
 }

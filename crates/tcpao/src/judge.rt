@@ -3,8 +3,9 @@
 ghost use mathlib.Core.Path.{_≡_};
 ghost use mathlib.Core.Bool.{false, cond};
 ghost use Rattle.rules.specs.Answers.{verdictAnswer, judgedNumber, synNumber};
-ghost use Rattle.rules.specs.Connection.{arrivalOf, isOpen, nextKey, withDrop};
-ghost use Rattle.rules.specs.Calls.{verdictOf, indexOf, afterJudging, judged, judgedSyn, openedPassively};
+ghost use Rattle.rules.specs.Connection.{arrivalOf, isOpen, isMd5, nextKey, withAccepted, withCounted, withDrop};
+ghost use Rattle.tables.specs.Tables.{tablesOf};
+ghost use Rattle.rules.specs.Calls.{verdictOf, indexOf, nextOn, afterJudging, judged, judgedSyn, openedPassively};
 ghost use Rattle.tcpao.specs.Arriving.{AtNumber, TakenBy, openedFrom};
 use checks::begun::finished;
 use checks::check::arrival_pair;
@@ -14,16 +15,20 @@ use checks::check::check_syn;
 use keys::entry::Ids;
 use keys::entry::Pair;
 use rules::Judged;
+use rules::NO_INDEX;
 use rules::Outcome;
 use rules::State;
 use rules::SynJudged;
 use rules::Verdict;
 use states::position::extension_of;
 use states::writers::empty;
+use states::writers::is_md5;
 use states::writers::is_open;
 use states::writers::opened;
 use states::writers::with_accepted;
+use states::writers::with_counted;
 use states::writers::with_drop;
+use tables::Index;
 use wire::header::sequence;
 
 // "A verdict is accept with its extension, pass, or drop with a number."
@@ -37,13 +42,13 @@ fn verdict_of(o: Outcome) -> Verdict
     }
 }
 
-// The entry's index beside 10 to 17, else 0.
-fn index_of(o: Outcome) -> usize
+// The entry beside 10 to 17 and 45, else none.
+fn index_of(o: Outcome) -> Index
     ensures { λ r. ⌜ r ≡ indexOf o ⌝ }
 {
     match o {
-        Outcome::Good(_, _) => 0,
-        Outcome::Passed => 0,
+        Outcome::Good(_, _) => NO_INDEX,
+        Outcome::Passed => NO_INDEX,
         Outcome::Bad(_, i) => i,
     }
 }
@@ -62,7 +67,29 @@ fn next_key(keys: &[u8], md5: &[u8], pair: Pair, rnext: u8, current: u8) -> u8
     current
 }
 
-// An accepted segment at position x, whose number is `number`: it opens, or is counted and moves the reference.
+// The outgoing key after an acceptance: the key rule is TCP-AO's, and an MD5 connection's ID stays.
+fn next_on(keys: &[u8], md5: &[u8], q: State, rnext: u8) -> u8
+    ensures { λ r. ⌜ r ≡ nextOn (tablesOf (now (keys .entry)) (now (md5 .entry))) q rnext ⌝ }
+{
+    let conn = q.conn;
+    if is_md5(conn) {
+        return q.send_id;
+    }
+    next_key(keys, md5, conn.pair, rnext, q.send_id)
+}
+
+// An acceptance once open: it is counted and, by TCP-AO, moves the reference.
+fn accepted_on(q: State, x: u64, key: u8) -> State
+    ensures { λ r. ⌜ r ≡ cond (isMd5 (q .conn)) (withCounted q) (withAccepted x key q) ⌝ }
+{
+    let conn = q.conn;
+    if is_md5(conn) {
+        return with_counted(q);
+    }
+    with_accepted(x, key, q)
+}
+
+// An accepted segment at position x, whose number is `number`: it opens, the way as it is, or is accepted once open.
 fn accepted(keys: &[u8], md5: &[u8], q: State, x: u64, rnext: u8, number: u32) -> State
     requires { ⌜ (isOpen (q .conn) ≡ false → x ≡ number) ⌝ }
     ensures { λ r. ⌜ r ≡ afterJudging (tablesOf (now (keys .entry)) (now (md5 .entry))) q (Outcome.Good x rnext) ⌝ }
@@ -70,11 +97,11 @@ fn accepted(keys: &[u8], md5: &[u8], q: State, x: u64, rnext: u8, number: u32) -
     let conn = q.conn;
     let pair = conn.pair;
     let ask = q.ask_id;
-    let key = next_key(keys, md5, pair, rnext, q.send_id);
+    let key = next_on(keys, md5, q, rnext);
     if is_open(conn) {
-        return with_accepted(x, key, q);
+        return accepted_on(q, x, key);
     }
-    opened(pair, conn.isn, number, key, ask)
+    opened(conn.way, pair, conn.isn, number, key, ask)
 }
 
 // A drop is counted once open.
@@ -146,7 +173,7 @@ pub fn judge_syn(
     SynJudged { verdict, index }
 }
 
-// "only on accept, opens with the entry found, then applies the key rule": its IDs, which judging found.
+// "only on accept, opens with the entry found, then applies the key rule": its way and IDs, which judging found.
 fn opened_by(
     keys: &[u8],
     md5: &[u8],
@@ -154,10 +181,11 @@ fn opened_by(
     destination: &[u8],
     segment: &[u8],
     isn: u32,
+    way: u8,
     ids: Ids,
     o: Outcome,
 ) -> State
-    requires { ⌜ TakenBy (tablesOf (now keys) (now md5)) (arrivalOf (now source) (now destination) (now segment)) ids o ⌝ }
+    requires { ⌜ TakenBy (tablesOf (now keys) (now md5)) (arrivalOf (now source) (now destination) (now segment)) way ids o ⌝ }
     ensures { λ r. ⌜ r
         ≡ openedFrom (tablesOf (now (keys .entry)) (now (md5 .entry))) (arrivalOf (now (source .entry)) (now (destination .entry)) (now (segment .entry))) isn o ⌝ }
 {
@@ -165,8 +193,11 @@ fn opened_by(
         return empty();
     };
     let pair = arrival_pair(source, destination, segment);
+    if way == 1 {
+        return opened(1, pair, isn, sequence(segment), 0, 0);
+    }
     let key = next_key(keys, md5, pair, rnext, ids.send);
-    opened(pair, isn, sequence(segment), key, ids.recv)
+    opened(0, pair, isn, sequence(segment), key, ids.recv)
 }
 
 // "A second call takes the same SYN and our ISN, judges it again and, only on accept, opens".
@@ -186,11 +217,12 @@ pub fn open_passive(
         ≡ synNumber (tablesOf (now (keys .entry)) (now (md5 .entry))) (arrivalOf (now (source .entry)) (now (destination .entry)) (now (segment .entry))) strict ⌝ }
 {
     let begun = begin_syn(keys, md5, source, destination, segment, strict);
+    let way = begun.way;
     let ids = begun.ids;
     let o = finished(begun, segment);
     let verdict = verdict_of(o);
     let index = index_of(o);
-    let state = opened_by(keys, md5, source, destination, segment, isn, ids, o);
+    let state = opened_by(keys, md5, source, destination, segment, isn, way, ids, o);
     Judged {
         verdict,
         index,
