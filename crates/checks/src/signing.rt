@@ -6,7 +6,10 @@ ghost use mathlib.Core.Path.{_≡_};
 ghost use mathlib.Core.List.{[], _∷_, _++_};
 ghost use lib.Dec.{ltb};
 ghost use Rattle.octets.specs.Tests.{tests, first};
-ghost use Rattle.rules.specs.Segment.{optionBytes};
+ghost use mathlib.Core.Bool.{cond};
+ghost use Rattle.rules.specs.Segment.{optionBytes, md5OptionBytes};
+ghost use Rattle.rules.specs.Connection.{isMd5};
+ghost use Rattle.tables.specs.Tables.{tablesOf};
 ghost use Rattle.rules.specs.Calls.{refuse, unrefused, lengthTests};
 ghost use Rattle.checks.specs.SignGroups.{inputTests, freshLines, growthLines, portLines, stageLines};
 ghost use Rattle.checks.specs.SignGroups.{segmentLines, placeLines, outputLines, signed};
@@ -21,6 +24,7 @@ use rules::Place;
 use rules::State;
 use states::position::place_on;
 use states::position::value_of;
+use states::writers::is_md5;
 use states::writers::is_open;
 use wire::header::Header;
 use wire::options::Options;
@@ -30,6 +34,16 @@ pub fn added_bytes(n: u8) -> u16
     ensures { λ r. ⌜ r ≡ optionBytes n ⌝ }
 {
     (4 + n as u16 + 3) / 4 * 4
+}
+
+// Ticket 9: by MD5 its option and two kind 1 bytes.
+pub fn added_on(conn: Connection, n: u8) -> u16
+    ensures { λ r. ⌜ r ≡ cond (isMd5 conn) md5OptionBytes (optionBytes n) ⌝ }
+{
+    if is_md5(conn) {
+        return 20;
+    }
+    added_bytes(n)
 }
 
 // 31: "TCP-AO or MD5 present".

@@ -38,13 +38,31 @@ leavingSum e q s =
     addedTo begun
     (pseudoHeader (localAddress (q .conn .pair)) (remoteAddress (q .conn .pair)) (length s + optionBytes (e .«mac_bytes»)))
 
--- what waits for the data, at the position x under the secret e
+-- what waits for the data, at the position x under the secret e, by TCP-AO
 pub record Ready (x : ℕ) (e : Secret) (q : State) (s : List ℕ) (b : SignBegun) : Type 0 where
+  pub way : eqb (b .way) 1 ≡ false
   pub bytes : b .«mac_bytes» ≡ e .«mac_bytes»
   pub added : b .added ≡ optionBytes (e .«mac_bytes»)
   pub header : b .header ≡ padded 60 (blankHeader e q s)
   pub mac : macView (b .mac) ≡ fronted x e q s
   pub sum : b .sum ≡ leavingSum e q s
+
+-- by MD5
+abbrev pub blankMd5 : List ℕ → List ℕ
+blankMd5 s = inserted (md5Option (replicate 16 0)) (take (headerEnd s) s)
+
+pub record ReadyMd5 (e : Secret) (q : State) (s : List ℕ) (b : SignBegun) : Type 0 where
+  pub way : eqb (b .way) 1 ≡ true
+  pub bytes : b .«mac_bytes» ≡ 16
+  pub added : b .added ≡ md5OptionBytes
+  pub header : b .header ≡ padded 60 (blankMd5 s)
+  pub mac : macView (b .mac) ≡ digestedBy e (leaving (q .conn)) (length s + md5OptionBytes) (blankMd5 s)
+  pub sum : b .sum
+      ≡ addedTo begun (pseudoHeader (localAddress (q .conn .pair)) (remoteAddress (q .conn .pair)) (length s + md5OptionBytes))
+
+pub record StartsMd5 (x : ℕ) (e : Secret) (q : State) (s : List ℕ) (b : SignBegun) : Type 0 where
+  pub outcome : b .outcome ≡ Good x (q .«ask_id»)
+  pub ready : ReadyMd5 e q s b
 
 pub record Starts (x : ℕ) (e : Secret) (q : State) (s : List ℕ) (b : SignBegun) : Type 0 where
   pub outcome : b .outcome ≡ Good x (q .«ask_id»)
@@ -53,21 +71,27 @@ pub record Starts (x : ℕ) (e : Secret) (q : State) (s : List ℕ) (b : SignBeg
 -- only where the outcome is Good does the rest mean something
 pub record SignBegins (t : Tables) (s : List ℕ) (room : ℕ) (q : State) (b : SignBegun) : Type 0 where
   pub outcome : b .outcome ≡ checkSign t s room q
-  pub ready : (x r : ℕ) → checkSign t s room q ≡ Good x r → Ready x (outgoing t q .entry .secret) q s b
+  pub ready : isMd5 (q .conn) ≡ false → (x r : ℕ) → checkSign t s room q ≡ Good x r → Ready x (outgoing t q .entry .secret) q s b
+  pub ready-md5 : isMd5 (q .conn) ≡ true → (x r : ℕ) → checkSign t s room q ≡ Good x r → ReadyMd5 (outgoing t q .entry .secret) q s b
 
 -- data go into the MAC and the sum, and nothing else changes
 pub record Fed (b : SignBegun) (d : List ℕ) (c : SignBegun) : Type 0 where
   pub outcome : c .outcome ≡ b .outcome
+  pub way : c .way ≡ b .way
   pub added : c .added ≡ b .added
   pub header : c .header ≡ b .header
   pub bytes : c .«mac_bytes» ≡ b .«mac_bytes»
   pub mac : macView (c .mac) ≡ macAbsorb (macView (b .mac)) d
   pub sum : c .sum ≡ addedTo (b .sum) d
 
+-- where the MAC stands: behind the four bytes of TCP-AO, or the two of the MD5 option
+abbrev pub macPlace : ℕ → ℕ
+macPlace way = cond (eqb way 1) 22 24
+
 -- the MAC goes where its zeros stood
 abbrev pub withMac : SignBegun → MacView → List ℕ
 withMac b v =
-    paste (b .header) 24 (take (macLength (b .«mac_bytes»)) (macFinished v)) (length (take (macLength (b .«mac_bytes»)) (macFinished v)))
+    paste (b .header) (macPlace (b .way)) (take (macLength (b .«mac_bytes»)) (macFinished v)) (length (take (macLength (b .«mac_bytes»)) (macFinished v)))
 
 -- and so does the checksum, of a sum that the header ends
 abbrev pub checkedHeader : List ℕ → Sum → List ℕ

@@ -8,20 +8,27 @@ use Rattle.wire.specs.Header.{headerEnd}
 use Rattle.keys.specs.declared.entry.Secret.{Secret}
 use Rattle.rules.specs.Segment.{optionBytes}
 
--- the header's twenty bytes with w words more and the checksum zero, then the first four of a TCP-AO whose MAC has n bytes
-unfoldable pub headBytes : ℕ → ℕ → ℕ → ℕ → List ℕ → List ℕ
-headBytes w k r n h =
+-- the header's twenty bytes with w words more and the checksum zero, then the first four of an option
+unfoldable pub headBytes : ℕ → ℕ → ℕ → ℕ → ℕ → List ℕ → List ℕ
+headBytes w kind len third fourth h =
     getD h 0 0 ∷ getD h 1 0 ∷ getD h 2 0 ∷ getD h 3 0 ∷ getD h 4 0 ∷ getD h 5 0 ∷ getD h 6 0 ∷ getD h 7 0 ∷ getD h 8 0 ∷ getD h 9 0
     ∷ getD h 10 0 ∷ getD h 11 0 ∷ (getD h 12 0 + 16 * w) ∷ getD h 13 0 ∷ getD h 14 0 ∷ getD h 15 0 ∷ 0 ∷ 0 ∷ getD h 18 0 ∷ getD h 19 0
-    ∷ 29 ∷ (4 + n) ∷ k ∷ r ∷ []
+    ∷ kind ∷ len ∷ third ∷ fourth ∷ []
 
--- a header that has room for an option of so many bytes, which are those of a MAC of n bytes
-pub record Room (h : List ℕ) (added n : ℕ) : Type 0 where
+-- an option of len bytes with zeros behind its first four, padded by kind 1 bytes to so many
+abbrev pub blankOption : ℕ → ℕ → ℕ → ℕ → ℕ → List ℕ
+blankOption kind len third fourth added =
+    (kind ∷ len ∷ third ∷ fourth ∷ replicate (len - 4) 0) ++ replicate (added - len) 1
+
+-- a header that has room for an option of len bytes, padded to so many
+pub record Room (h : List ℕ) (added len : ℕ) : Type 0 where
   pub low : 20 ≤ length h
   pub long : length h + added ≤ 60
   pub words : getD h 12 0 + 16 * (added / 4) < 256
-  pub short : n ≤ 16
-  pub is : added ≡ optionBytes n
+  pub least : 4 ≤ len
+  pub fits : len ≤ added
+  pub near : added ≤ len + 3
+  pub whole : 4 * (added / 4) ≡ added
 
 -- what the tests 30, 32 and 35 leave of a segment and an entry's secret
 pub record Signable (s : List ℕ) (secret : Secret) : Type 0 where
@@ -29,3 +36,9 @@ pub record Signable (s : List ℕ) (secret : Secret) : Type 0 where
   pub inside : headerEnd s ≤ length s
   pub header : headerEnd s + optionBytes (secret .«mac_bytes») ≤ 60
   pub short : secret .«mac_bytes» ≤ 16
+
+-- by MD5: what the tests 30 and 32 leave of a segment
+pub record SignableMd5 (s : List ℕ) : Type 0 where
+  pub low : 20 ≤ headerEnd s
+  pub inside : headerEnd s ≤ length s
+  pub header : headerEnd s + md5OptionBytes ≤ 60
