@@ -21,7 +21,7 @@ returns-2 : tie.Need-returns-2
 returns-2 c =
     let ld = c .before in
     let t = ld .before in
-    let h = t .before .before .args .h in
+    let h = t .before .before .before .args .h in
     let lh : length h ≡ 8 = search needs in
     let lr : length (c .compress2 .result) ≡ 8 = search needs in
     compressed-in _ Sha256 (t .enum-told2 .given .1) sha256.compressWords _ _ _ _ _ _ _ (λ x. refl) (ld .load2 .ensures)
