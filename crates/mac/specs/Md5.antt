@@ -1,5 +1,5 @@
 -- MD5, RFC 1321: a hash with blocks of 64 bytes whose handling of a block, first registers and digest are those of the crate compression
--- (Md5Block), and of a message. Padding (§3.1, §3.2), blocks and chaining are those of `Blocks`; the count of bits has its lowest byte first.
+-- (Md5Block), and of a message. Padding (§3.1, §3.2), blocks and chaining are those of `Blocks`; the count of bits is low-order byte first.
 -- Assumes nothing.
 use Prim.Native.Nat.{ℕ}
 use mathlib.Core.List.{List}
