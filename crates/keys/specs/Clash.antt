@@ -1,11 +1,11 @@
 -- 17 exactly, as statements: document 01, "Key table (house bytes)" ("a table otherwise well formed is refused with 17 exactly if ..") and
 -- "Numbers given back" ("ID clash, at the later entry"); RFC 5925, section 3.1. LoadLaws proves them.
-use Prim.Native.Nat.{ℕ, _≤_, _<_}
+use Prim.Native.Nat.{ℕ, suc, _≤_, _<_}
 use mathlib.Core.Bool.{true, false}
 use mathlib.Core.Path.{_≡_}
 use mathlib.Core.List.{List, [], _∷_, _++_}
 use mathlib.Core.Logic.{_⊎_}
-use lib.ListN.{length}
+use lib.ListN.{length, take}
 use Rattle.octets.specs.Each.{Each, Octets}
 use Rattle.octets.specs.Tests.{Test}
 use Rattle.keys.specs.Entry.{Item, items, entries}
@@ -61,10 +61,14 @@ Passed (x ∷ l) = (x .applies ≡ false) × Passed l
 abbrev pub Formed : TableKind → Entry → Type 0
 Formed kind e = Passed (entryTests kind e)
 
+-- of an entry kind that the table has
+abbrev pub Listed : TableKind → Item → Type 0
+Listed kind x = kindListed kind x ≡ true
+
 -- every entry is whole and of a kind that the table has
 abbrev pub Sound : TableKind → List Item → Type 0
 Sound kind [] = Unit {0}
-Sound kind (x ∷ l) = (kindListed kind x ≡ true) × (x .whole ≡ true) × Sound kind l
+Sound kind (x ∷ l) = Listed kind x × (x .whole ≡ true) × Sound kind l
 
 -- "a table otherwise well formed": none of 10 to 16 applies to any entry
 pub record WellFormed (kind : TableKind) (limit : ℕ) (t : List ℕ) : Type 0 where
@@ -81,6 +85,7 @@ pub record ClashAt (kind : TableKind) (limit : ℕ) (t : List ℕ) (i : ℕ) : T
   pub split : entries t ≡ before ++ (entry ∷ after)
   pub index : length before ≡ i
   pub few : i < limit
+  pub listed : Each (Listed kind) (take (suc i) (items 0 t))
   pub formed : Each (Formed kind) before
   pub itself : Formed kind entry
   pub apart : NoConflict before
