@@ -33,6 +33,7 @@ pub mod ChecksumLaws
 pub mod JudgeLaws
 pub mod CountLaws
 pub mod RoundTripLaws
+pub mod InsertedLaws
 pub mod SigningLaws
 pub mod GrowthLaws
 pub mod DeliveryLaws
