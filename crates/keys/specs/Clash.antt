@@ -15,6 +15,7 @@ use Rattle.keys.specs.Table.{kindListed, entryTests, loaded}
 use Rattle.keys.specs.declared.entry.Entry.{Entry}
 use Rattle.keys.specs.declared.entry.Pair.{Pair}
 use Rattle.keys.specs.declared.table.TableKind.{TableKind}
+use Rattle.keys.specs.declared.table.TableKind.the-variants.{Md5}
 use Rattle.keys.specs.declared.table.Loaded.the-variants.{Refused}
 
 abbrev pub Family : ℕ → Type 0
@@ -109,3 +110,23 @@ RefusedConflicting = (kind : TableKind) (limit i : ℕ) (t : List ℕ) → Octet
 abbrev pub ConflictingRefused : Type 0
 ConflictingRefused = (kind : TableKind) (limit : ℕ) (t : List ℕ) → WellFormed kind limit t → Conflicting (entries t)
     → (i : ℕ) × (loaded kind limit t ≡ Refused 17 i)
+
+-- document 02, Ticket 9, of the MD5 table: "17 if two entries match one pair"
+pub record BothMatch (l : List Entry) : Type 0 where
+  pub earlier : ℕ
+  pub later : ℕ
+  pub one : Entry
+  pub two : Entry
+  pub at-earlier : At l earlier one
+  pub at-later : At l later two
+  pub order : earlier < later
+  pub pair : Pair
+  pub is-pair : IsPair pair
+  pub first : matches (one .selector) pair ≡ true
+  pub second : matches (two .selector) pair ≡ true
+
+abbrev pub Md5RefusedBoth : Type 0
+Md5RefusedBoth = (limit i : ℕ) (t : List ℕ) → Octets t → loaded Md5 limit t ≡ Refused 17 i → BothMatch (entries t)
+
+abbrev pub Md5BothRefused : Type 0
+Md5BothRefused = (limit : ℕ) (t : List ℕ) → WellFormed Md5 limit t → BothMatch (entries t) → (i : ℕ) × (loaded Md5 limit t ≡ Refused 17 i)

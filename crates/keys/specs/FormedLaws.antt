@@ -1,22 +1,29 @@
 -- What an entry's fields are that is given none of 13 to 16.
-use Prim.Native.Nat.{ℕ, _*_, _≤_}
-use mathlib.Core.Bool.{Bool, true, false}
-use mathlib.Core.Path.{_≡_, refl}
-use mathlib.Core.List.{List, _++_}
+use Prim.Native.Nat.{ℕ, zero, suc, _*_, _≤_}
+use mathlib.Core.Bool.{Bool, true, false, not}
+use mathlib.Core.Path.{_≡_, refl, sym, ap, _∙_}
+use mathlib.Core.List.{List, [], _∷_, _++_}
 use mathlib.Core.Logic.{_⊎_, inl, inr}
 use native.Mathlib.Omega.{arith}
 use lib.ListN.{length, drop}
 use lib.Dec.{eqb}
-use borrow.Author.Tests.{eqb-true, eqb-false, ltb-false, not-false}
+use borrow.Author.Tests.{eqb-true, eqb-false, ltb-false, not-true, not-false}
+use Rattle.octets.specs.Each.{Each}
 use Rattle.octets.specs.Tests.{Test}
 use Rattle.wire.specs.Prefix.{clearPast}
-use Rattle.keys.specs.Entry.{width}
+use Rattle.keys.specs.Algorithm.{macBytes}
+use Rattle.keys.specs.Entry.{body, width, macLength, secretOf, entryOf, Item, item, sound, items, entriesOf, entries}
 use Rattle.keys.specs.EntryLaws.{Shape}
-use Rattle.keys.specs.Table.{zeros, portRangeTests, sideTests, masterKeyTests}
-use Rattle.keys.specs.Clash.{Family, Passed, Formed}
+use Rattle.keys.specs.FaultLaws.{listed-sound}
+use Rattle.keys.specs.LoadLaws.{valid-formed, refused-conflicting, conflicting-refused}
+use Rattle.keys.specs.MatchLaws.{and-true}
+use Rattle.keys.specs.PlaceLaws.{each-at}
+use Rattle.keys.specs.Table.{zeros, portRangeTests, sideTests, masterKeyTests, loaded}
+use Rattle.keys.specs.Clash.{Family, Passed, Formed, Listed, Sound, Md5RefusedBoth, Md5BothRefused}
 use Rattle.keys.specs.declared.entry.Entry.{Entry}
 use Rattle.keys.specs.declared.table.TableKind.{TableKind}
 use Rattle.keys.specs.declared.table.TableKind.the-variants.{Keys, Md5}
+use Rattle.keys.specs.declared.table.Loaded.the-variants.{Valid}
 
 -- the tests that both tables have
 abbrev ownOf : Entry → List (Test ℕ)
@@ -108,3 +115,79 @@ md5-proper e f =
       send = omega arith;
       recv = omega arith;
     }
+
+-- both IDs of its entries are 0, so that two that match one pair are in conflict
+
+pub md5-refused-both : Md5RefusedBoth
+md5-refused-both limit i t o e =
+    let c = refused-conflicting Md5 limit i t o e in
+    let d = c .conflict in
+    record {
+      earlier = c .earlier;
+      later = c .later;
+      one = c .one;
+      two = c .two;
+      at-earlier = c .at-earlier;
+      at-later = c .at-later;
+      order = c .order;
+      pair = d .pair;
+      is-pair = d .is-pair;
+      first = d .first;
+      second = d .second;
+    }
+
+pub md5-both-refused : Md5BothRefused
+md5-both-refused limit t w c =
+    let a = md5-proper (c .one) (each-at (Formed Md5) (w .formed) (c .at-earlier)) in
+    let b = md5-proper (c .two) (each-at (Formed Md5) (w .formed) (c .at-later)) in
+    conflicting-refused Md5 limit t w
+    (record {
+      earlier = c .earlier;
+      later = c .later;
+      one = c .one;
+      two = c .two;
+      at-earlier = c .at-earlier;
+      at-later = c .at-later;
+      order = c .order;
+      conflict = record { pair = c .pair; is-pair = c .is-pair; first = c .first; second = c .second; shared = inl (a .send ∙ sym (b .send)) };
+    })
+
+-- the digest's length: kinds 4 and 6 have the algorithm's
+
+abbrev Plain : Item → Type 0
+Plain x = x .extended ≡ false → x .entry .secret .«mac_bytes» ≡ macBytes (x .entry .secret .algorithm)
+
+plain-mac : (s : List ℕ) → Plain (item s)
+unfolding item entryOf secretOf macLength
+plain-mac s h = rw h
+
+items-plain : (n : ℕ) (t : List ℕ) → Each Plain (items n t)
+unfolding items
+items-plain n [] = tt
+items-plain (suc n) (b ∷ t) = items-plain n t
+items-plain zero (b ∷ t) = go (sound (item (b ∷ t))) refl (items-plain (body b) t)
+  where
+    go : (c : Bool) → sound (item (b ∷ t)) ≡ c → Each Plain (items (body b) t) → Each Plain (items 0 (b ∷ t))
+    go true e ih = rw e (plain-mac (b ∷ t), ih)
+    go false e ih = rw e (plain-mac (b ∷ t), tt)
+
+abbrev Digest : Entry → Type 0
+Digest e = e .secret .«mac_bytes» ≡ 16
+
+digest-of : (x : Item) → Plain x → Listed Md5 x → Formed Md5 (x .entry) → Digest (x .entry)
+unfolding macBytes
+digest-of x p k f =
+    p (not-true _ (and-true (x .kind-known) (not (x .extended)) k .1)) ∙ ap macBytes (md5-proper (x .entry) f .algorithm)
+
+digests : (l : List Item) → Each Plain l → Sound Md5 l → Each (Formed Md5) (entriesOf l) → Each Digest (entriesOf l)
+unfolding entriesOf
+digests [] p s f = tt
+digests (x ∷ l) p s f =
+    let y = listed-sound Md5 x (s .0) (s .1) in
+    let g : Formed Md5 (x .entry) × Each (Formed Md5) (entriesOf l) = rw y at f in
+    rw y (digest-of x (p .0) (s .0) (g .0), digests l (p .1) (s .2) (g .1))
+
+pub md5-digests : (limit n : ℕ) (t : List ℕ) → loaded Md5 limit t ≡ Valid n → Each Digest (entries t)
+md5-digests limit n t e =
+    let w = valid-formed Md5 limit n t e .0 in
+    digests (items 0 t) (items-plain 0 t) (w .sound) (w .formed)

@@ -260,22 +260,23 @@ formed-valid kind limit t w a =
     ∙ ap Valid (let e : 0 + length (items 0 t) ≡ length (entries t) = omega arith in e)
 
 -- no number is above 17
+
+from-low : (kind : TableKind) (limit n i : ℕ) (l : List Item) (j : ℕ) (before : List Entry) → loadedFrom kind limit j before l ≡ Refused n i → n ≤ 17
+unfolding loadedFrom
+from-low kind limit n i [] j before q = let z : _≡_ {A = ℕ} 0 1 = cc in absurd (omega arith)
+from-low kind limit n i (x ∷ l) j before q = go (numberOf (loadTests kind limit j before x)) refl (from-low kind limit n i l (j + 1) (before ++ (x .entry ∷ [])))
+  where
+    go : (m : ℕ) → numberOf (loadTests kind limit j before x) ≡ m → (loadedFrom kind limit (j + 1) (before ++ (x .entry ∷ [])) l ≡ Refused n i → n ≤ 17) → n ≤ 17
+    go zero r ih = ih (rw r at q)
+    go (suc m) r ih =
+        let f : Refused (suc m) j ≡ Refused n i = rw r at q in
+        let a : suc m ≡ n = cc in
+        let b = number-low (loadTests kind limit j before x) (item-low kind before x) in
+        omega arith
+
 pub refused-low : (kind : TableKind) (limit n i : ℕ) (t : List ℕ) → loaded kind limit t ≡ Refused n i → n ≤ 17
 unfolding loaded
-refused-low kind limit n i t e = walk (items 0 t) 0 [] e
-  where
-    walk : (l : List Item) (j : ℕ) (before : List Entry) → loadedFrom kind limit j before l ≡ Refused n i → n ≤ 17
-    unfolding loadedFrom
-    walk [] j before q = let z : _≡_ {A = ℕ} 0 1 = cc in absurd (omega arith)
-    walk (x ∷ l) j before q = go (numberOf (loadTests kind limit j before x)) refl (walk l (j + 1) (before ++ (x .entry ∷ [])))
-      where
-        go : (m : ℕ) → numberOf (loadTests kind limit j before x) ≡ m → (loadedFrom kind limit (j + 1) (before ++ (x .entry ∷ [])) l ≡ Refused n i → n ≤ 17) → n ≤ 17
-        go zero r ih = ih (rw r at q)
-        go (suc m) r ih =
-            let f : Refused (suc m) j ≡ Refused n i = rw r at q in
-            let a : suc m ≡ n = cc in
-            let b = number-low (loadTests kind limit j before x) (item-low kind before x) in
-            omega arith
+refused-low kind limit n i t e = from-low kind limit n i (items 0 t) 0 [] e
 
 each-split : (P : Entry → Type 0) (a b : List Entry) (e : Entry) → Each P (a ++ (e ∷ b)) → Each P a × P e
 each-split P [] b e p = (tt, p .0)
