@@ -32,6 +32,8 @@ pub mod PortLaws
 pub mod ChecksumLaws
 pub mod JudgeLaws
 pub mod CountLaws
+pub mod LentLaws
+pub mod InsertedLaws
 pub mod RoundTripLaws
 pub mod SigningLaws
 pub mod GrowthLaws
