@@ -6,7 +6,6 @@ pub mod MatchLaws
 pub mod Table
 pub mod Places
 pub mod Clash
-pub mod Search
 pub mod FaultLaws
 pub mod PlaceLaws
 pub mod LoadLaws

@@ -2,14 +2,18 @@ pub mod Position
 pub mod Mac
 pub mod Checksum
 pub mod Segment
+pub mod Digest
 pub mod Connection
 pub mod Calls
+pub mod Lent
 pub mod Answers
 pub mod AnswerLaws
 pub mod Ends
 pub mod Demand2
+pub mod Demand2Md5
 pub mod Demand3
 pub mod History
+pub mod Ways
 pub mod Kept
 pub mod Refusals
 pub mod References
@@ -17,6 +21,7 @@ pub mod GivenNumbers
 pub mod Passes
 pub mod Growth
 pub mod Sentences
+pub mod Md5Sentences
 pub mod Examples
 pub mod ClearBits
 pub mod Inhabited

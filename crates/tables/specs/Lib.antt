@@ -1,0 +1,4 @@
+pub mod Tables
+pub mod Valid
+pub mod Search
+pub mod Crossing
