@@ -1,11 +1,11 @@
 -- 17 exactly, as statements: document 01, "Key table (house bytes)" ("a table otherwise well formed is refused with 17 exactly if ..") and
 -- "Numbers given back" ("ID clash, at the later entry"); RFC 5925, section 3.1. LoadLaws proves them.
-use Prim.Native.Nat.{ℕ, _≤_, _<_}
+use Prim.Native.Nat.{ℕ, suc, _≤_, _<_}
 use mathlib.Core.Bool.{true, false}
 use mathlib.Core.Path.{_≡_}
 use mathlib.Core.List.{List, [], _∷_, _++_}
 use mathlib.Core.Logic.{_⊎_}
-use lib.ListN.{length}
+use lib.ListN.{length, take}
 use Rattle.octets.specs.Each.{Each, Octets}
 use Rattle.octets.specs.Tests.{Test}
 use Rattle.keys.specs.Entry.{Item, items, entries}
@@ -15,6 +15,7 @@ use Rattle.keys.specs.Table.{kindListed, entryTests, loaded}
 use Rattle.keys.specs.declared.entry.Entry.{Entry}
 use Rattle.keys.specs.declared.entry.Pair.{Pair}
 use Rattle.keys.specs.declared.table.TableKind.{TableKind}
+use Rattle.keys.specs.declared.table.TableKind.the-variants.{Md5}
 use Rattle.keys.specs.declared.table.Loaded.the-variants.{Refused}
 
 abbrev pub Family : ℕ → Type 0
@@ -61,10 +62,14 @@ Passed (x ∷ l) = (x .applies ≡ false) × Passed l
 abbrev pub Formed : TableKind → Entry → Type 0
 Formed kind e = Passed (entryTests kind e)
 
+-- of an entry kind that the table has
+abbrev pub Listed : TableKind → Item → Type 0
+Listed kind x = kindListed kind x ≡ true
+
 -- every entry is whole and of a kind that the table has
 abbrev pub Sound : TableKind → List Item → Type 0
 Sound kind [] = Unit {0}
-Sound kind (x ∷ l) = (kindListed kind x ≡ true) × (x .whole ≡ true) × Sound kind l
+Sound kind (x ∷ l) = Listed kind x × (x .whole ≡ true) × Sound kind l
 
 -- "a table otherwise well formed": none of 10 to 16 applies to any entry
 pub record WellFormed (kind : TableKind) (limit : ℕ) (t : List ℕ) : Type 0 where
@@ -81,6 +86,7 @@ pub record ClashAt (kind : TableKind) (limit : ℕ) (t : List ℕ) (i : ℕ) : T
   pub split : entries t ≡ before ++ (entry ∷ after)
   pub index : length before ≡ i
   pub few : i < limit
+  pub listed : Each (Listed kind) (take (suc i) (items 0 t))
   pub formed : Each (Formed kind) before
   pub itself : Formed kind entry
   pub apart : NoConflict before
@@ -104,3 +110,23 @@ RefusedConflicting = (kind : TableKind) (limit i : ℕ) (t : List ℕ) → Octet
 abbrev pub ConflictingRefused : Type 0
 ConflictingRefused = (kind : TableKind) (limit : ℕ) (t : List ℕ) → WellFormed kind limit t → Conflicting (entries t)
     → (i : ℕ) × (loaded kind limit t ≡ Refused 17 i)
+
+-- document 02, Ticket 9, of the MD5 table: "17 if two entries match one pair"
+pub record BothMatch (l : List Entry) : Type 0 where
+  pub earlier : ℕ
+  pub later : ℕ
+  pub one : Entry
+  pub two : Entry
+  pub at-earlier : At l earlier one
+  pub at-later : At l later two
+  pub order : earlier < later
+  pub pair : Pair
+  pub is-pair : IsPair pair
+  pub first : matches (one .selector) pair ≡ true
+  pub second : matches (two .selector) pair ≡ true
+
+abbrev pub Md5RefusedBoth : Type 0
+Md5RefusedBoth = (limit i : ℕ) (t : List ℕ) → Octets t → loaded Md5 limit t ≡ Refused 17 i → BothMatch (entries t)
+
+abbrev pub Md5BothRefused : Type 0
+Md5BothRefused = (limit : ℕ) (t : List ℕ) → WellFormed Md5 limit t → BothMatch (entries t) → (i : ℕ) × (loaded Md5 limit t ≡ Refused 17 i)

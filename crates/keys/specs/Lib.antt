@@ -9,6 +9,7 @@ pub mod Clash
 pub mod FaultLaws
 pub mod PlaceLaws
 pub mod LoadLaws
-pub mod SearchLaws
+pub mod FormedLaws
+pub mod FoundLaws
 pub mod Mirror
 pub mod MirrorLaws

@@ -1,6 +1,7 @@
 -- A segment into which an option was put directly behind byte 20, as it arrives, with any checksum and any ports in it: what stands where.
 -- Assumes of the option that it fills whole words, and of the segment what signing tests.
 use Prim.Native.Nat.{ℕ, zero, suc, _+_, _-_, _*_, _/_, _≤_}
+use mathlib.Core.Bool.{false}
 use mathlib.Core.Path.{_≡_, refl, ap, ap₂, sym, _∙_, subst, subst⁻¹}
 use mathlib.Core.List.{List, [], _∷_, _++_, append-assoc}
 use native.Mathlib.Omega.{arith}
@@ -12,10 +13,28 @@ use Rattle.wire.specs.Options.{least, optionsOf}
 use Rattle.wire.specs.OptionLaws.{once, alone}
 use Rattle.wire.specs.declared.options.Options.{Options}
 use Rattle.wire.specs.declared.options.Options.the-variants.{Malformed, Found}
-use Rattle.rules.specs.Segment.{inserted, withOption, Whole}
+use Rattle.rules.specs.Segment.{malformed, ao, md5, inserted, withOption, Whole}
 use Rattle.rules.specs.Ends.{rechecked, withPorts}
 use Rattle.rules.specs.PortLaws.{Ports, portsOf, written}
-use Rattle.rules.specs.RoundTripLaws.{Head, Fresh}
+
+-- a header's twenty fixed bytes, by name, so that what is read of them computes: those behind the ports
+pub record Head : Type 0 where
+  pub b4 : ℕ
+  pub b5 : ℕ
+  pub b6 : ℕ
+  pub b7 : ℕ
+  pub b8 : ℕ
+  pub b9 : ℕ
+  pub b10 : ℕ
+  pub b11 : ℕ
+  pub b12 : ℕ
+  pub b13 : ℕ
+  pub b14 : ℕ
+  pub b15 : ℕ
+  pub b16 : ℕ
+  pub b17 : ℕ
+  pub b18 : ℕ
+  pub b19 : ℕ
 
 -- the header with w words more and another checksum
 abbrev pub cells : Ports → Head → ℕ → ℕ → ℕ → List ℕ
@@ -62,6 +81,15 @@ spread-all (suc n) i s e = rw (spread-all n (suc i) s (omega arith)) (sym (drop-
 shape : (s : List ℕ) → 20 ≤ length s → fixed (portsOf s) (headOf s) ++ drop 20 s ≡ s
 unfolding spread
 shape s e = spread-all 20 0 s (omega arith)
+
+-- what signing needs of a segment
+pub record Fresh (s : List ℕ) : Type 0 where
+  pub long : 20 ≤ length s
+  pub low : 20 ≤ headerEnd s
+  pub inside : headerEnd s ≤ length s
+  pub formed : malformed s ≡ false
+  pub no-ao : ao s .count ≡ 0
+  pub no-md5 : md5 s .count ≡ 0
 
 -- b is the segment s with the option opt behind byte 20, the ports u and the checksum c d
 pub record Put (s opt : List ℕ) (u : Ports) (c d : ℕ) (b : List ℕ) : Type 0 where

@@ -32,8 +32,9 @@ pub mod PortLaws
 pub mod ChecksumLaws
 pub mod JudgeLaws
 pub mod CountLaws
-pub mod RoundTripLaws
+pub mod LentLaws
 pub mod InsertedLaws
+pub mod RoundTripLaws
 pub mod SigningLaws
 pub mod GrowthLaws
 pub mod DeliveryLaws

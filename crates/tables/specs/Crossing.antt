@@ -46,4 +46,4 @@ abbrev pub RefusedCrossed : Type 0
 RefusedCrossed = (k m : List ℕ) (x : Index) → Octets k → Octets m → admitted k m ≡ Refused 45 x → (x .table ≡ 1) × CrossedAt k m (x .entry)
 
 abbrev pub CrossedRefused : Type 0
-CrossedRefused = (k m : List ℕ) (i : ℕ) → CrossedAt k m i → admitted k m ≡ Refused 45 (md5Index i)
+CrossedRefused = (k m : List ℕ) (i : ℕ) → Octets k → Octets m → CrossedAt k m i → admitted k m ≡ Refused 45 (md5Index i)
