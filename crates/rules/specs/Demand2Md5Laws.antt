@@ -8,6 +8,7 @@ use Rattle.wire.specs.Header.{sequence}
 use Rattle.keys.specs.declared.entry.Pair.{Pair}
 use Rattle.keys.specs.declared.entry.Entry.{Entry}
 use Rattle.keys.specs.declared.table.Found.{Found}
+use Rattle.keys.specs.Entry.{keyOf}
 use Rattle.tables.specs.Tables.{Tables, noIndex, recvEntry, md5Entry}
 use Rattle.tables.specs.Search.{hit}
 use Rattle.tables.specs.SearchLaws.{md5-found}
@@ -19,7 +20,7 @@ use Rattle.rules.specs.declared.State.{State}
 use Rattle.rules.specs.declared.Judged.{Judged}
 use Rattle.rules.specs.Segment.{keyId}
 use Rattle.rules.specs.Connection.{Arrival, arrivalPair, isOpen, isMd5, extensionOf, md5Way, opened, withCounted}
-use Rattle.rules.specs.Calls.{check, checkSyn, verdictOf, indexOf, judgedBy, judged, judgedSyn, synIsMd5, openedBy, openedPassively}
+use Rattle.rules.specs.Calls.{check, checkSyn, verdictOf, indexOf, judgedBy, judged, judgedSyn, openedBy, openedPassively}
 use Rattle.rules.specs.Ends.{Typed, Facing, Delivered, SignedAt, HoldsMd5}
 use Rattle.rules.specs.Demand2Md5.{OpenSegmentMd5, SynAckMd5, BareSynMd5, BareSynOpensMd5, OtherEndMd5, OpenedTogetherMd5}
 use Rattle.rules.specs.DeliveryLaws.{comes}
@@ -53,35 +54,37 @@ judged-opening t p a n way opening low e =
       state = opened (p .conn .way) (p .conn .pair) (p .conn .isn) n (p .«send_id») (p .«ask_id»);
     })
 
--- the entry that mirrors the sender's is the one that is found
-found-there : (t : Tables) (p r : Pair) (e : Entry) (h : HoldsMd5 t p r e) → md5Entry t p ≡ hit (h .place) (h .ours)
-found-there t p r e h = md5-found t p (h .place) (h .ours) (h .valid) (h .among) (h .mirror .here)
+-- The entry that mirrors the sender's is the one that is found.
+module _ (t : Tables) (p r : Pair) (e : Entry) (h : HoldsMd5 t p r e) where
+  found : md5Entry t p ≡ hit (h .place) (h .ours)
+  found = md5-found t p (h .place) (h .ours) (h .valid) (h .among) (h .mirror .here)
+
+  there : md5Entry t p .there ≡ true
+  there = ap (λ (f : Found). f .there) found
+
+  key : keyOf (md5Entry t p .entry .secret) ≡ keyOf (e .secret)
+  key = ap (λ (f : Found). keyOf (f .entry .secret)) found ∙ h .mirror .key
 
 pub open-segment-md5 : OpenSegmentMd5
-open-segment-md5 q e x b a t p typed way here there opens facing g v h =
+open-segment-md5 q e x b a t p typed way here opened opens facing g v h =
     judged-open t p a (sequence (a .segment)) here opens low
-    (open-accepted q typed e x b g way (p .conn) here facing a v t (h .valid) (h .place) (h .ours) (found-there t _ _ e h) (h .mirror .key) there
-    opens (p .seen))
+    (open-accepted q e x b g way typed (p .conn) here a v facing t (h .valid) (there t _ _ e h) (key t _ _ e h) opened opens (p .seen))
   where
     low : sequence (a .segment) < 2 ^ 32
     low = omega (arith, comes q e x b g (p .conn .pair) a v .number, sequence-below (g .unsigned) (g .octets))
 
 pub syn-ack-md5 : SynAckMd5
-syn-ack-md5 q e x b a t p typed way here there opening facing g its-syn v h =
+syn-ack-md5 q e x b a t p typed way here opened opening facing g its-syn v h =
     judged-opening t p a (q .conn .isn) here opening (typed .isn)
-    (syn-ack-accepted q typed e x b g way (p .conn) here facing a v t (h .valid) (h .place) (h .ours) (found-there t _ _ e h) (h .mirror .key)
-    there opening its-syn (p .seen))
+    (syn-ack-accepted q e x b g way typed (p .conn) here a v facing t (h .valid) (there t _ _ e h) (key t _ _ e h) opened opening its-syn
+    (p .seen))
 
 -- The bare SYN of an opening end.
 module _ (q : State) (e : Entry) (x : ℕ) (b : List ℕ) (a : Arrival) (t : Tables) (typed : Typed q) (way : isMd5 (q .conn) ≡ true)
     (opening : isOpen (q .conn) ≡ false) (facing : Facing (arrivalPair a) (q .conn .pair)) (g : SignedAt q e x b)
     (v : Delivered (arrivalPair a) b a) (h : HoldsMd5 t (arrivalPair a) (q .conn .pair) e) (strict : Bool) where
   syn-good : checkSyn t a strict ≡ Good (q .conn .isn) 0
-  syn-good =
-      syn-accepted q typed e x b g way opening a facing v t (h .valid) (h .place) (h .ours) (found-there t _ _ e h) (h .mirror .key) strict
-
-  its-way : synIsMd5 t (arrivalPair a) ≡ true
-  its-way = ap (λ (f : Found). f .there) (found-there t _ _ e h)
+  syn-good = syn-accepted q e x b g way typed opening a v facing t (h .valid) (there t _ _ e h) (key t _ _ e h) strict
 
   syn-judged : judgedSyn t a strict ≡ record { verdict = Accept 0; index = noIndex }
   unfolding judgedSyn
@@ -90,20 +93,21 @@ module _ (q : State) (e : Entry) (x : ℕ) (b : List ℕ) (a : Arrival) (t : Tab
       ∙ ap (λ (n : ℕ). record { verdict = Accept n; index = noIndex }) (low-extension (q .conn .isn) (typed .isn))
 
   syn-opens : (isn : ℕ)
-      → openedPassively t a isn strict ≡ record { verdict = Accept 0; index = noIndex; state = opened md5Way (arrivalPair a) isn (q .conn .isn) 0 0 }
+      → openedPassively t a isn strict
+      ≡ record { verdict = Accept 0; index = noIndex; state = opened md5Way (arrivalPair a) isn (q .conn .isn) 0 0 }
   unfolding openedPassively
   syn-opens isn =
-      ap (λ (o : Outcome). record { verdict = verdictOf o; index = indexOf o; state = openedBy t (arrivalPair a) isn found o }) syn-good
-      ∙ rw its-way
+      ap (λ (o : Outcome). record { verdict = verdictOf o; index = indexOf o; state = openedBy t (arrivalPair a) isn unused o }) syn-good
+      ∙ rw (there t _ _ e h)
       (λ j. record {
         verdict = Accept (low-extension (q .conn .isn) (typed .isn) j);
         index = noIndex;
         state = opened md5Way (arrivalPair a) isn (q .conn .isn) 0 0;
       })
     where
-      -- what stands in the key table for such a SYN is not looked at
-      found : Entry
-      found = recvEntry t (arrivalPair a) (keyId (a .segment)) .entry
+      -- what the key table has for such a SYN
+      unused : Entry
+      unused = recvEntry t (arrivalPair a) (keyId (a .segment)) .entry
 
 pub bare-syn-md5 : BareSynMd5
 bare-syn-md5 = syn-judged

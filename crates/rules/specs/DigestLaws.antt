@@ -63,13 +63,14 @@ input-of key source destination s opt u c d b p =
 
 -- So the digest of the segment that arrives is that of the segment as it was signed, whatever digest stood in it, if its ports are the
 -- signed ones.
-pub same-input : (s : List ℕ) → Fresh s → Octets s → (m : List ℕ) → length m ≡ 16 → (sp dp c d : ℕ) → sp ≡ sourcePort s → dp ≡ destinationPort s
-    → (key source destination : List ℕ)
+pub same-input : (s : List ℕ) → Fresh s → Octets s → (m : List ℕ) → length m ≡ 16 → (sp dp c d : ℕ) → sp ≡ sourcePort s
+    → dp ≡ destinationPort s → (key source destination : List ℕ)
     → digestInput key source destination (rechecked c d (withPorts sp dp (digestedWith m s)))
     ≡ digestInput key source destination (digestedWith (replicate 16 0) s)
 same-input s fresh octets m h sp dp c d source-port destination-port key source destination =
     input-of key source destination s (md5Option m) (written sp dp) c d _ (put-again s fresh (md5Option m) (whole-md5-option m h) sp dp c d)
-    ∙ ap₂ (λ (u : Ports) (n : ℕ). pseudoHeader source destination (length s + n) ++ cells u (headOf s) (n / 4) 0 0 ++ (drop (headerEnd s) s ++ key))
+    ∙ ap₂
+    (λ (u : Ports) (n : ℕ). pseudoHeader source destination (length s + n) ++ cells u (headOf s) (n / 4) 0 0 ++ (drop (headerEnd s) s ++ key))
     (unhidden-same (record { source = false; destination = false }) sp dp s octets (λ k. source-port) (λ k. destination-port))
     (length-md5-option m h)
     ∙ sym

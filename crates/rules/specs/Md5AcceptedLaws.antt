@@ -17,7 +17,6 @@ use Rattle.keys.specs.Entry.{isFamily, keyOf}
 use Rattle.keys.specs.MatchLaws.{and-true}
 use Rattle.tables.specs.Tables.{Tables, md5Entry}
 use Rattle.tables.specs.Valid.{ValidTables}
-use Rattle.tables.specs.Search.{hit}
 use Rattle.rules.specs.declared.Place.{Place}
 use Rattle.rules.specs.declared.Place.the-variants.{At}
 use Rattle.rules.specs.declared.Outcome.the-variants.{Good}
@@ -26,7 +25,7 @@ use Rattle.rules.specs.declared.State.{State}
 use Rattle.rules.specs.Position.{position}
 use Rattle.rules.specs.Digest.{segmentDigest}
 use Rattle.rules.specs.Mac.{Flow}
-use Rattle.rules.specs.Segment.{md5, digestIn, isBareSyn, rnextKeyId}
+use Rattle.rules.specs.Segment.{md5, isBareSyn, rnextKeyId}
 use Rattle.rules.specs.Connection.{Arrival, arrivalPair, localAddress, remoteAddress, isOpen, isMd5, arriving, arrivingSyn}
 use Rattle.rules.specs.Connection.{placeOn, value}
 use Rattle.rules.specs.Calls.{familyTests, addressTests, tableTests, inputTests, formTests, pairTests, stageTests}
@@ -47,10 +46,9 @@ at-number l reference n way = ap (λ (w : Bool). cond (isOpen l && not w) (posit
     go true = refl
     go false = refl
 
--- A segment that the end of q signed and that comes to the end that holds the pair p, where the entry `ours` with the same key is found.
-module _ (q : State) (typed : Typed q) (e : Entry) (x : ℕ) (b : List ℕ) (g : SignedAt q e x b) (way : isMd5 (q .conn) ≡ true) (p : Pair)
-    (facing : Facing p (q .conn .pair)) (a : Arrival) (v : Delivered p b a) (t : Tables) (valid : ValidTables t) (i : ℕ) (ours : Entry)
-    (held : md5Entry t p ≡ hit i ours) (key : keyOf (ours .secret) ≡ keyOf (e .secret)) where
+-- A segment that comes to the end that holds the pair p.
+module _ (q : State) (e : Entry) (x : ℕ) (b : List ℕ) (g : SignedAt q e x b) (way : isMd5 (q .conn) ≡ true) (p : Pair) (a : Arrival)
+    (v : Delivered p b a) where
   abbrev came : List ℕ
   came = a .segment
 
@@ -58,13 +56,15 @@ module _ (q : State) (typed : Typed q) (e : Entry) (x : ℕ) (b : List ℕ) (g :
   read = reads q e x b g way p a v
 
   -- 19 and the tables
-  none-19 : NoneApplies (inputTests t (a .source) (a .destination))
-  none-19 =
-      none-append (addressTests (a .source) (a .destination)) (tableTests t)
-      (ap not
-      (sized-by (q .conn .pair .family) (a .source) (a .destination)
-      (ap length (v .source ∙ facing .remote) ∙ address-length (q .conn .pair .family) (q .conn .pair .local) (typed .local))
-      (ap length (v .destination ∙ facing .local) ∙ address-length (q .conn .pair .family) (q .conn .pair .remote) (typed .remote))), tt)
+  none-19 : Typed q → Facing p (q .conn .pair) → (t : Tables) → ValidTables t → NoneApplies (inputTests t (a .source) (a .destination))
+  none-19 typed facing t valid =
+      none-append (addressTests (a .source) (a .destination)) (tableTests t) (
+        ap not
+            (sized-by (q .conn .pair .family) (a .source) (a .destination)
+            (ap length (v .source ∙ facing .remote) ∙ address-length (q .conn .pair .family) (q .conn .pair .local) (typed .local))
+            (ap length (v .destination ∙ facing .local) ∙ address-length (q .conn .pair .family) (q .conn .pair .remote) (typed .remote))),
+        tt,
+      )
       (none-10 t valid)
 
   -- 21 and 22
@@ -80,49 +80,43 @@ module _ (q : State) (typed : Typed q) (e : Entry) (x : ℕ) (b : List ℕ) (g :
     ),
   )
 
-  -- 46, 47, 26, 27
-  none-46 : NoneApplies (md5Tests (md5Entry t p) came)
-  none-46 = (
-    ap (ltb 0) (read .no-ao),
-    (
-      ap (λ (o : Occurrence). eqb (o .count) 0) (read .one),
+  -- 46 to 29, where the entry that is found for the pair has the sender's key
+  module _ (found : Found) (there : found .there ≡ true) (key : keyOf (found .entry .secret) ≡ keyOf (e .secret)) where
+    none-46 : NoneApplies (md5Tests found came)
+    none-46 = (
+      ap (ltb 0) (read .no-ao),
       (
-        ap (λ (f : Found). not (f .there)) held,
-        (ap (λ (o : Occurrence). not (eqb (o .len) 18)) (read .one), tt),
+        ap (λ (o : Occurrence). eqb (o .count) 0) (read .one),
+        (ap not there, (ap (λ (o : Occurrence). not (eqb (o .len) 18)) (read .one), tt)),
       ),
-    ),
-  )
+    )
 
-  -- 29, between the addresses of the pair
-  right-digest : digestIn came ≡ segmentDigest (keyOf (md5Entry t p .entry .secret)) (remoteAddress p) (localAddress p) came
-  right-digest =
-      read .digest ∙ sym (same-digest q e x b g way p a v facing)
-      ∙ ap (λ (k : List ℕ). segmentDigest k (remoteAddress p) (localAddress p) came)
-      (sym (ap (λ (f : Found). keyOf (f .entry .secret)) held ∙ key))
-
-  none-29 : (f : Flow) → f .source ≡ remoteAddress p → f .destination ≡ localAddress p
-      → NoneApplies (digestTests (md5Entry t p .entry) f came)
-  none-29 f source destination =
-      (ap not
-      (same-of-eq _ _
-      (right-digest
-      ∙ sym (ap₂ (λ (m n : List ℕ). segmentDigest (keyOf (md5Entry t p .entry .secret)) m n came) source destination))), tt)
+    none-29 : Facing p (q .conn .pair) → (f : Flow) → f .source ≡ remoteAddress p → f .destination ≡ localAddress p
+        → NoneApplies (digestTests (found .entry) f came)
+    none-29 facing f source destination = (
+      ap not
+          (same-of-eq _ _
+          (read .digest
+          ∙ sym
+          ((λ j. segmentDigest (key j) (source j) (destination j) came) ∙ same-digest q e x b g way p a v facing))),
+      tt,
+    )
 
   -- a bare SYN arrives as one, and what is none as none
-  pub bare : (w : Bool) → isBareSyn (g .unsigned) ≡ w → isBareSyn came ≡ w
+  bare : (w : Bool) → isBareSyn (g .unsigned) ≡ w → isBareSyn came ≡ w
   bare w h = let c = comes q e x b g p a v in (λ j. c .its-syn j && not (c .its-ack j)) ∙ h
 
   -- a SYN is signed with our ISN as its number, and so it arrives
-  pub syn-number : syn (g .unsigned) ≡ true → sequence came ≡ q .conn .isn
+  syn-number : syn (g .unsigned) ≡ true → sequence came ≡ q .conn .isn
   syn-number its-syn =
       comes q e x b g p a v .number ∙ ap value (sym (at-number (q .conn) (q .sent) (sequence (g .unsigned)) way) ∙ g .position)
       ∙ syn-at q e x b g its-syn
 
 -- With a state, whose connection is l.
-module _ (q : State) (typed : Typed q) (e : Entry) (x : ℕ) (b : List ℕ) (g : SignedAt q e x b) (way : isMd5 (q .conn) ≡ true) (l : Connection)
-    (here : isMd5 l ≡ true) (facing : Facing (l .pair) (q .conn .pair)) (a : Arrival) (v : Delivered (l .pair) b a) (t : Tables)
-    (valid : ValidTables t) (i : ℕ) (ours : Entry) (held : md5Entry t (l .pair) ≡ hit i ours) (key : keyOf (ours .secret) ≡ keyOf (e .secret))
-    where
+module _ (q : State) (e : Entry) (x : ℕ) (b : List ℕ) (g : SignedAt q e x b) (way : isMd5 (q .conn) ≡ true) (typed : Typed q)
+    (l : Connection) (here : isMd5 l ≡ true) (a : Arrival) (v : Delivered (l .pair) b a) (facing : Facing (l .pair) (q .conn .pair))
+    (t : Tables) (valid : ValidTables t) (there : md5Entry t (l .pair) .there ≡ true)
+    (key : keyOf (md5Entry t (l .pair) .entry .secret) ≡ keyOf (e .secret)) where
   -- accepted with its number, if the stage is right
   accepted : (reference : ℕ) → cond (isOpen l) (isBareSyn (a .segment)) (not (syn (a .segment) && ack (a .segment))) ≡ false
       → check t l reference a ≡ Good (sequence (a .segment)) 0
@@ -131,39 +125,37 @@ module _ (q : State) (typed : Typed q) (e : Entry) (x : ℕ) (b : List ℕ) (g :
       first-clear (judgeGroups t l reference a) _
       (record {
         input =
-            none-append (familyTests l) (inputTests t (a .source) (a .destination)) (ap not allowed, tt)
-            (none-19 q typed e x b g way (l .pair) facing a v t valid i ours held key);
+            none-append (familyTests l) (inputTests t (a .source) (a .destination))
+            (ap not (ap isFamily (facing .family) ∙ signs q e x b g .allowed), tt)
+            (none-19 q e x b g way (l .pair) a v typed facing t valid);
         size = none-20 q e x b g (l .pair) a v;
         sum = (ap not (v .right), tt);
-        form = none-21 q typed e x b g way (l .pair) facing a v t valid i ours held key;
+        form = none-21 q e x b g way (l .pair) a v;
         arrival = none-append (pairTests (l .pair) a) (stageTests l (a .segment)) (none-23 (l .pair) b a v) (stage, tt);
-        key = subst⁻¹ NoneApplies (key-md5 t l reference a here) (none-46 q typed e x b g way (l .pair) facing a v t valid i ours held key);
+        key =
+            subst⁻¹ NoneApplies (key-md5 t l reference a here)
+            (none-46 q e x b g way (l .pair) a v (md5Entry t (l .pair)) there key);
         mac =
             subst⁻¹ NoneApplies (mac-md5 t l reference a here)
-            (none-29 q typed e x b g way (l .pair) facing a v t valid i ours held key (arriving l (a .segment)) refl refl);
+            (none-29 q e x b g way (l .pair) a v (md5Entry t (l .pair)) there key facing (arriving l (a .segment)) refl refl);
       })
       ∙ ap₂ (λ (z : Place) (w : Bool). Good (value z) (cond w 0 (rnextKeyId (a .segment))))
       (at-number l reference (sequence (a .segment)) here) here
-    where
-      allowed : isFamily (l .pair .family) ≡ true
-      allowed = ap isFamily (facing .family) ∙ signs q e x b g .allowed
 
   -- Once open, whatever the reference.
-  pub open-accepted : isOpen (q .conn) ≡ true → isOpen l ≡ true → (reference : ℕ) → check t l reference a ≡ Good (sequence (a .segment)) 0
-  open-accepted there opens reference =
-      accepted reference
-      (rw opens
-      (bare q typed e x b g way (l .pair) facing a v t valid i ours held key false (rw there at (signs q e x b g .stage))))
+  pub open-accepted : isOpen (q .conn) ≡ true → isOpen l ≡ true → (reference : ℕ)
+      → check t l reference a ≡ Good (sequence (a .segment)) 0
+  open-accepted opened opens reference =
+      accepted reference (rw opens (bare q e x b g way (l .pair) a v false (rw opened at (signs q e x b g .stage))))
 
   -- The SYN+ACK that opens: accepted by the end that is opening, at the peer's ISN, whatever else that state holds.
   pub syn-ack-accepted : isOpen (q .conn) ≡ true → isOpen l ≡ false → syn (g .unsigned) ≡ true → (reference : ℕ)
       → check t l reference a ≡ Good (q .conn .isn) 0
-  syn-ack-accepted there opening its-syn reference =
-      accepted reference stage
-      ∙ ap (λ (n : ℕ). Good n 0) (syn-number q typed e x b g way (l .pair) facing a v t valid i ours held key its-syn)
+  syn-ack-accepted opened opening its-syn reference =
+      accepted reference stage ∙ ap (λ (n : ℕ). Good n 0) (syn-number q e x b g way (l .pair) a v its-syn)
     where
       with-ack : ack (g .unsigned) ≡ true
-      with-ack = not-false _ (rw (there, its-syn) at (signs q e x b g .stage))
+      with-ack = not-false _ (rw (opened, its-syn) at (signs q e x b g .stage))
 
       stage : cond (isOpen l) (isBareSyn (a .segment)) (not (syn (a .segment) && ack (a .segment))) ≡ false
       stage =
@@ -171,10 +163,10 @@ module _ (q : State) (typed : Typed q) (e : Entry) (x : ℕ) (b : List ℕ) (g :
           λ j. cond (opening j) (isBareSyn (a .segment)) (not ((c .its-syn ∙ its-syn) j && (c .its-ack ∙ with-ack) j))
 
 -- Without a state: a bare SYN that the opening end q signed, which comes under its own pair.
-module _ (q : State) (typed : Typed q) (e : Entry) (x : ℕ) (b : List ℕ) (g : SignedAt q e x b) (way : isMd5 (q .conn) ≡ true)
-    (opening : isOpen (q .conn) ≡ false) (a : Arrival) (facing : Facing (arrivalPair a) (q .conn .pair)) (v : Delivered (arrivalPair a) b a)
-    (t : Tables) (valid : ValidTables t) (i : ℕ) (ours : Entry) (held : md5Entry t (arrivalPair a) ≡ hit i ours)
-    (key : keyOf (ours .secret) ≡ keyOf (e .secret)) (strict : Bool) where
+module _ (q : State) (e : Entry) (x : ℕ) (b : List ℕ) (g : SignedAt q e x b) (way : isMd5 (q .conn) ≡ true) (typed : Typed q)
+    (opening : isOpen (q .conn) ≡ false) (a : Arrival) (v : Delivered (arrivalPair a) b a) (facing : Facing (arrivalPair a) (q .conn .pair))
+    (t : Tables) (valid : ValidTables t) (there : md5Entry t (arrivalPair a) .there ≡ true)
+    (key : keyOf (md5Entry t (arrivalPair a) .entry .secret) ≡ keyOf (e .secret)) (strict : Bool) where
   is-bare : isBareSyn (g .unsigned) ≡ true
   is-bare = not-false _ (rw opening at (signs q e x b g .stage))
 
@@ -183,20 +175,18 @@ module _ (q : State) (typed : Typed q) (e : Entry) (x : ℕ) (b : List ℕ) (g :
   syn-accepted =
       first-clear (synGroups t a strict) _
       (record {
-        input = none-19 q typed e x b g way (arrivalPair a) facing a v t valid i ours held key;
+        input = none-19 q e x b g way (arrivalPair a) a v typed facing t valid;
         size = none-20 q e x b g (arrivalPair a) a v;
         sum = (ap not (v .right), tt);
-        form = none-21 q typed e x b g way (arrivalPair a) facing a v t valid i ours held key;
-        arrival =
-            (ap not (bare q typed e x b g way (arrivalPair a) facing a v t valid i ours held key true is-bare), tt);
-        key = subst⁻¹ NoneApplies (syn-key-md5 t a strict there) (none-46 q typed e x b g way (arrivalPair a) facing a v t valid i ours held key);
+        form = none-21 q e x b g way (arrivalPair a) a v;
+        arrival = (ap not (bare q e x b g way (arrivalPair a) a v true is-bare), tt);
+        key =
+            subst⁻¹ NoneApplies (syn-key-md5 t a strict there)
+            (none-46 q e x b g way (arrivalPair a) a v (md5Entry t (arrivalPair a)) there key);
         mac =
             subst⁻¹ NoneApplies (syn-mac-md5 t a strict there)
-            (none-29 q typed e x b g way (arrivalPair a) facing a v t valid i ours held key (arrivingSyn a) (v .source) (v .destination));
+            (none-29 q e x b g way (arrivalPair a) a v (md5Entry t (arrivalPair a)) there key facing (arrivingSyn a) (v .source)
+            (v .destination));
       })
       ∙ ap₂ (λ (n : ℕ) (w : Bool). Good n (cond w 0 (rnextKeyId (a .segment))))
-      (syn-number q typed e x b g way (arrivalPair a) facing a v t valid i ours held key
-      (and-true (syn (g .unsigned)) (not (ack (g .unsigned))) is-bare .0)) there
-    where
-      there : md5Entry t (arrivalPair a) .there ≡ true
-      there = ap (λ (f : Found). f .there) held
+      (syn-number q e x b g way (arrivalPair a) a v (and-true (syn (g .unsigned)) (not (ack (g .unsigned))) is-bare .0)) there

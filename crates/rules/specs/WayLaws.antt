@@ -70,8 +70,9 @@ accepts Passed e v = let z : _≡_ {A = ℕ} 0 1 = cc in absurd (omega arith)
 accepts (Bad n i) e v = let z : _≡_ {A = ℕ} 0 1 = cc in absurd (omega arith)
 
 -- "An MD5 accept has extension 0": the position is the segment's number
-no-extension : (s : List ℕ) → Octets s → (y : Place) → y ≡ At (sequence s) → (r x k e : ℕ) → Good (value y) k ≡ Good x r → extensionOf x ≡ e → e ≡ 0
-no-extension s octets y at r x k e g h =
+no-extension : (s : List ℕ) → Octets s → (y : Place) → y ≡ At (sequence s) → (k x r e : ℕ) → Good (value y) k ≡ Good x r
+    → extensionOf x ≡ e → e ≡ 0
+no-extension s octets y at k x r e g h =
     let z : sequence s ≡ x = ap value (sym at) ∙ cc in
     omega (arith, z, h, sequence-below s octets)
 
@@ -90,7 +91,9 @@ module _ (t : Tables) (a : Arrival) (q : State) (e : ℕ) (v : judged t a q .ver
   given = sym (first-clear (judgeGroups t (q .conn) (q .seen) a) _ clear) ∙ good .2
 
 pub accepted-by-ao : AcceptedByAo
-accepted-by-ao t a q e way v = let k = subst NoneApplies (key-ao t (q .conn) (q .seen) a way) (clear t a q e v .key) in by-ao (a .segment) (clear t a q e v .form) (k .0)
+accepted-by-ao t a q e way v =
+    let k = subst NoneApplies (key-ao t (q .conn) (q .seen) a way) (clear t a q e v .key) in
+    by-ao (a .segment) (clear t a q e v .form) (k .0)
 
 pub accepted-by-md5 : AcceptedByMd5
 accepted-by-md5 t a q e octets way v = (
@@ -112,7 +115,8 @@ accepted-by-md5 t a q e octets way v = (
     flow : Flow
     flow = arriving (q .conn) (a .segment)
 
-    found : (f .there ≡ true) × (digestIn (a .segment) ≡ segmentDigest (keyOf (f .entry .secret)) (flow .source) (flow .destination) (a .segment))
+    found : (f .there ≡ true)
+        × (digestIn (a .segment) ≡ segmentDigest (keyOf (f .entry .secret)) (flow .source) (flow .destination) (a .segment))
     found = authentic f flow (a .segment) key (subst NoneApplies (mac-md5 t (q .conn) (q .seen) a way) (c .mac))
 
     between : segmentDigest (keyOf (f .entry .secret)) (flow .source) (flow .destination) (a .segment)
@@ -154,7 +158,9 @@ module _ (t : Tables) (a : Arrival) (strict : Bool) (e : ℕ) (v : judgedSyn t a
       each : (w : Bool) → synIsMd5 t (arrivalPair a) ≡ w → eachGives notGood (judgeSynTests t a strict) ≡ true
       each true p = rw (p, refusal-not-good (t .answer))
       each false p =
-          rw (p, refusal-not-good (t .answer), missing-not-good t (arrivalPair a), unknown-passes notGood t (arrivalPair a) strict refl refl)
+          let missing = missing-not-good t (arrivalPair a) in
+          let unknown = unknown-passes notGood t (arrivalPair a) strict refl refl in
+          rw (p, refusal-not-good (t .answer), missing, unknown)
 
   syn-given : goodBy (synIsMd5 t (arrivalPair a)) (At (sequence (a .segment))) (a .segment) ≡ Good (syn-good .0) (syn-good .1)
   unfolding checkSyn
