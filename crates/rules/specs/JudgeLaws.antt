@@ -43,6 +43,16 @@ pub refusal-bad : (c : Admitted) → isBad (refusal c) ≡ true
 refusal-bad (Valid n) = refl
 refusal-bad (Refused n i) = refl
 
+-- no pass
+abbrev pub notPassed : Outcome → Bool
+notPassed (Good x r) = true
+notPassed Passed = false
+notPassed (Bad n i) = true
+
+pub refusal-not-passed : (c : Admitted) → notPassed (refusal c) ≡ true
+refusal-not-passed (Valid n) = refl
+refusal-not-passed (Refused n i) = refl
+
 -- tests that failed, put together
 pub nonzero : (n : ℕ) → eqb n 0 ≡ false → 0 < n
 nonzero n e = go (ltb 0 n) refl
@@ -67,6 +77,15 @@ module _ (t : Tables) (l : Connection) (reference : ℕ) (a : Arrival) where
       each : (b : Bool) → isMd5 l ≡ b → eachGives isBad (judgeTests t l reference a) ≡ true
       each true q = rw (q, refusal-bad (t .answer))
       each false q = rw (q, refusal-bad (t .answer))
+
+  -- no test comes to pass
+  pub check-not-passed : notPassed (check t l reference a) ≡ true
+  unfolding check
+  check-not-passed = first-passes notPassed (judgeTests t l reference a) _ (each (isMd5 l) refl) refl
+    where
+      each : (b : Bool) → isMd5 l ≡ b → eachGives notPassed (judgeTests t l reference a) ≡ true
+      each true q = rw (q, refusal-not-passed (t .answer))
+      each false q = rw (q, refusal-not-passed (t .answer))
 
   -- what is accepted on an open TCP-AO connection verifies
   pub accepted-verifies : (x r : ℕ) → isOpen l ≡ true → isMd5 l ≡ false → check t l reference a ≡ Good x r → Verifies t l a
