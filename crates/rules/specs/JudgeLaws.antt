@@ -43,15 +43,25 @@ pub refusal-bad : (c : Admitted) → isBad (refusal c) ≡ true
 refusal-bad (Valid n) = refl
 refusal-bad (Refused n i) = refl
 
+-- no pass
+abbrev pub notPassed : Outcome → Bool
+notPassed (Good x r) = true
+notPassed Passed = false
+notPassed (Bad n i) = true
+
+pub refusal-not-passed : (c : Admitted) → notPassed (refusal c) ≡ true
+refusal-not-passed (Valid n) = refl
+refusal-not-passed (Refused n i) = refl
+
 -- tests that failed, put together
-nonzero : (n : ℕ) → eqb n 0 ≡ false → 0 < n
+pub nonzero : (n : ℕ) → eqb n 0 ≡ false → 0 < n
 nonzero n e = go (ltb 0 n) refl
   where
     go : (b : Bool) → ltb 0 n ≡ b → 0 < n
     go true q = ltb-true 0 n q
     go false q = absurd (eqb-false n 0 e (omega (arith, ltb-false 0 n q)))
 
-absent : (n m : ℕ) → (ltb 0 n && ltb 0 m) ≡ false → n ≡ 1 → m ≡ 0
+pub absent : (n m : ℕ) → (ltb 0 n && ltb 0 m) ≡ false → n ≡ 1 → m ≡ 0
 absent n m e one = go (ltb 0 m) refl
   where
     go : (b : Bool) → ltb 0 m ≡ b → m ≡ 0
@@ -67,6 +77,15 @@ module _ (t : Tables) (l : Connection) (reference : ℕ) (a : Arrival) where
       each : (b : Bool) → isMd5 l ≡ b → eachGives isBad (judgeTests t l reference a) ≡ true
       each true q = rw (q, refusal-bad (t .answer))
       each false q = rw (q, refusal-bad (t .answer))
+
+  -- no test comes to pass
+  pub check-not-passed : notPassed (check t l reference a) ≡ true
+  unfolding check
+  check-not-passed = first-passes notPassed (judgeTests t l reference a) _ (each (isMd5 l) refl) refl
+    where
+      each : (b : Bool) → isMd5 l ≡ b → eachGives notPassed (judgeTests t l reference a) ≡ true
+      each true q = rw (q, refusal-not-passed (t .answer))
+      each false q = rw (q, refusal-not-passed (t .answer))
 
   -- what is accepted on an open TCP-AO connection verifies
   pub accepted-verifies : (x r : ℕ) → isOpen l ≡ true → isMd5 l ≡ false → check t l reference a ≡ Good x r → Verifies t l a
