@@ -47,7 +47,7 @@ use Rattle.rules.specs.RoundTripLaws.{Arrived}
 use Rattle.rules.specs.DeliveryLaws.{address-length, outgoing-ao, signs, mac, reads}
 use Rattle.rules.specs.AcceptanceLaws.{sequence-below, agree-of, syn-at, none-20, none-21, none-10, keyed}
 
-sized-by : (f : ℕ) (a b : List ℕ) → length a ≡ width f → length b ≡ width f → sized a b ≡ true
+pub sized-by : (f : ℕ) (a b : List ℕ) → length a ≡ width f → length b ≡ width f → sized a b ≡ true
 unfolding width
 sized-by f a b p q = go (eqb f 4) refl
   where
@@ -60,6 +60,16 @@ padded-length : (f : ℕ) (a : List ℕ) → length (take (width f) (padded a)) 
 padded-length f a =
     length-take-le (width f) (padded a)
     (omega (arith, width-le f, length-append a (replicate (16 - length a) 0), length-replicate {A = ℕ} (16 - length a) 0))
+
+-- 23: what comes under the pair p
+pub none-23 : (p : Pair) (b : List ℕ) (a : Arrival) → Delivered p b a → NoneApplies (pairTests p a)
+none-23 p b a v = (
+  ap not (same-of-eq _ _ (v .source)),
+  (
+    ap not (same-of-eq _ _ (v .destination)),
+    (ap not (eq-eqb _ _ (v .source-port)), (ap not (eq-eqb _ _ (v .destination-port)), tt)),
+  ),
+)
 
 -- A segment that comes to the end that holds the pair p, whose entry `ours` mirrors the sender's.
 module _ (q : State) (typed : Typed q) (way : isMd5 (q .conn) ≡ false) (e : Entry) (x : ℕ) (b : List ℕ) (g : SignedAt q e x b) (p : Pair)
@@ -145,21 +155,12 @@ module _ (q : State) (typed : Typed q) (way : isMd5 (q .conn) ≡ false) (e : En
         size = none-20 q e x b g (l .pair) a v;
         sum = (ap not (v .right), tt);
         form = none-21 q e x b g way (l .pair) a v;
-        arrival = none-append (pairTests (l .pair) a) (stageTests l came-there) pair (stage, tt);
+        arrival = none-append (pairTests (l .pair) a) (stageTests l came-there) (none-23 (l .pair) b a v) (stage, tt);
         key = subst⁻¹ NoneApplies (key-ao t l reference a way-here) (keys .0);
         mac = subst⁻¹ NoneApplies (mac-ao t l reference a way-here) (keys .1);
       })
       ∙ (λ j. Good (value (place j)) (cond (way-here j) 0 (read-there .reads .next j)))
     where
-      pair : NoneApplies (pairTests (l .pair) a)
-      pair = (
-        ap not (same-of-eq _ _ (v .source)),
-        (
-          ap not (same-of-eq _ _ (v .destination)),
-          (ap not (eq-eqb _ _ (v .source-port)), (ap not (eq-eqb _ _ (v .destination-port)), tt)),
-        ),
-      )
-
       Keys : Place → Type 0
       Keys z = NoneApplies (keyTests (refuse 25) (refuse 26) (recvEntry t (l .pair) (keyId came-there)) z came-there)
           × NoneApplies (macTests (recvEntry t (l .pair) (keyId came-there) .entry) (arriving l came-there) z came-there)

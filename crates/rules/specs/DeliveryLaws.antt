@@ -3,13 +3,12 @@
 use Prim.Native.Nat.{ℕ, _+_, _≤_}
 use mathlib.Core.Path.{_≡_, refl, ap, ap₂, sym, _∙_, subst, subst⁻¹}
 use mathlib.Core.Bool.{Bool, true, false, cond}
-use mathlib.Core.List.{List, [], _∷_}
+use mathlib.Core.List.{List}
 use native.Mathlib.Omega.{arith}
-use lib.ListN.{length, take, drop, replicate, length-append}
+use lib.ListN.{length, take, drop, replicate}
 use lib.Seq.{take-at, length-take-le}
 use lib.Dec.{ltb}
 use borrow.Author.Tests.{le-ltb}
-use Rattle.mac.specs.Md5Laws.{length-md5}
 use Rattle.wire.specs.Header.{dataOffset, headerEnd}
 use Rattle.keys.specs.declared.entry.Pair.{Pair}
 use Rattle.keys.specs.declared.entry.Entry.{Entry}
@@ -33,6 +32,7 @@ use Rattle.rules.specs.Calls.{outgoing, addedOn, authenticated, digested
 use Rattle.rules.specs.Lent.{Lent, tables}
 use Rattle.rules.specs.Ends.{Typed, SignedAt, rechecked, withPorts, Delivered}
 use Rattle.rules.specs.InsertedLaws.{Fresh, Put, put, put-again, ports-put}
+use Rattle.rules.specs.DigestLaws.{length-digest, length-md5-option}
 use Rattle.rules.specs.RoundTripLaws.{Arrived, arrival, covers, length-option, whole-words}
 use Rattle.rules.specs.SigningLaws.{Signs, signs-good, signed-good}
 use Rattle.rules.specs.LentLaws.{lent-found}
@@ -40,10 +40,6 @@ use Rattle.rules.specs.LentLaws.{lent-found}
 -- the addresses of a pair are of one size
 pub address-length : (f : ℕ) (a : List ℕ) → length a ≡ 16 → length (take (width f) a) ≡ width f
 address-length f a h = length-take-le (width f) a (omega (arith, width-le f))
-
-pub length-digest : (key source destination s : List ℕ) → length (segmentDigest key source destination s) ≡ 16
-unfolding segmentDigest
-length-digest key source destination s = length-md5 _
 
 -- the entry signed under, by the way
 pub outgoing-ao : (t : Tables) (q : State) → isMd5 (q .conn) ≡ false → outgoing t q ≡ sendEntry t (q .conn .pair) (q .«send_id»)
@@ -90,9 +86,7 @@ module _ (e : Entry) (q : State) (x : ℕ) (s : List ℕ) where
     length-on = go (isMd5 (q .conn)) refl
       where
         go : (b : Bool) → isMd5 (q .conn) ≡ b → length (optionOn e q x s) ≡ addedOn (q .conn) e
-        go true way =
-            let d = length-digest (keyOf (e .secret)) (leaving (q .conn) .source) (leaving (q .conn) .destination) (digestedWith (replicate 16 0) s) in
-            rw way (omega (arith, length-append (digestFor e q s) (1 ∷ 1 ∷ []), d))
+        go true way = rw way (length-md5-option (digestFor e q s) (length-digest (keyOf (e .secret)) _ _ (digestedWith (replicate 16 0) s)))
         go false way =
             rw way
             (length-option (q .«send_id») (q .«ask_id») (macFor e q x s)

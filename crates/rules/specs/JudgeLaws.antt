@@ -54,14 +54,14 @@ refusal-not-passed (Valid n) = refl
 refusal-not-passed (Refused n i) = refl
 
 -- tests that failed, put together
-nonzero : (n : ℕ) → eqb n 0 ≡ false → 0 < n
+pub nonzero : (n : ℕ) → eqb n 0 ≡ false → 0 < n
 nonzero n e = go (ltb 0 n) refl
   where
     go : (b : Bool) → ltb 0 n ≡ b → 0 < n
     go true q = ltb-true 0 n q
     go false q = absurd (eqb-false n 0 e (omega (arith, ltb-false 0 n q)))
 
-absent : (n m : ℕ) → (ltb 0 n && ltb 0 m) ≡ false → n ≡ 1 → m ≡ 0
+pub absent : (n m : ℕ) → (ltb 0 n && ltb 0 m) ≡ false → n ≡ 1 → m ≡ 0
 absent n m e one = go (ltb 0 m) refl
   where
     go : (b : Bool) → ltb 0 m ≡ b → m ≡ 0

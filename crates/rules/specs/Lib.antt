@@ -34,6 +34,7 @@ pub mod JudgeLaws
 pub mod CountLaws
 pub mod LentLaws
 pub mod InsertedLaws
+pub mod DigestLaws
 pub mod RoundTripLaws
 pub mod SigningLaws
 pub mod GrowthLaws
@@ -41,8 +42,12 @@ pub mod DeliveryLaws
 pub mod AcceptanceLaws
 pub mod AcceptedLaws
 pub mod Demand2Laws
+pub mod Md5DeliveryLaws
+pub mod Md5AcceptedLaws
+pub mod Demand2Md5Laws
 pub mod OrderLaws
 pub mod HistoryLaws
+pub mod WayLaws
 pub mod KeptLaws
 pub mod RefusalLaws
 pub mod GivenNumberLaws
