@@ -17,7 +17,7 @@ use Rattle.keys.specs.declared.table.TableKind.the-variants.{Keys, Md5}
 use Rattle.keys.specs.declared.table.Loaded.{Loaded}
 use Rattle.keys.specs.declared.table.Found.{Found}
 use Rattle.keys.specs.declared.table.Loaded.the-variants.{Valid as LoadedValid, Refused as LoadedRefused}
-use Rattle.tables.specs.Tables.{maxEntries, md5Index, crossing, admitted}
+use Rattle.tables.specs.Tables.{maxEntries, md5Index, crossing, besides, admitted}
 use Rattle.tables.specs.Crossing.{Crossed, Alone, CrossedAt, RefusedCrossed, CrossedRefused}
 use Rattle.tables.specs.declared.Index.{Index}
 use Rattle.tables.specs.declared.Admitted.the-variants.{Refused}
@@ -55,7 +55,7 @@ record Refusal (k m : List ℕ) (x : Index) : Type 0 where
   index : md5Index (crossing (entries k) (entries m) .index) ≡ x
 
 refusal-of : (k m : List ℕ) (x : Index) → admitted k m ≡ Refused 45 x → Refusal k m x
-unfolding admitted
+unfolding admitted besides
 refusal-of k m x e = go (loaded Keys maxEntries k) (loaded Md5 maxEntries m) (crossing (entries k) (entries m) .there) refl refl refl
   where
     go : (a b : Loaded) (c : Bool) → loaded Keys maxEntries k ≡ a → loaded Md5 maxEntries m ≡ b → crossing (entries k) (entries m) .there ≡ c → Refusal k m x
@@ -90,7 +90,7 @@ refused-crossed k m x ok om e =
     )
 
 pub crossed-refused : CrossedRefused
-unfolding admitted
+unfolding admitted besides
 crossed-refused k m i ok om c = rw (c .keys .1, c .md5s .1, first) (ap (λ (n : ℕ). Refused 45 (md5Index n)) (let z : 0 + i ≡ i = omega arith in z))
   where
     clear : (f : Entry) → FieldsOf f → (Crossed k f → ⊥) → (b : Bool) → meetsAny (entries k) f ≡ b → meetsAny (entries k) f ≡ false

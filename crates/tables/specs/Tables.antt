@@ -49,11 +49,13 @@ afterTable at (LoadedRefused n i) next = Refused n (at i)
 abbrev pub afterCrossing : Found → ℕ → Admitted
 afterCrossing x n = cond (x .there) (Refused 45 (md5Index (x .index))) (Valid n)
 
+-- the MD5 table's refusals, then 45
+unfoldable pub besides : List ℕ → List ℕ → ℕ → Admitted
+besides k m n = afterTable md5Index (loaded Md5 maxEntries m) (λ _. afterCrossing (crossing (entries k) (entries m)) n)
+
 -- "behind the key table's and then the MD5 table's refusals"
 unfoldable pub admitted : List ℕ → List ℕ → Admitted
-admitted k m =
-    afterTable keyIndex (loaded Keys maxEntries k)
-    (λ n. afterTable md5Index (loaded Md5 maxEntries m) (λ _. afterCrossing (crossing (entries k) (entries m)) n))
+admitted k m = afterTable keyIndex (loaded Keys maxEntries k) (besides k m)
 
 -- what the bytes of a key table and of an MD5 table mean
 abbrev pub tablesOf : List ℕ → List ℕ → Tables

@@ -16,7 +16,7 @@ use Rattle.keys.specs.declared.entry.Entry.{Entry}
 use Rattle.keys.specs.declared.table.TableKind.the-variants.{Keys, Md5}
 use Rattle.keys.specs.declared.table.Loaded.{Loaded}
 use Rattle.keys.specs.declared.table.Loaded.the-variants.{Valid as LoadedValid, Refused as LoadedRefused}
-use Rattle.tables.specs.Tables.{Tables, maxEntries, crossing, admitted, tablesOf}
+use Rattle.tables.specs.Tables.{Tables, maxEntries, crossing, besides, admitted, tablesOf}
 use Rattle.tables.specs.Valid.{Digest16, ValidTables, ValidBytes, ValidCount}
 use Rattle.tables.specs.declared.Admitted.the-variants.{Valid}
 
@@ -27,7 +27,7 @@ pub record Taken (k m : List ℕ) (n : ℕ) : Type 0 where
   pub uncrossed : crossing (entries k) (entries m) .there ≡ false
 
 pub admitted-taken : (k m : List ℕ) (n : ℕ) → admitted k m ≡ Valid n → Taken k m n
-unfolding admitted
+unfolding admitted besides
 admitted-taken k m n e = go (loaded Keys maxEntries k) (loaded Md5 maxEntries m) (crossing (entries k) (entries m) .there) refl refl refl
   where
     go : (x y : Loaded) (b : Bool) → loaded Keys maxEntries k ≡ x → loaded Md5 maxEntries m ≡ y → crossing (entries k) (entries m) .there ≡ b → Taken k m n
@@ -40,7 +40,7 @@ admitted-taken k m n e = go (loaded Keys maxEntries k) (loaded Md5 maxEntries m)
         record { keys = p ∙ ap LoadedValid z; md5s = (j, q); uncrossed = r }
 
 pub taken-admitted : (k m : List ℕ) (n : ℕ) → Taken k m n → admitted k m ≡ Valid n
-unfolding admitted
+unfolding admitted besides
 taken-admitted k m n t = rw (t .keys, t .md5s .1, t .uncrossed)
 
 pub valid-bytes : ValidBytes
