@@ -54,6 +54,7 @@ pub mod GivenNumberLaws
 pub mod PassLaws
 pub mod ReferenceLaws
 pub mod SentenceLaws
+pub mod Md5SentenceLaws
 pub mod ExampleLaws
 pub mod ClearBitLaws
 pub mod InhabitedLaws
