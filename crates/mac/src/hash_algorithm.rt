@@ -12,6 +12,7 @@ ghost use Prim.Native.Nat.{_/_, _≤_};
 pub enum HashAlgorithm {
     Sha1,
     Sha256,
+    Md5,
 }
 
 // The room for a digest: the longest has so many bytes.
@@ -24,10 +25,23 @@ fn first_five(h: [u32; 8]) -> [u32; 5]
     [h[0], h[1], h[2], h[3], h[4]]
 }
 
-fn in_eight(h: [u32; 5]) -> [u32; 8]
+fn five_in_eight(h: [u32; 5]) -> [u32; 8]
     ensures { λ r. ⌜ take 5 r ≡ h ⌝ }
 {
     [h[0], h[1], h[2], h[3], h[4], 0, 0, 0]
+}
+
+// MD5's four.
+fn first_four(h: [u32; 8]) -> [u32; 4]
+    ensures { λ r. ⌜ r ≡ take 4 h ⌝ }
+{
+    [h[0], h[1], h[2], h[3]]
+}
+
+fn four_in_eight(h: [u32; 4]) -> [u32; 8]
+    ensures { λ r. ⌜ take 4 r ≡ h ⌝ }
+{
+    [h[0], h[1], h[2], h[3], 0, 0, 0, 0]
 }
 
 // Zeros behind a digest.
@@ -40,12 +54,20 @@ fn in_room(d: &[u8]) -> [u8; DIGEST_ROOM]
     out
 }
 
-// A digest of twenty bytes, out of the room.
+// A digest of twenty bytes, and one of sixteen, out of the room.
 pub(crate) fn first_twenty(d: [u8; DIGEST_ROOM]) -> [u8; 20]
     ensures { λ r. ⌜ r ≡ take 20 d ⌝ }
 {
     let mut out = [0u8; 20];
     octets::copy_at(&mut out, 0, &d[..20]);
+    out
+}
+
+pub(crate) fn first_sixteen(d: [u8; DIGEST_ROOM]) -> [u8; 16]
+    ensures { λ r. ⌜ r ≡ take 16 d ⌝ }
+{
+    let mut out = [0u8; 16];
+    octets::copy_at(&mut out, 0, &d[..16]);
     out
 }
 
@@ -57,6 +79,7 @@ impl HashAlgorithm {
         match self {
             HashAlgorithm::Sha1 => 20,
             HashAlgorithm::Sha256 => 32,
+            HashAlgorithm::Md5 => 16,
         }
     }
 
@@ -65,8 +88,9 @@ impl HashAlgorithm {
         ensures { λ r. ⌜ take (wordsOf self) r ≡ partsOf self .initial ⌝ }
     {
         match self {
-            HashAlgorithm::Sha1 => in_eight(compression::sha1::initial()),
+            HashAlgorithm::Sha1 => five_in_eight(compression::sha1::initial()),
             HashAlgorithm::Sha256 => compression::sha256::initial(),
+            HashAlgorithm::Md5 => four_in_eight(compression::md5::initial()),
         }
     }
 
@@ -75,10 +99,16 @@ impl HashAlgorithm {
         requires { ⌜ length (now m) ≡ 64 ⌝ }
         ensures { λ r. ⌜ take (wordsOf self) r ≡ partsOf self .compress (take (wordsOf self) h) (now (m .entry)) ⌝ }
     {
-        let w = compression::words::load(m);
         match self {
-            HashAlgorithm::Sha1 => in_eight(compression::sha1::compress(first_five(h), w)),
-            HashAlgorithm::Sha256 => compression::sha256::compress(h, w),
+            HashAlgorithm::Sha1 => {
+                let w = compression::words::load(m);
+                five_in_eight(compression::sha1::compress(first_five(h), w))
+            }
+            HashAlgorithm::Sha256 => compression::sha256::compress(h, compression::words::load(m)),
+            HashAlgorithm::Md5 => {
+                let w = compression::md5::load(m);
+                four_in_eight(compression::md5::compress(first_four(h), w))
+            }
         }
     }
 
@@ -89,6 +119,7 @@ impl HashAlgorithm {
         match self {
             HashAlgorithm::Sha1 => octets::bytes64(bits),
             HashAlgorithm::Sha256 => octets::bytes64(bits),
+            HashAlgorithm::Md5 => compression::md5::count_bytes(bits),
         }
     }
 
@@ -102,6 +133,10 @@ impl HashAlgorithm {
                 in_room(&d)
             }
             HashAlgorithm::Sha256 => compression::sha256::digest(h),
+            HashAlgorithm::Md5 => {
+                let d = compression::md5::digest(first_four(h));
+                in_room(&d)
+            }
         }
     }
 
