@@ -12,9 +12,10 @@ byAlgorithm x y z a = cond (eqb a 1) x (cond (eqb a 2) y (cond (eqb a 3) z 0))
 unfoldable pub trafficKeyBytes : ℕ → ℕ
 trafficKeyBytes a = byAlgorithm 20 16 32 a
 
--- "MAC bytes (12 and 12)", and 12 of algorithm 3: the MAC's length where the entry's kind has no byte for it
+-- "MAC bytes (12 and 12)", and 12 of algorithm 3: the MAC's length where the entry's kind has no byte for it. Algorithm 19 is the MD5
+-- table's: RFC 2385, section 2.0, "the 16-byte MD5 digest". A key table that has it is refused with 13.
 unfoldable pub macBytes : ℕ → ℕ
-macBytes a = byAlgorithm 12 12 12 a
+macBytes a = cond (eqb a 19) 16 (byAlgorithm 12 12 12 a)
 
 -- "the output length in bits as two bytes (160 or 128)"; "with output length 256"
 unfoldable pub outputBits : ℕ → ℕ

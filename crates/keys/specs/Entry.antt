@@ -103,10 +103,11 @@ remoteHidden s = eqb (s .flags / 4 % 2) 1
 abbrev pub keyOf : Secret → List ℕ
 keyOf s = take (s .«key_len») (s .key)
 
--- what begins at some byte of the table, whose bytes from there on are s: whether its kind is known, whether it is there whole, and the
--- entry that it then is
+-- what begins at some byte of the table, whose bytes from there on are s: whether its kind is known, whether it is 5 or 7, whether it is
+-- there whole, and the entry that it then is
 pub record Item : Type 0 where
   pub kind-known : Bool
+  pub extended : Bool
   pub whole : Bool
   pub entry : Entry
 
@@ -114,6 +115,7 @@ unfoldable pub item : List ℕ → Item
 item s =
     record {
       kind-known = knownKind (getD s 0 0);
+      extended = eqb (extra (getD s 0 0)) 1;
       whole = leb (size (getD s 0 0)) (length s);
       entry = entryOf s;
     }

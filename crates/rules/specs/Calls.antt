@@ -1,5 +1,5 @@
--- Every call of documents 01 and 02, for every input: its numbers in order, of which the first that applies is given; then the answer, the new
--- state, and every byte of the output.
+-- Every call of documents 01 and 02, for every input: its numbers in order, of which the first that applies is given; then the answer, the
+-- new state, and every byte of the output. What a call knows of its tables is a value of `Tables`.
 use Prim.Native.Nat.{ℕ, _+_}
 use mathlib.Core.Bool.{Bool, true, false, cond, not, _&&_, _||_}
 use mathlib.Core.List.{List, [], _∷_, _++_}

@@ -12,12 +12,12 @@ use Rattle.rules.specs.declared.Verdict.the-variants.{Accept}
 use Rattle.rules.specs.declared.State.{State}
 use Rattle.rules.specs.Connection.{Arrival, arrivalPair, isOpen, isMd5, md5Way, opened, withCounted}
 use Rattle.rules.specs.Calls.{judged, judgedSyn, openedPassively}
-use Rattle.rules.specs.Ends.{Typed, Allowed, Facing, Delivered, SignedAt, HoldsMd5}
+use Rattle.rules.specs.Ends.{Typed, Facing, Delivered, SignedAt, HoldsMd5}
 
 -- Once open, whatever the references and the ISNs: accepted with extension 0, and one acceptance more is counted.
 abbrev pub OpenSegmentMd5 : Type 0
 OpenSegmentMd5 = (q : State) (e : Entry) (x : ℕ) (b : List ℕ) (a : Arrival) (t : Tables) (p : State)
-    → Typed q → Typed p → Allowed (p .conn) → isMd5 (q .conn) ≡ true → isMd5 (p .conn) ≡ true
+    → Typed q → isMd5 (q .conn) ≡ true → isMd5 (p .conn) ≡ true
     → isOpen (q .conn) ≡ true → isOpen (p .conn) ≡ true → Facing (p .conn .pair) (q .conn .pair)
     → SignedAt q e x b → Delivered (p .conn .pair) b a → HoldsMd5 t (p .conn .pair) (q .conn .pair) e
     → judged t a p ≡ record { verdict = Accept 0; index = noIndex; state = withCounted p }
@@ -26,7 +26,7 @@ OpenSegmentMd5 = (q : State) (e : Entry) (x : ℕ) (b : List ℕ) (a : Arrival) 
 -- the way stay.
 abbrev pub SynAckMd5 : Type 0
 SynAckMd5 = (q : State) (e : Entry) (x : ℕ) (b : List ℕ) (a : Arrival) (t : Tables) (p : State)
-    → Typed q → Typed p → Allowed (p .conn) → isMd5 (q .conn) ≡ true → isMd5 (p .conn) ≡ true
+    → Typed q → isMd5 (q .conn) ≡ true → isMd5 (p .conn) ≡ true
     → isOpen (q .conn) ≡ true → isOpen (p .conn) ≡ false → Facing (p .conn .pair) (q .conn .pair)
     → (g : SignedAt q e x b) → syn (g .unsigned) ≡ true → Delivered (p .conn .pair) b a
     → HoldsMd5 t (p .conn .pair) (q .conn .pair) e
@@ -70,8 +70,8 @@ OpenedTogetherMd5 = (active : State) (e : Entry) (x : ℕ) (b : List ℕ) (a : A
     → isMd5 (active .conn) ≡ true → isOpen (active .conn) ≡ false
     → Facing (arrivalPair a) (active .conn .pair) → SignedAt active e x b → Delivered (arrivalPair a) b a
     → HoldsMd5 t (arrivalPair a) (active .conn .pair) e → (strict : Bool) (isn : ℕ)
-    → (passive : State) (f : Entry) (y : ℕ) (c : List ℕ) (r : Arrival) (u : Tables) (now : State) → Typed passive → Typed now
+    → (passive : State) (f : Entry) (y : ℕ) (c : List ℕ) (r : Arrival) (u : Tables) (now : State) → Typed passive
     → passive .conn ≡ openedPassively t a isn strict .state .conn → now .conn ≡ active .conn
     → (k : SignedAt passive f y c) → syn (k .unsigned) ≡ true → Delivered (now .conn .pair) c r
     → HoldsMd5 u (now .conn .pair) (passive .conn .pair) f
-    → OtherEndMd5 (judged u r now .state) passive
+    → OtherEndMd5 (judged u r now .state) passive × OtherEndMd5 passive (judged u r now .state)

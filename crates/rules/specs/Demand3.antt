@@ -1,7 +1,7 @@
 -- Demand 3, as a statement: document 01's last section and the demand's own words. `demand3` of OrderLaws proves it.
 use Prim.Native.Nat.{ℕ, _+_, _^_, _<_, max}
 use mathlib.Core.Path.{_≡_}
-use mathlib.Core.Bool.{Bool, true, cond}
+use mathlib.Core.Bool.{Bool, true, false, cond}
 use mathlib.Core.List.{List, [], _∷_, map, List·Permᴰ}
 use Rattle.octets.specs.Each.{Each}
 use Rattle.rules.specs.declared.Verdict.{Verdict}

@@ -27,6 +27,7 @@ use Rattle.rules.specs.Checksum.{sumsRight}
 use Rattle.rules.specs.Segment.{malformed, ao, md5, aoAt, keyId, macIn, isBareSyn}
 use Rattle.rules.specs.Connection.{Arrival, localAddress, remoteAddress, isOpen, isMd5, arriving, placeOn, slots}
 use Rattle.rules.specs.Calls.{outgoing, signed, output}
+use Rattle.rules.specs.Lent.{Lent, tables}
 
 -- What a value of a Rattle type is known to be, where it matters: references are below 2 ^ 64, ISNs below 2 ^ 32, arrays full.
 pub record Typed (q : State) : Type 0 where
@@ -88,16 +89,16 @@ pub record Delivered (p : Pair) (bytes : List ℕ) (a : Arrival) : Type 0 where
   pub segment : a .segment ≡ rechecked high low (withPorts (p .«remote_port») (p .«local_port») bytes)
   pub right : sumsRight (a .source) (a .destination) (a .segment) ≡ true
 
--- bytes that the signing call wrote, given the state q and some table, segment and output, under the entry e: "A signed segment's true
+-- bytes that the signing call wrote, given the state q and some tables, segment and output, under the entry e: "A signed segment's true
 -- position is the X it was signed by."
 pub record SignedAt (q : State) (e : Entry) (x : ℕ) (bytes : List ℕ) : Type 0 where
-  pub table : Tables
+  pub lent : Lent
   pub unsigned : List ℕ
   pub out : List ℕ
   pub octets : Octets unsigned
-  pub answer : signed table unsigned out q .answer ≡ S.Signed (length bytes)
-  pub wrote : bytes ≡ take (length bytes) (output table unsigned out q)
-  pub under : outgoing table q .entry ≡ e
+  pub answer : signed (tables lent) unsigned out q .answer ≡ S.Signed (length bytes)
+  pub wrote : bytes ≡ take (length bytes) (output (tables lent) unsigned out q)
+  pub under : outgoing (tables lent) q .entry ≡ e
   pub position : placeOn (q .conn) (q .sent) (sequence unsigned) ≡ At x
 
 -- "it holds the mirrored key in a valid table": of the other end's entry e, on the connection whose pair this end holds as p and that end

@@ -1,5 +1,6 @@
--- Document 01, "The option in a segment": what a segment's TCP-AO says; document 02, Ticket 9: and its MD5 option (RFC 2385). Every reader is total: where there is no TCP-AO, or the options are
--- malformed, it reads the place 0 of the option area, and an earlier line of document 01's table decides.
+-- Document 01, "The option in a segment": what a segment's TCP-AO says; document 02, Ticket 9: and its MD5 option (RFC 2385). Every reader
+-- is total: where there is no such option, or the options are malformed, it reads the place 0 of the option area, and an earlier line of
+-- document 01's table decides.
 use Prim.Native.Nat.{ℕ, _+_, _-_, _*_, _/_, _%_}
 use mathlib.Core.Path.{_≡_}
 use mathlib.Core.Bool.{Bool, not, _&&_}

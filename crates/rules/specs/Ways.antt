@@ -3,6 +3,7 @@ use Prim.Native.Nat.{ℕ}
 use mathlib.Core.Path.{_≡_}
 use mathlib.Core.Bool.{Bool, true, false}
 use mathlib.Core.List.{List}
+use Rattle.octets.specs.Each.{Octets}
 use Rattle.keys.specs.declared.entry.Pair.{Pair}
 use Rattle.keys.specs.Entry.{keyOf}
 use Rattle.tables.specs.Tables.{Tables, md5Entry}
@@ -32,7 +33,8 @@ pub record Authentic (t : Tables) (p : Pair) (a : Arrival) : Type 0 where
 
 -- "A connection goes by the way it was opened and never accepts the other"
 abbrev pub AcceptedByMd5 : Type 0
-AcceptedByMd5 = (t : Tables) (a : Arrival) (q : State) (e : ℕ) → isMd5 (q .conn) ≡ true → judged t a q .verdict ≡ Accept e
+AcceptedByMd5 = (t : Tables) (a : Arrival) (q : State) (e : ℕ) → Octets (a .segment) → isMd5 (q .conn) ≡ true
+    → judged t a q .verdict ≡ Accept e
     → ByMd5 (a .segment) × Authentic t (q .conn .pair) a × (e ≡ 0)
 
 abbrev pub AcceptedByAo : Type 0
@@ -41,7 +43,7 @@ AcceptedByAo = (t : Tables) (a : Arrival) (q : State) (e : ℕ) → isMd5 (q .co
 
 -- "a bare SYN without one [goes] by the table that matches"
 abbrev pub SynAcceptedByMd5 : Type 0
-SynAcceptedByMd5 = (t : Tables) (a : Arrival) (strict : Bool) (e : ℕ) → synIsMd5 t (arrivalPair a) ≡ true
+SynAcceptedByMd5 = (t : Tables) (a : Arrival) (strict : Bool) (e : ℕ) → Octets (a .segment) → synIsMd5 t (arrivalPair a) ≡ true
     → judgedSyn t a strict .verdict ≡ Accept e → ByMd5 (a .segment) × Authentic t (arrivalPair a) a × (e ≡ 0)
 
 abbrev pub SynAcceptedByAo : Type 0
