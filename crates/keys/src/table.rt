@@ -298,13 +298,22 @@ pub fn find_meeting(table: &[u8], others: &[u8]) -> Meeting
     while at < table.len() {
         let n = size_at(table, at);
         if n == 0 {
-            return Meeting { there: false, index: 0 };
+            return Meeting {
+                there: false,
+                index: 0,
+            };
         }
         if meets_any(others, selector_of(&table[at..])) {
-            return Meeting { there: true, index: i };
+            return Meeting {
+                there: true,
+                index: i,
+            };
         }
         at = at + n;
         i += 1;
     }
-    Meeting { there: false, index: 0 }
+    Meeting {
+        there: false,
+        index: 0,
+    }
 }

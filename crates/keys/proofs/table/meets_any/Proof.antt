@@ -47,8 +47,7 @@ loop-less c =
 loop-again : tie.Need-loop-again Inv-loop μ-loop
 loop-again c =
     let a = c .before .before .before .before .before .before .before .before .args in
-    let l = c .before .before .before .before .before .before .loop in
-    (
+    let l = c .before .before .before .before .before .before .loop in (
       l .inv .0 + 1,
       seek-next (l .inv .1) _ (c .before .before .before .before .size-at .ensures) (c .before .before .before .if1 .left)
           _ (meets-at (a .table .now) (l .at) (a .s) _ (c .before .overlaps .ensures)) (c .if2 .left),
