@@ -9,7 +9,7 @@ use Rattle.wire.specs.Bytes.{sameBytes}
 use Rattle.wire.specs.Header.{sequence, headerEnd}
 use Rattle.keys.specs.declared.entry.Entry.{Entry}
 use Rattle.keys.specs.declared.entry.Pair.{Pair}
-use Rattle.keys.specs.Table.{Tables, checked, recvEntry, anyEntry}
+use Rattle.tables.specs.Tables.{Tables, recvEntry, anyEntry}
 use Rattle.rules.specs.declared.Connection.{Connection}
 use Rattle.rules.specs.declared.Place.{Place}
 use Rattle.rules.specs.declared.Outcome.{Outcome}
