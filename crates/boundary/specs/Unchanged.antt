@@ -8,17 +8,17 @@ use mathlib.Core.Bool.{true, false, _&&_}
 use mathlib.Core.List.{List}
 use lib.ListN.{replicate}
 use Rattle.octets.specs.Each.{Octets}
-use Rattle.keys.specs.Table.{Tables}
+use Rattle.tables.specs.Tables.{Tables}
 use Rattle.rules.specs.declared.Verdict.the-variants.{Pass, Drop}
 use Rattle.rules.specs.declared.Signing.the-variants as S
 use Rattle.rules.specs.declared.Done.the-variants as D
 use Rattle.rules.specs.declared.Judged.{Judged}
 use Rattle.rules.specs.Connection.{arrivalOf, isOpen, isCounted}
-use Rattle.rules.specs.Calls.{judged, openedPassively, openedActively, asked, signed}
+use Rattle.rules.specs.Calls.{judged, openedPassively, openedActively, openedActivelyMd5, asked, signed}
 use Rattle.rules.specs.Refusals.{oneMore}
 use Rattle.states.specs.Layout.{isState, stateBytes, decodeOf}
 use Rattle.boundary.specs.Exports.{changed, stateWhere, strictly}
-use Rattle.boundary.specs.Exports.{openPassiveExport, openActiveExport, judgeExport, signExport, askExport}
+use Rattle.boundary.specs.Exports.{openPassiveExport, openActiveExport, openActiveMd5Export, judgeExport, signExport, askExport}
 
 -- a state buffer of another length: whatever the call below would do, no buffer changes
 abbrev pub OtherLength : Type 0
@@ -45,6 +45,11 @@ abbrev pub ActivelyRefused : Type 0
 ActivelyRefused = (t : Tables) (local remote : List ℕ) (localPort remotePort isn sendId : ℕ) (b : List ℕ) (n : ℕ)
     → openedActively t local remote localPort remotePort isn sendId .answer ≡ D.Refused n
     → openActiveExport t local remote localPort remotePort isn sendId b .state ≡ b
+
+abbrev pub ActivelyMd5Refused : Type 0
+ActivelyMd5Refused = (t : Tables) (local remote : List ℕ) (localPort remotePort isn : ℕ) (b : List ℕ) (n : ℕ)
+    → openedActivelyMd5 t local remote localPort remotePort isn .answer ≡ D.Refused n
+    → openActiveMd5Export t local remote localPort remotePort isn b .state ≡ b
 
 -- The calls on a connection, whose state is decodeOf b.
 

@@ -1,8 +1,9 @@
 // The calls on a key table and on a connection: docs/BOUNDARY.md, "Tables", "The calls on one connection" and "The state". Each
 // turns the lent bytes into a state, makes the call of the crate `tcpao`, and turns the state back. Assumes nothing.
 ghost use mathlib.Core.Path.{_≡_};
+ghost use Rattle.tables.specs.Tables.{tablesOf};
 ghost use Rattle.boundary.specs.Exports.{settles as settlesOf, opens as opensOf, answers, leaves, writes};
-ghost use Rattle.boundary.specs.Exports.{checkTableExport, openActiveExport, judgeSynExport, openPassiveExport};
+ghost use Rattle.boundary.specs.Exports.{checkTableExport, openActiveExport, openActiveMd5Export, judgeSynExport, openPassiveExport};
 ghost use Rattle.boundary.specs.Exports.{judgeExport, signExport, askExport};
 use crate::answer::of_done;
 use crate::answer::of_signing;
@@ -39,7 +40,7 @@ fn opens(answer: Done) -> bool
     }
 }
 
-// How many entries, or 10 to 17 with the entry's index.
+// How many key entries, or 10 to 17 and 45 with the entry's table and index.
 pub fn check_table(keys: &[u8], md5: &[u8]) -> u64
     ensures { λ r. ⌜ answers r ≡ checkTableExport (tablesOf (now (keys .entry)) (now (md5 .entry))) ⌝ }
 {
@@ -75,6 +76,31 @@ pub fn open_active(
         isn,
         send_id,
     );
+    let answer = r.answer;
+    let opening = r.state;
+    put_where(state, opens(answer), opening);
+    of_done(answer, r.index)
+}
+
+// Ticket 9: opens actively by MD5.
+pub fn open_active_md5(
+    keys: &[u8],
+    md5: &[u8],
+    local: &[u8],
+    remote: &[u8],
+    local_port: u16,
+    remote_port: u16,
+    isn: u32,
+    state: &mut [u8],
+) -> u64
+    ensures { λ r. ⌜ leaves r (now (state .exit))
+        ≡ openActiveMd5Export (tablesOf (now (keys .entry)) (now (md5 .entry))) (now (local .entry)) (now (remote .entry)) «local_port» «remote_port» isn
+        (now (state .entry)) ⌝ }
+{
+    if !is_state(state) {
+        return word(WRONG_STATE, 0);
+    }
+    let r = tcpao::open::open_active_md5(keys, md5, local, remote, local_port, remote_port, isn);
     let answer = r.answer;
     let opening = r.state;
     put_where(state, opens(answer), opening);

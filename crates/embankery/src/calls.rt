@@ -1,10 +1,11 @@
 // The calls on a key table and on a connection for C: docs/BOUNDARY.md, "Tables", "The calls on one connection" and "The
 // state". They are those of the crate `boundary`. Assumes nothing.
 ghost use mathlib.Core.Path.{_≡_};
-ghost use Rattle.boundary.specs.Exports.{answers, leaves, writes, checkTableExport, openActiveExport, judgeSynExport};
+ghost use Rattle.tables.specs.Tables.{tablesOf};
+ghost use Rattle.boundary.specs.Exports.{answers, leaves, writes, checkTableExport, openActiveExport, openActiveMd5Export, judgeSynExport};
 ghost use Rattle.boundary.specs.Exports.{openPassiveExport, judgeExport, signExport, askExport};
 
-// How many entries, or 10 to 17 with the entry's index.
+// How many key entries, or 10 to 17 and 45 with the entry's table and index.
 #[no_mangle]
 pub extern "C" fn tcpao_check_table(keys: &[u8], md5: &[u8]) -> u64
     ensures { λ r. ⌜ answers r ≡ checkTableExport (tablesOf (now (keys .entry)) (now (md5 .entry))) ⌝ }
@@ -38,6 +39,34 @@ pub extern "C" fn tcpao_open_active(
         remote_port,
         isn,
         send_id,
+        state,
+    )
+}
+
+// Opens actively by MD5; the state is written only where that is done.
+#[no_mangle]
+pub extern "C" fn tcpmd5_open_active(
+    keys: &[u8],
+    md5: &[u8],
+    local: &[u8],
+    remote: &[u8],
+    local_port: u16,
+    remote_port: u16,
+    isn: u32,
+    state: &mut [u8],
+) -> u64
+    ensures { λ r. ⌜ leaves r (now (state .exit))
+        ≡ openActiveMd5Export (tablesOf (now (keys .entry)) (now (md5 .entry))) (now (local .entry)) (now (remote .entry)) «local_port» «remote_port» isn
+        (now (state .entry)) ⌝ }
+{
+    boundary::calls::open_active_md5(
+        keys,
+        md5,
+        local,
+        remote,
+        local_port,
+        remote_port,
+        isn,
         state,
     )
 }
