@@ -99,9 +99,9 @@ fn address(field: &[u8; 16], family: u8) -> &[u8]
 // The table in an array that has room for an entry of IPv6.
 pub fn entries(table: &[u8; 128], family: u8) -> &[u8] {
     if family == 4 {
-        return front(keys, md5, 104);
+        return front(table, 104);
     }
-    front(keys, md5, 128)
+    front(table, 128)
 }
 
 // The entry's bytes before the addresses: document 01, "Key table (house bytes)".
@@ -159,6 +159,7 @@ pub fn judge_syn(e: End, segment: &[u8]) -> SynJudged {
     let t = table(e);
     tcpao::judge::judge_syn(
         entries(&t, pair.family),
+        &t[..0],
         address(&source, pair.family),
         address(&destination, pair.family),
         segment,
@@ -173,6 +174,7 @@ pub fn open_passive(e: End, segment: &[u8], isn: u32) -> Judged {
     let t = table(e);
     tcpao::judge::open_passive(
         entries(&t, pair.family),
+        &t[..0],
         address(&source, pair.family),
         address(&destination, pair.family),
         segment,
@@ -188,6 +190,7 @@ pub fn open_active(e: End, isn: u32) -> Settled {
     let t = table(e);
     tcpao::open::open_active(
         entries(&t, pair.family),
+        &t[..0],
         address(&local, pair.family),
         address(&remote, pair.family),
         pair.local_port,
@@ -204,6 +207,7 @@ pub fn judge(e: End, segment: &[u8], state: State) -> Judged {
     let t = table(e);
     tcpao::judge::judge(
         entries(&t, pair.family),
+        &t[..0],
         address(&source, pair.family),
         address(&destination, pair.family),
         segment,
@@ -214,5 +218,5 @@ pub fn judge(e: End, segment: &[u8], state: State) -> Judged {
 pub fn sign(e: End, segment: &[u8], out: &mut [u8], state: State) -> Signed {
     let pair = e.pair;
     let t = table(e);
-    tcpao::sign::sign(entries(&t, pair.family), segment, out, state)
+    tcpao::sign::sign(entries(&t, pair.family), &t[..0], segment, out, state)
 }
