@@ -27,11 +27,10 @@ use Rattle.boundary.specs.Exports.{answered, accepts, opens}
 abbrev pub tableNumber : ℕ → Bool
 tableNumber n = (leb 10 n && leb n 17) || eqb n 45
 
--- beside "any other" number than 0 and these the value v is 0; beside any other than these the table is 0, and "beside 45 always 1"
+-- beside "any other" number than 0 and these the value is 0; beside any other than these the table is
 abbrev pub together : Answer → Bool
 together a =
     (eqb (a .number) 0 || (eqb (a .value) 0 || tableNumber (a .number))) && (eqb (a .table) 0 || tableNumber (a .number))
-    && (not (eqb (a .number) 45) || eqb (a .table) 1)
 
 -- The numbers and values fit.
 

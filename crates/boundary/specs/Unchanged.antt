@@ -15,6 +15,7 @@ use Rattle.rules.specs.declared.Done.the-variants as D
 use Rattle.rules.specs.declared.Judged.{Judged}
 use Rattle.rules.specs.Connection.{arrivalOf, isOpen, isCounted}
 use Rattle.rules.specs.Calls.{judged, openedPassively, openedActively, openedActivelyMd5, asked, signed}
+use Rattle.rules.specs.Lent.{Lent, tables}
 use Rattle.rules.specs.Refusals.{oneMore}
 use Rattle.states.specs.Layout.{isState, stateBytes, decodeOf}
 use Rattle.boundary.specs.Exports.{changed, stateWhere, strictly}
@@ -53,25 +54,25 @@ ActivelyMd5Refused = (t : Tables) (local remote : List ℕ) (localPort remotePor
 
 -- The calls on a connection, whose state is decodeOf b.
 
-abbrev pub judging : (b : List ℕ) → Tables → (source destination segment : List ℕ) → Judged
-judging b t source destination segment = judged t (arrivalOf source destination segment) (decodeOf b)
+abbrev pub judging : (b : List ℕ) → Lent → (source destination segment : List ℕ) → Judged
+judging b t source destination segment = judged (tables t) (arrivalOf source destination segment) (decodeOf b)
 
 -- a drop adds one to its count if the connection is open and the number is counted, and nothing else
 abbrev pub JudgeRefused : Type 0
-JudgeRefused = (b : List ℕ) → Octets b → (t : Tables) (source destination segment : List ℕ) (n : ℕ)
+JudgeRefused = (b : List ℕ) → Octets b → (t : Lent) (source destination segment : List ℕ) (n : ℕ)
     → judging b t source destination segment .verdict ≡ Drop n
-    → judgeExport t source destination segment b .state
+    → judgeExport (tables t) source destination segment b .state
     ≡ stateWhere b (isOpen (decodeOf b .conn) && isCounted n) (oneMore n (decodeOf b))
 
 -- and judging never passes: that is for a bare SYN without a state
 abbrev pub JudgePassesNone : Type 0
-JudgePassesNone = (b : List ℕ) → Octets b → (t : Tables) (source destination segment : List ℕ)
+JudgePassesNone = (b : List ℕ) → Octets b → (t : Lent) (source destination segment : List ℕ)
     → judging b t source destination segment .verdict ≡ Pass → ⊥
 
 abbrev pub SignRefused : Type 0
-SignRefused = (b : List ℕ) → Octets b → (t : Tables) (s out : List ℕ) (n : ℕ) → signed t s out (decodeOf b) .answer ≡ S.Refused n
-    → (signExport t s out b .state ≡ b) × (signExport t s out b .out ≡ out)
+SignRefused = (b : List ℕ) → Octets b → (t : Lent) (s out : List ℕ) (n : ℕ) → signed (tables t) s out (decodeOf b) .answer ≡ S.Refused n
+    → (signExport (tables t) s out b .state ≡ b) × (signExport (tables t) s out b .out ≡ out)
 
 abbrev pub AskRefused : Type 0
-AskRefused = (b : List ℕ) → Octets b → (t : Tables) (id n : ℕ) → asked t id (decodeOf b) .answer ≡ D.Refused n
-    → askExport t id b .state ≡ b
+AskRefused = (b : List ℕ) → Octets b → (t : Lent) (id n : ℕ) → asked (tables t) id (decodeOf b) .answer ≡ D.Refused n
+    → askExport (tables t) id b .state ≡ b
