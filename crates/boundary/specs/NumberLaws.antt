@@ -200,7 +200,7 @@ signed-fits t s out q = go (checkSign (tables t) s (length out) q) refl (checkSi
   where
     go : (o : Outcome) → checkSign (tables t) s (length out) q ≡ o → fits (checkSign (tables t) s (length out) q) ≡ true → Fits (ofSigned (signed (tables t) s out q))
     go (Good x r) f e =
-        let w = signs-good t s out q x r f .0 .whole in
+        let w = signs-good (tables t) s out q x r f .0 .whole in
         rw f (record { number = omega arith; table = omega arith; value = omega arith; together = refl })
     go Passed f e = rw f (record { number = omega arith; table = omega arith; value = omega arith; together = refl })
     go (Bad n i) f e = let b = bad n i (rw f at e) in rw f (record { number = b .0; table = b .1; value = b .2; together = b .3 })
