@@ -3,7 +3,7 @@
 // The functions assume that the value fits there; specs/NumberLaws.antt proves that every call's does.
 ghost use mathlib.Core.Path.{_≡_};
 ghost use Prim.Native.Nat.{_^_, _<_};
-ghost use Rattle.rules.specs.Answers.{answer as answerOf, refused as refusedOf, verdictAnswer, signingAnswer, doneAnswer, tableAnswer};
+ghost use Rattle.rules.specs.Answers.{answer as answerOf, verdictAnswer, signingAnswer, doneAnswer, tableAnswer};
 ghost use Rattle.boundary.specs.Word.{word as wordOf};
 use rules::Done;
 use rules::Signing;
@@ -17,12 +17,11 @@ pub(crate) fn word(number: u8, value: u32) -> u64
     number as u64 + value as u64 * 4294967296
 }
 
-// A refusal, with the entry that it names.
-fn refused(number: u8, index: Index) -> u64
-    requires { ⌜ index .entry < 2 ^ 32 ⌝ }
-    ensures { λ r. ⌜ r ≡ wordOf (refusedOf number index) ⌝ }
+// A refusal, with the table and the index of the entry that it names.
+fn refused(number: u8, table: u8, entry: u32) -> u64
+    ensures { λ r. ⌜ r ≡ wordOf (record { number = number; table = table; value = entry }) ⌝ }
 {
-    number as u64 + index.table as u64 * 256 + index.entry as u64 * 4294967296
+    number as u64 + table as u64 * 256 + entry as u64 * 4294967296
 }
 
 // "accept, or done: the extension"; "pass"; a drop's number, with "the entry's index" where the table is refused.
@@ -33,7 +32,7 @@ pub(crate) fn of_verdict(verdict: Verdict, index: Index) -> u64
     match verdict {
         Verdict::Accept(extension) => word(0, extension),
         Verdict::Pass => word(1, 0),
-        Verdict::Drop(n) => refused(n, index),
+        Verdict::Drop(n) => refused(n, index.table, index.entry as u32),
     }
 }
 
@@ -44,7 +43,7 @@ pub(crate) fn of_signing(answer: Signing, index: Index) -> u64
 {
     match answer {
         Signing::Signed(n) => word(0, n as u32),
-        Signing::Refused(n) => refused(n, index),
+        Signing::Refused(n) => refused(n, index.table, index.entry as u32),
     }
 }
 
@@ -55,7 +54,7 @@ pub(crate) fn of_done(answer: Done, index: Index) -> u64
 {
     match answer {
         Done::Done => word(0, 0),
-        Done::Refused(n) => refused(n, index),
+        Done::Refused(n) => refused(n, index.table, index.entry as u32),
     }
 }
 
@@ -66,6 +65,6 @@ pub(crate) fn of_table(answer: Admitted) -> u64
 {
     match answer {
         Admitted::Valid(n) => word(0, n as u32),
-        Admitted::Refused(n, i) => refused(n, i),
+        Admitted::Refused(n, i) => refused(n, i.table, i.entry as u32),
     }
 }
