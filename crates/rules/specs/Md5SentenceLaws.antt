@@ -23,8 +23,8 @@ use Rattle.rules.specs.Checksum.{segmentSum, withChecksum}
 use Rattle.rules.specs.Digest.{digestFront, digestInput, segmentDigest}
 use Rattle.rules.specs.Segment.{inserted, withOption, md5OptionBytes}
 use Rattle.rules.specs.Connection.{arrivalPair, localAddress, remoteAddress, placeOn}
-use Rattle.rules.specs.Calls.{md5Tests, digestTests, goodBy, judgeGroups, check, synGroups, checkSyn, addedBytes, outgoing, authenticated}
-use Rattle.rules.specs.Calls.{digested, signedSegment}
+use Rattle.rules.specs.Calls.{goodBy, judgeGroups, check, synGroups, checkSyn, addedBytes, outgoing, authenticated, digested}
+use Rattle.rules.specs.Calls.{signedSegment}
 use Rattle.rules.specs.GroupLaws.{key-md5, mac-md5, syn-key-md5, syn-mac-md5}
 use Rattle.rules.specs.PositionLaws.{place-md5}
 use Rattle.rules.specs.PortLaws.{portsOf}
