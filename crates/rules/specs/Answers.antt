@@ -64,7 +64,7 @@ unfoldable pub doneAnswer : Done → Index → Answer
 doneAnswer D.Done i = answer 0 0
 doneAnswer (D.Refused n) i = refused n i
 
--- a table: how many entries, or "10 to 17 .. with the entry's index"
+-- the tables: how many entries the key table has, or "10 to 17 .. with the entry's index", or 45
 unfoldable pub tableAnswer : Admitted → Answer
 tableAnswer (Valid n) = answer 0 n
 tableAnswer (Refused n i) = refused n i
@@ -83,8 +83,8 @@ unfoldable pub optionsAnswer : ℕ → Options → Answer
 optionsAnswer n O.Malformed = answer n 0
 optionsAnswer n (O.Found s) = answer 0 (s .ao .count)
 
--- The calls: the first number of their tests that applies, with the entry's index beside 10 to 17; else 0, or 1 on pass, and the call's
--- own value.
+-- The calls: the first number of their tests that applies, with the entry's table and index beside 10 to 17 and 45; else 0, or 1 on pass,
+-- and the call's own value.
 
 -- how many entries the key table has
 abbrev pub tableNumber : Tables → Answer

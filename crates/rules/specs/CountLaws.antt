@@ -17,7 +17,7 @@ use Rattle.rules.specs.declared.Verdict.{Verdict}
 use Rattle.rules.specs.declared.Verdict.the-variants.{Accept, Drop}
 use Rattle.rules.specs.declared.State.{State}
 use Rattle.rules.specs.Connection.{located, value, stop, bump, countedNumbers, slots, later, placeIn, slot, isCounted, countAt}
-use Rattle.rules.specs.Connection.{countDrop, withAccepted, withCounted, withDrop}
+use Rattle.rules.specs.Connection.{countDrop, withAccepted, withDrop}
 use Rattle.rules.specs.Demand3.{sum}
 use Rattle.rules.specs.History.{accepts, drops, countedDrops, dropCount}
 
@@ -200,19 +200,14 @@ count-none s = record { accepted = omega arith; dropped = λ n k. omega arith; b
 
 -- each verdict once open
 module _ (s : State) (vs : List Verdict) (e : State) where
-  pub count-counted : (extension : ℕ) → Counts (withCounted s) vs e → Counts s (Accept extension ∷ vs) e
-  count-counted extension c =
+  pub count-accept : (x id extension : ℕ) → Counts (withAccepted x id s) vs e → Counts s (Accept extension ∷ vs) e
+  count-accept x id extension c =
       record {
         accepted = c .accepted ∙ ap (raised (accepts vs)) (bump-raises (s .accepted)) ∙ raised-add 1 (accepts vs) (s .accepted);
         dropped = c .dropped;
         began = c .began;
         total = c .total;
       }
-
-  -- of which only the counts matter
-  pub count-accept : (x id extension : ℕ) → Counts (withAccepted x id s) vs e → Counts s (Accept extension ∷ vs) e
-  count-accept x id extension c =
-      count-counted extension (record { accepted = c .accepted; dropped = c .dropped; began = c .began; total = c .total })
 
   pub count-drop : (n : ℕ) → length (s .drops) ≡ slots → Counts (withDrop n s) vs e → Counts s (Drop n ∷ vs) e
   count-drop n h c =

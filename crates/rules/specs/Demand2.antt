@@ -109,7 +109,8 @@ BareSynOpens = (q : State) (e : Entry) (x : ℕ) (b : List ℕ) (a : Arrival) (t
       verdict = Accept 0;
       index = noIndex;
       state =
-          opened aoWay (arrivalPair a) isn (q .conn .isn) (nextKey t (arrivalPair a) (q .«ask_id») (h .ours .ids .send)) (h .ours .ids .recv);
+          opened aoWay (arrivalPair a) isn (q .conn .isn) (nextKey t (arrivalPair a) (q .«ask_id») (h .ours .ids .send))
+          (h .ours .ids .recv);
     }
 
 -- The three steps of an opening: one end signs a bare SYN while opening, the other opens passively on it and signs a SYN+ACK, and the

@@ -49,7 +49,7 @@ sourceOf u = u .b0 * 2 ^ 8 + u .b1
 abbrev destinationOf : Ports → ℕ
 destinationOf u = u .b2 * 2 ^ 8 + u .b3
 
-low-extension : (n : ℕ) → n < 2 ^ 32 → n / 2 ^ 32 ≡ 0
+pub low-extension : (n : ℕ) → n < 2 ^ 32 → n / 2 ^ 32 ≡ 0
 low-extension n h = omega arith
 
 -- what the call returns where its tests come to Good, by the receiver's stage, on the TCP-AO way

@@ -19,16 +19,14 @@ use Rattle.rules.specs.declared.Connection.{Connection}
 use Rattle.rules.specs.declared.State.{State}
 use Rattle.rules.specs.declared.Judged.{Judged}
 use Rattle.rules.specs.Segment.{keyId}
-use Rattle.rules.specs.Connection.{Arrival, arrivalPair, isOpen, isMd5, extensionOf, md5Way, opened, withCounted}
+use Rattle.rules.specs.Connection.{Arrival, arrivalPair, isOpen, isMd5, md5Way, opened, withCounted}
 use Rattle.rules.specs.Calls.{check, checkSyn, verdictOf, indexOf, judgedBy, judged, judgedSyn, openedBy, openedPassively}
 use Rattle.rules.specs.Ends.{Typed, Facing, Delivered, SignedAt, HoldsMd5}
 use Rattle.rules.specs.Demand2Md5.{OpenSegmentMd5, SynAckMd5, BareSynMd5, BareSynOpensMd5, OtherEndMd5, OpenedTogetherMd5}
 use Rattle.rules.specs.DeliveryLaws.{comes}
+use Rattle.rules.specs.Demand2Laws.{low-extension}
 use Rattle.rules.specs.Md5AcceptedLaws.{open-accepted, syn-ack-accepted, syn-accepted}
 use Rattle.rules.specs.AcceptanceLaws.{sequence-below}
-
-low-extension : (n : ℕ) → n < 2 ^ 32 → extensionOf n ≡ 0
-low-extension n h = omega arith
 
 -- what the call returns where its tests come to Good, by the receiver's stage
 judged-open : (t : Tables) (p : State) (a : Arrival) (n : ℕ) → isMd5 (p .conn) ≡ true → isOpen (p .conn) ≡ true → n < 2 ^ 32

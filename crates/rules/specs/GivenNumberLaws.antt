@@ -23,7 +23,7 @@ use Rattle.keys.specs.MatchLaws.{and-true}
 use Rattle.keys.specs.PlaceLaws.{at-below}
 use Rattle.tables.specs.declared.Admitted.{Admitted}
 use Rattle.tables.specs.declared.Admitted.the-variants.{Valid, Refused}
-use Rattle.tables.specs.Tables.{Tables, maxEntries, crossing, admitted, sendEntry, anyEntry, md5Entry}
+use Rattle.tables.specs.Tables.{Tables, maxEntries, crossing, besides, admitted, sendEntry, anyEntry, md5Entry}
 use Rattle.rules.specs.declared.Outcome.{Outcome}
 use Rattle.rules.specs.declared.Outcome.the-variants.{Good, Passed, Bad}
 use Rattle.rules.specs.declared.Connection.{Connection}
@@ -115,7 +115,7 @@ module _ (kind : TableKind) (limit : ℕ) where
 
 -- what the tables give: at most 64 entries, or 10 to 17 or 45 with an index up to 64
 pub checked-within : CheckedWithin
-unfolding admitted
+unfolding admitted besides
 checked-within b = go (K.loaded Keys maxEntries k) (K.loaded Md5 maxEntries m) (x .there) refl refl refl
   where
     k : List ℕ

@@ -14,7 +14,8 @@ use Rattle.rules.specs.declared.Outcome.the-variants.{Good, Passed, Bad}
 use Rattle.rules.specs.declared.Verdict.{Verdict}
 use Rattle.rules.specs.declared.State.{State}
 use Rattle.octets.specs.Tests.{first}
-use Rattle.rules.specs.Connection.{pairOf, isOpen, isMd5, extensionOf, value, stop, slots, slot, isCounted, opening, empty, withAsked}
+use Rattle.rules.specs.Connection.{pairOf, isOpen, isMd5, extensionOf, value, stop, slots, slot, isCounted, opening, empty, withAccepted}
+use Rattle.rules.specs.Connection.{withAsked}
 use Rattle.rules.specs.Calls.{synIsMd5, check, checkSyn, checkSign, askTests, verdictOf, afterJudging, judged, acceptedOn, openedBy}
 use Rattle.rules.specs.Calls.{openedPassively}
 use Rattle.rules.specs.Calls.{settledBy, unrefused, openTests, openedActively, openedActivelyMd5, asked, outgoing, signedBy, signed}
@@ -22,7 +23,7 @@ use Rattle.rules.specs.Lent.{tables}
 use Rattle.rules.specs.Demand3.{sum}
 use Rattle.rules.specs.History.{Call, judge, sign, ask, next, ended, verdictOn, verdictsOn, accepts, drops, countedDrops, dropCount}
 use Rattle.rules.specs.History.{CountsZero, FromZero, FromPassive, FromActive, FromActiveMd5}
-use Rattle.rules.specs.CountLaws.{raised, each-below, slot-below, length-count, Counts, count-none, count-counted, count-accept}
+use Rattle.rules.specs.CountLaws.{raised, each-below, slot-below, length-count, Counts, count-none, count-accept}
 use Rattle.rules.specs.CountLaws.{count-drop}
 
 -- What a history needs of the state that it starts from: as many counts as the type says, all 0 unless it is open.
@@ -87,7 +88,7 @@ judge-counts : (t : Tables) (q : State) (o : Outcome) (vs : List Verdict) (end :
 judge-counts t q (Good x r) vs end true e h c = rw e (go (isMd5 (q .conn)) refl (rw e at c))
   where
     go : (m : Bool) → isMd5 (q .conn) ≡ m → Counts (acceptedOn t q x r) vs end → Counts q (verdictOf (Good x r) ∷ vs) end
-    go true w d = count-counted q vs end (extensionOf x) (rw w at d)
+    go true w d = count-accept q vs end 0 0 (extensionOf x) (count-same (withAccepted 0 0 q) _ vs end refl refl (rw w at d))
     go false w d = count-accept q vs end x _ (extensionOf x) (rw w at d)
 judge-counts t q (Good x r) vs end false e h c = rw e (count-same q _ vs end (sym (h .fresh e .accepted)) (sym (h .fresh e .drops)) (rw e at c))
 judge-counts t q Passed vs end true e h c = rw e (record { accepted = c .accepted; dropped = c .dropped; began = c .began; total = c .total })

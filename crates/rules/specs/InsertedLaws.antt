@@ -78,7 +78,8 @@ unfolding spread
 spread-all zero i s e = refl
 spread-all (suc n) i s e = rw (spread-all n (suc i) s (omega arith)) (sym (drop-cons s i 0 (omega arith)))
 
-shape : (s : List ℕ) → 20 ≤ length s → fixed (portsOf s) (headOf s) ++ drop 20 s ≡ s
+-- a segment is its twenty fixed bytes and the rest
+pub shape : (s : List ℕ) → 20 ≤ length s → fixed (portsOf s) (headOf s) ++ drop 20 s ≡ s
 unfolding spread
 shape s e = spread-all 20 0 s (omega arith)
 

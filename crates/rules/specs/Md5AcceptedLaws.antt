@@ -18,16 +18,15 @@ use Rattle.keys.specs.MatchLaws.{and-true}
 use Rattle.tables.specs.Tables.{Tables, md5Entry}
 use Rattle.tables.specs.Valid.{ValidTables}
 use Rattle.rules.specs.declared.Place.{Place}
-use Rattle.rules.specs.declared.Place.the-variants.{At}
 use Rattle.rules.specs.declared.Outcome.the-variants.{Good}
 use Rattle.rules.specs.declared.Connection.{Connection}
 use Rattle.rules.specs.declared.State.{State}
-use Rattle.rules.specs.Position.{position}
+use Rattle.rules.specs.PositionLaws.{place-md5}
 use Rattle.rules.specs.Digest.{segmentDigest}
 use Rattle.rules.specs.Mac.{Flow}
 use Rattle.rules.specs.Segment.{md5, isBareSyn, rnextKeyId}
 use Rattle.rules.specs.Connection.{Arrival, arrivalPair, localAddress, remoteAddress, isOpen, isMd5, arriving, arrivingSyn}
-use Rattle.rules.specs.Connection.{placeOn, value}
+use Rattle.rules.specs.Connection.{value}
 use Rattle.rules.specs.Calls.{familyTests, addressTests, tableTests, inputTests, formTests, pairTests, stageTests}
 use Rattle.rules.specs.Calls.{md5Tests, digestTests, judgeGroups, check, synGroups, checkSyn}
 use Rattle.rules.specs.Ends.{Typed, Facing, Delivered, SignedAt}
@@ -37,14 +36,6 @@ use Rattle.rules.specs.DeliveryLaws.{address-length, signs, comes}
 use Rattle.rules.specs.Md5DeliveryLaws.{digest, reads, same-digest}
 use Rattle.rules.specs.AcceptanceLaws.{syn-at, none-20, none-10}
 use Rattle.rules.specs.AcceptedLaws.{sized-by, none-23}
-
--- "28 is not given": on the MD5 way the place of a segment is its number
-pub at-number : (l : Connection) (reference n : ℕ) → isMd5 l ≡ true → placeOn l reference n ≡ At n
-at-number l reference n way = ap (λ (w : Bool). cond (isOpen l && not w) (position reference n) (At n)) way ∙ go (isOpen l)
-  where
-    go : (o : Bool) → cond (o && false) (position reference n) (At n) ≡ At n
-    go true = refl
-    go false = refl
 
 -- A segment that comes to the end that holds the pair p.
 module _ (q : State) (e : Entry) (x : ℕ) (b : List ℕ) (g : SignedAt q e x b) (way : isMd5 (q .conn) ≡ true) (p : Pair) (a : Arrival)
@@ -109,7 +100,7 @@ module _ (q : State) (e : Entry) (x : ℕ) (b : List ℕ) (g : SignedAt q e x b)
   -- a SYN is signed with our ISN as its number, and so it arrives
   syn-number : syn (g .unsigned) ≡ true → sequence came ≡ q .conn .isn
   syn-number its-syn =
-      comes q e x b g p a v .number ∙ ap value (sym (at-number (q .conn) (q .sent) (sequence (g .unsigned)) way) ∙ g .position)
+      comes q e x b g p a v .number ∙ ap value (sym (place-md5 (q .conn) (q .sent) (sequence (g .unsigned)) way) ∙ g .position)
       ∙ syn-at q e x b g its-syn
 
 -- With a state, whose connection is l.
@@ -140,7 +131,7 @@ module _ (q : State) (e : Entry) (x : ℕ) (b : List ℕ) (g : SignedAt q e x b)
             (none-29 q e x b g way (l .pair) a v (md5Entry t (l .pair)) there key facing (arriving l (a .segment)) refl refl);
       })
       ∙ ap₂ (λ (z : Place) (w : Bool). Good (value z) (cond w 0 (rnextKeyId (a .segment))))
-      (at-number l reference (sequence (a .segment)) here) here
+      (place-md5 l reference (sequence (a .segment)) here) here
 
   -- Once open, whatever the reference.
   pub open-accepted : isOpen (q .conn) ≡ true → isOpen l ≡ true → (reference : ℕ)

@@ -1,12 +1,16 @@
 -- Document 02's sentences of Md5Sentences.antt, proved.
-use Prim.Native.Nat.{ℕ, _+_, _≤_}
-use mathlib.Core.Path.{_≡_, refl, ap, _∙_}
+use Prim.Native.Nat.{ℕ, _+_, _-_, _≤_}
+use mathlib.Core.Path.{_≡_, refl, ap, _∙_, subst}
 use mathlib.Core.Bool.{Bool, true, false, cond}
-use mathlib.Core.List.{List, [], _∷_, _++_, append-assoc}
+use mathlib.Core.List.{List, [], _∷_, _++_}
 use native.Mathlib.Omega.{arith}
 use lib.ListN.{length, take, drop}
-use Rattle.octets.specs.Tests.{joined, first}
-use Rattle.wire.specs.Header.{sequence, headerEnd, wellSized}
+use lib.Seq.{take-append-add}
+use borrow.Author.Tests.{ltb-false, not-true}
+use Rattle.octets.specs.Tests.{any, tests, joined, first}
+use Rattle.octets.specs.TestLaws.{NoneApplies}
+use Rattle.mac.specs.Md5.{md5}
+use Rattle.wire.specs.Header.{sequence, dataOffset, headerEnd, sizeFaults}
 use Rattle.wire.specs.Options.{optionsOf, readFrom}
 use Rattle.keys.specs.Algorithm.{macBytes}
 use Rattle.keys.specs.Entry.{knownKind, extra, item}
@@ -19,10 +23,12 @@ use Rattle.rules.specs.Checksum.{segmentSum, withChecksum}
 use Rattle.rules.specs.Digest.{digestFront, digestInput, segmentDigest}
 use Rattle.rules.specs.Segment.{inserted, withOption, md5OptionBytes}
 use Rattle.rules.specs.Connection.{arrivalPair, localAddress, remoteAddress, placeOn}
-use Rattle.rules.specs.Calls.{md5Tests, digestTests, goodBy, judgeGroups, check, synGroups, checkSyn, addedBytes, outgoing, authenticated}
-use Rattle.rules.specs.Calls.{digested, signedSegment}
+use Rattle.rules.specs.Calls.{goodBy, judgeGroups, check, synGroups, checkSyn, addedBytes, outgoing, authenticated, digested}
+use Rattle.rules.specs.Calls.{signedSegment}
 use Rattle.rules.specs.GroupLaws.{key-md5, mac-md5, syn-key-md5, syn-mac-md5}
 use Rattle.rules.specs.PositionLaws.{place-md5}
+use Rattle.rules.specs.PortLaws.{portsOf}
+use Rattle.rules.specs.InsertedLaws.{fixed, headOf, shape}
 use Rattle.rules.specs.DeliveryLaws.{outgoing-md5}
 use Rattle.rules.specs.SentenceLaws.{first-flat, sign-rows}
 use Rattle.rules.specs.Md5Sentences.{judgeRowsMd5, synRowsMd5, JudgeTableMd5, SynTableMd5, SignTableMd5, EntryOrderMd5, ListedMd5}
@@ -61,6 +67,30 @@ entry-order-md5 limit i before x = refl
 pub listed-md5 : ListedMd5
 unfolding numberOf knownKind extra item macBytes
 listed-md5 = record { kinds = refl; flags = refl; algorithms = refl; ids = refl; asked-ids = refl; digest = refl }
+
+-- the first twenty bytes of a header that has them, the checksum zero
+first-twenty : (s : List ℕ) (n : ℕ) → 20 ≤ length s → 20 ≤ n
+    → take 20 (blank 16 2 (take n s)) ≡ take 16 s ++ (0 ∷ 0 ∷ take 2 (drop 18 s))
+first-twenty s n long low =
+    let k : n ≡ 20 + (n - 20) = omega arith in
+    subst (λ (z : List ℕ). take 20 (blank 16 2 (take n z)) ≡ take 16 z ++ (0 ∷ 0 ∷ take 2 (drop 18 z))) (shape s long)
+    (ap (λ (l : List ℕ). take 20 (blank 16 2 l))
+    (ap (λ (m : ℕ). take m (fixed (portsOf s) (headOf s) ++ drop 20 s)) k
+    ∙ take-append-add (fixed (portsOf s) (headOf s)) (drop 20 s) (n - 20)))
+
+none-of-any : (l : List Bool) → any l ≡ false → NoneApplies {O = ℕ} (tests 0 l)
+none-of-any [] e = tt
+none-of-any (true ∷ l) e = let z : _≡_ {A = ℕ} 0 1 = cc in absurd (omega arith)
+none-of-any (false ∷ l) e = (refl, none-of-any l e)
+
+pub digest-of : DigestOf
+unfolding segmentDigest digestInput digestFront
+digest-of key source destination s sized =
+    ap (λ (h : List ℕ). md5 (pseudoHeader source destination (length s) ++ h ++ (drop (headerEnd s) s ++ key)))
+    (first-twenty s (headerEnd s) (ltb-false (length s) 20 (faults .0)) (omega (arith, ltb-false (dataOffset s) 5 (faults .1 .1 .0))))
+  where
+    faults : NoneApplies {O = ℕ} (tests 0 (sizeFaults s))
+    faults = none-of-any (sizeFaults s) (not-true (any (sizeFaults s)) sized)
 
 pub signed-as-md5 : SignedAsMd5
 unfolding signedSegment digested

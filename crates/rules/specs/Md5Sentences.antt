@@ -102,7 +102,7 @@ abbrev pub DigestOf : Type 0
 DigestOf = (key source destination s : List ℕ) → wellSized s ≡ true
     → segmentDigest key source destination s
     ≡ hash
-    (pseudoHeader source destination (length s) ++ take 16 s ++ (0 ∷ 0 ∷ take 2 (drop 18 s)) ++ drop (headerEnd s) s ++ key)
+    (pseudoHeader source destination (length s) ++ (take 16 s ++ (0 ∷ 0 ∷ take 2 (drop 18 s))) ++ (drop (headerEnd s) s ++ key))
 
 -- What is signed: the digest of the segment with zeros for it, between the state's own addresses; then the checksum.
 abbrev pub SignedAsMd5 : Type 0

@@ -121,7 +121,8 @@ OpensPassivelyMd5 = (t : Tables) (a : Arrival) (isn : ℕ) (strict : Bool) (e : 
       drops = zeroCounts;
     }
 
--- "An accepted SYN+ACK opens the connection; its sequence number is the peer's ISN"; "the segment that opens is not counted". The way stays.
+-- "An accepted SYN+ACK opens the connection; its sequence number is the peer's ISN"; "the segment that opens is not counted". The way
+-- stays.
 abbrev pub synAckOpened : State → Arrival → ℕ → State
 synAckOpened q a sendId =
     record {

@@ -54,7 +54,8 @@ stateAfter (judgeSyn b a strict) = empty
 stateAfter (openPassively b a isn strict) = openedPassively (tables b) a isn strict .state
 stateAfter (openActively b local remote localPort remotePort isn sendId) =
     openedActively (tables b) local remote localPort remotePort isn sendId .state
-stateAfter (openActivelyMd5 b local remote localPort remotePort isn) = openedActivelyMd5 (tables b) local remote localPort remotePort isn .state
+stateAfter (openActivelyMd5 b local remote localPort remotePort isn) =
+    openedActivelyMd5 (tables b) local remote localPort remotePort isn .state
 
 -- the output, before and after; only signing has one
 abbrev pub outputBefore : Request → List ℕ

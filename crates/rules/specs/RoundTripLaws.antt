@@ -100,7 +100,8 @@ module _ (s : List ℕ) (fresh : Fresh s) (k r : ℕ) (m : List ℕ) where
     alone = record { md5 = record { count = 0; at = 0; len = 0 }; ao = record { count = 1; at = 0; len = 4 + length m } }
 
     options-arrived : optionsOf (area b) ≡ Found alone
-    options-arrived = only s fresh 29 (4 + length m) (padding (length m)) (k ∷ r ∷ m) (area b) (omega arith) (omega arith) (omega arith) (p .its-area)
+    options-arrived =
+        only s fresh 29 (4 + length m) (padding (length m)) (k ∷ r ∷ m) (area b) (omega arith) (omega arith) (omega arith) (p .its-area)
 
     at-option : (i : ℕ) → getD b (20 + i) 0 ≡ getD (ours ++ drop 20 s) i 0
     at-option i = sym (getD-drop 20 b i 0) ∙ ap (λ (l : List ℕ). getD l i 0) (p .behind)

@@ -71,11 +71,13 @@ module _ (t : Tables) (s out : List ℕ) (q : State) where
       (none-signs n, cc, cc)
 
   -- where the call answers with a length, it signed
-  pub signed-good : (n : ℕ) → signed t s out q .answer ≡ S.Signed n → (x : ℕ) × (r : ℕ) × (checkSign t s (length out) q ≡ Good x r) × (length s + addedOn (q .conn) (outgoing t q .entry) ≡ n)
+  pub signed-good : (n : ℕ) → signed t s out q .answer ≡ S.Signed n
+      → (x : ℕ) × (r : ℕ) × (checkSign t s (length out) q ≡ Good x r) × (length s + addedOn (q .conn) (outgoing t q .entry) ≡ n)
   unfolding signed
   signed-good n e = go (checkSign t s (length out) q) refl
     where
-      go : (o : Outcome) → checkSign t s (length out) q ≡ o → (x : ℕ) × (r : ℕ) × (checkSign t s (length out) q ≡ Good x r) × (length s + addedOn (q .conn) (outgoing t q .entry) ≡ n)
+      go : (o : Outcome) → checkSign t s (length out) q ≡ o
+          → (x : ℕ) × (r : ℕ) × (checkSign t s (length out) q ≡ Good x r) × (length s + addedOn (q .conn) (outgoing t q .entry) ≡ n)
       go (Good x r) f = (x, r, f, cc (rw f at e))
       go Passed f = let z : _≡_ {A = ℕ} 0 1 = cc (rw f at e) in absurd (omega arith)
       go (Bad m i) f = let z : _≡_ {A = ℕ} 0 1 = cc (rw f at e) in absurd (omega arith)

@@ -39,7 +39,7 @@ use Rattle.rules.specs.JudgeLaws.{nonzero, absent, none-of}
 use Rattle.rules.specs.History.{Call, judge, sign, ask, next, ended}
 use Rattle.rules.specs.Lent.{tables}
 use Rattle.rules.specs.Ways.{ByAo, ByMd5, AcceptedByMd5, AcceptedByAo, SynAcceptedByMd5, SynAcceptedByAo, Md5Still}
-use Rattle.rules.specs.Md5AcceptedLaws.{at-number}
+use Rattle.rules.specs.PositionLaws.{place-md5}
 use Rattle.rules.specs.AcceptanceLaws.{sequence-below}
 
 -- What the tests of each way leave, where none of them applies.
@@ -100,7 +100,7 @@ accepted-by-md5 t a q e octets way v = (
   by-md5 (a .segment) f (c .form) key,
   record { there = found .0; digest = found .1 ∙ between },
   no-extension (a .segment) octets (placeOn (q .conn) (q .seen) (sequence (a .segment)))
-      (at-number (q .conn) (q .seen) (sequence (a .segment)) way) _ (good t a q e v .0) _ e (given t a q e v) (good t a q e v .3),
+      (place-md5 (q .conn) (q .seen) (sequence (a .segment)) way) _ (good t a q e v .0) _ e (given t a q e v) (good t a q e v .3),
 )
   where
     c : Clear (judgeGroups t (q .conn) (q .seen) a)
