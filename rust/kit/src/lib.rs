@@ -15,7 +15,7 @@ pub mod segment;
 pub mod state;
 
 pub use bytes::Bytes;
-pub use calls::{number, value, word, Boundary, Call, Function, Outcome};
+pub use calls::{md5_word, number, value, word, Boundary, Call, Function, Outcome};
 pub use ends::{translated, End, Pair};
 pub use entry::{Entry, Side};
 pub use segment::Segment;
