@@ -3,10 +3,11 @@
 //! What is kept does not grow with the capture: all that is kept has a limit together ([`MOST_BYTES`]), and
 //! connections that begin behind it are only counted.
 
+use crate::capture::ip::Whole;
 use crate::capture::tcp::Header;
-use crate::capture::Time;
+use crate::capture::{Seen, Time};
 use std::collections::HashMap;
-use std::net::{IpAddr, SocketAddr};
+use std::net::SocketAddr;
 
 /// All that a [`Finder`] keeps, in bytes, about.
 pub const MOST_BYTES: usize = 64 << 20;
@@ -67,35 +68,6 @@ pub fn pair(one: SocketAddr, other: SocketAddr) -> Pair {
     (one.min(other), one.max(other))
 }
 
-/// A segment as the finder takes it.
-#[derive(Clone, Copy, Debug)]
-pub struct Seen<'a> {
-    /// Its packet's number.
-    pub number: u64,
-    /// Its packet's time.
-    pub time: Option<Time>,
-    /// Who sent it.
-    pub source: IpAddr,
-    /// Whom it is for.
-    pub destination: IpAddr,
-    /// Its header.
-    pub header: Header,
-    /// Its bytes.
-    pub segment: &'a [u8],
-}
-
-impl Seen<'_> {
-    /// The sender's address and port.
-    pub fn from(&self) -> SocketAddr {
-        SocketAddr::new(self.source, self.header.source_port)
-    }
-
-    /// The receiver's.
-    pub fn to(&self) -> SocketAddr {
-        SocketAddr::new(self.destination, self.header.destination_port)
-    }
-}
-
 /// Finds the connections of a capture, from its segments in order.
 #[derive(Debug, Default)]
 pub struct Finder {
@@ -124,9 +96,9 @@ impl Finder {
         let place = match opening(&seen) {
             Some((client, server, isn)) => self.of_isn(client, server, isn, seen.number),
             None => {
-                let latest = self.latest.get(&pair(seen.from(), seen.to()));
-                let latest = latest.copied();
-                latest.or_else(|| self.add(seen.from(), seen.to(), None, seen.number))
+                let (from, to) = (seen.source, seen.destination);
+                let latest = self.latest.get(&pair(from, to)).copied();
+                latest.or_else(|| self.add(from, to, None, seen.number))
             }
         };
         let Some(place) = place else {
@@ -185,7 +157,10 @@ impl Finder {
     /// Keeps a SYN or a SYN+ACK that was not seen before.
     fn keep(&mut self, place: usize, seen: Seen) {
         let found = &mut self.found[place];
-        let kept = match seen.header.flags {
+        let Some(header) = seen.header.filter(|_| seen.whole == Whole::Yes) else {
+            return;
+        };
+        let kept = match header.flags {
             flags if flags.is_bare_syn() => &mut found.syns,
             flags if flags.is_syn_ack() => &mut found.answers,
             _ => return,
@@ -209,12 +184,12 @@ impl Finder {
 
 /// Client, server and the client's ISN, of a SYN or a SYN+ACK.
 fn opening(seen: &Seen) -> Option<(SocketAddr, SocketAddr, u32)> {
-    let header = seen.header;
+    let header = seen.header?;
     if header.flags.is_bare_syn() {
-        Some((seen.from(), seen.to(), header.sequence))
+        Some((seen.source, seen.destination, header.sequence))
     } else if header.flags.is_syn_ack() {
         let isn = header.acknowledgment.wrapping_sub(1);
-        Some((seen.to(), seen.from(), isn))
+        Some((seen.destination, seen.source, isn))
     } else {
         None
     }

@@ -10,9 +10,11 @@ mod pcapng;
 mod source;
 pub mod tcp;
 mod time;
+mod walk;
 
 pub use source::Fault;
 pub use time::Time;
+pub use walk::{walk, Event, Seen, Walked};
 
 use pcap::Pcap;
 use pcapng::Pcapng;

@@ -58,11 +58,6 @@ impl<R: Read> Source<R> {
         }
     }
 
-    /// How many bytes were read.
-    pub fn at(&self) -> u64 {
-        self.at
-    }
-
     /// Fills the buffer, or what of it the file still has; gives how much that is.
     pub fn fill(&mut self, buffer: &mut [u8]) -> Result<usize, Fault> {
         let mut filled = 0;

@@ -1,0 +1,47 @@
+//! How the command ends.
+
+/// Why the command ends before it is done, in words, with its exit status.
+#[derive(Clone, Debug, PartialEq, Eq)]
+pub struct Stop {
+    /// The exit status.
+    pub status: u8,
+    /// What to say.
+    pub words: String,
+}
+
+/// All is well.
+pub const DONE: u8 = 0;
+/// Something was refused or dropped, or could not be judged.
+pub const REFUSED: u8 = 1;
+/// The command was not used as it is meant, or a file cannot be read or written.
+pub const USAGE: u8 = 2;
+
+impl Stop {
+    /// Something was refused.
+    pub fn refused(words: impl Into<String>) -> Stop {
+        Stop {
+            status: REFUSED,
+            words: words.into(),
+        }
+    }
+
+    /// Bad usage.
+    pub fn usage(words: impl Into<String>) -> Stop {
+        Stop {
+            status: USAGE,
+            words: words.into(),
+        }
+    }
+
+    /// A file cannot be read or written.
+    pub fn file(path: &str, error: impl std::fmt::Display) -> Stop {
+        Stop::usage(format!("{path}: {error}"))
+    }
+}
+
+/// What is written to the command's output cannot be written.
+impl From<std::io::Error> for Stop {
+    fn from(error: std::io::Error) -> Stop {
+        Stop::usage(format!("the output: {error}"))
+    }
+}
