@@ -64,7 +64,7 @@ const SUBCOMMANDS: &[Subcommand] = &[
     Subcommand {
         words: &["record"],
         help: help::RECORD,
-        options: &[KEYS, CONNECTION, LOCAL, LEAVING, LIST, SET_CHECKSUMS],
+        options: &[KEYS, MD5, CONNECTION, LOCAL, LEAVING, LIST, SET_CHECKSUMS],
         run: write_recording,
     },
     Subcommand {
@@ -138,9 +138,9 @@ fn dispatch(arguments: &[String], writers: &mut Writers) -> Result<u8, Stop> {
 
 /// Bad usage of a subcommand says where more is to be read.
 fn run_and_hint(run: impl FnOnce() -> Result<u8, Stop>, name: &str) -> Result<u8, Stop> {
-    run().map_err(|stop| match stop.status {
-        USAGE => Stop::usage(format!("{name}: {} (embankery {name} --help)", stop.words)),
-        _ => stop,
+    run().map_err(|stop| match stop.hint {
+        true => Stop::usage(format!("{name}: {} (embankery {name} --help)", stop.words)),
+        false => stop,
     })
 }
 

@@ -130,9 +130,9 @@ fn read<R: Read>(
     input: io::Result<R>,
     each: impl FnMut(Event) -> ControlFlow<()>,
 ) -> Result<Walked, Stop> {
-    let input = input.map_err(|error| Stop::usage(error.to_string()))?;
+    let input = input.map_err(|error| Stop::system(error.to_string()))?;
     walk(input, each).map_err(|fault| match fault {
-        Fault::System(error) => Stop::usage(error.to_string()),
+        Fault::System(error) => Stop::system(error.to_string()),
         fault => Stop::refused(fault.to_string()),
     })
 }

@@ -82,7 +82,7 @@ happened. A summary by reason follows.
 
 /// `record`.
 pub const RECORD: &str = "\
-embankery record CAPTURE --keys KEYS [--connection N] [--local ADDRESS] [--leaving]
+embankery record CAPTURE --keys KEYS [--md5 MD5] [--connection N] [--local ADDRESS] [--leaving]
                          [--set-checksums] > LINE.recording
 embankery record CAPTURE --list
 

@@ -7,6 +7,8 @@ pub struct Stop {
     pub status: u8,
     /// What to say.
     pub words: String,
+    /// Whether the subcommand's help would help.
+    pub hint: bool,
 }
 
 /// All is well.
@@ -22,6 +24,7 @@ impl Stop {
         Stop {
             status: REFUSED,
             words: words.into(),
+            hint: false,
         }
     }
 
@@ -30,18 +33,27 @@ impl Stop {
         Stop {
             status: USAGE,
             words: words.into(),
+            hint: true,
         }
     }
 
     /// A file cannot be read or written.
     pub fn file(path: &str, error: impl std::fmt::Display) -> Stop {
-        Stop::usage(format!("{path}: {error}"))
+        Stop::system(format!("{path}: {error}"))
+    }
+
+    /// Something else that the system refuses.
+    pub fn system(words: impl Into<String>) -> Stop {
+        Stop {
+            hint: false,
+            ..Stop::usage(words)
+        }
     }
 }
 
 /// What is written to the command's output cannot be written.
 impl From<std::io::Error> for Stop {
     fn from(error: std::io::Error) -> Stop {
-        Stop::usage(format!("the output: {error}"))
+        Stop::system(format!("the output: {error}"))
     }
 }
