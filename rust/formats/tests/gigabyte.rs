@@ -46,24 +46,23 @@ fn most_memory() -> u64 {
     kilobytes.parse::<u64>().unwrap() * 1_024
 }
 
-fn frame(flags: u8, sequence: u32, data: usize) -> Vec<u8> {
+fn frame(from: [u8; 4], to: [u8; 4], flags: u8, data: usize) -> Vec<u8> {
     let segment = Segment {
         flags,
-        sequence,
-        acknowledgment: sequence + 1,
+        acknowledgment: 1,
         data: vec![7; data],
         ..Segment::default()
     };
-    Wrap::Ethernet.frame(&packet(&[10, 0, 0, 1], &[10, 0, 0, 2], &segment.bytes()))
+    Wrap::Ethernet.frame(&packet(&from, &to, &segment.bytes()))
 }
 
 #[test]
 fn a_gigabyte() {
     for form in [Form::ALL[0], Form::ALL[4]] {
-        let again: Vec<u8> = (0..100)
-            .flat_map(|i| form.packet(i, &frame(ACK, 9, 1_400)))
-            .collect();
-        let opening = [frame(SYN, 5, 0), frame(SYN | ACK, 5, 0)];
+        let (a, b) = ([10, 0, 0, 1], [10, 0, 0, 2]);
+        let data = frame(a, b, ACK, 1_400);
+        let again: Vec<u8> = (0..100).flat_map(|i| form.packet(i, &data)).collect();
+        let opening = [frame(a, b, SYN, 0), frame(b, a, SYN | ACK, 0)];
         let file = Endless {
             head: form.file(1, opening.iter().map(Vec::as_slice)),
             again,
@@ -80,7 +79,8 @@ fn a_gigabyte() {
         });
         let walked = walked.unwrap();
         assert!(walked.packets > GIGABYTE / 1_600, "{walked:?}");
-        assert_eq!(finder.found().len(), 2);
+        assert_eq!(finder.found().len(), 1);
+        assert!(finder.found()[0].has_opening());
         let taken = most_memory() - before;
         assert!(taken < ALLOWED, "{form:?} took {taken} bytes more");
     }

@@ -27,6 +27,20 @@ pub struct Choice {
     pub set_checksums: bool,
 }
 
+impl Choice {
+    /// A segment with its right checksum, if that is wanted.
+    fn summed(&self, seen: &Seen) -> Option<Vec<u8>> {
+        let (source, destination) = (seen.source.ip(), seen.destination.ip());
+        self.set_checksums
+            .then(|| with_checksum(source, destination, seen.segment))
+    }
+
+    /// Whether a connection is looked at.
+    fn wants(&self, number: usize) -> bool {
+        self.connection.is_none_or(|chosen| chosen == number)
+    }
+}
+
 /// What became of a segment.
 #[derive(Clone, Debug, PartialEq, Eq)]
 pub enum Fate {
@@ -173,7 +187,9 @@ impl<'a> Desk<'a> {
         let mut finder = Finder::default();
         let walked = read(input, |event| {
             if let Event::Segment(seen) = event {
-                finder.take(seen);
+                let summed = choice.summed(&seen);
+                let segment = summed.as_deref().unwrap_or(seen.segment);
+                finder.take(Seen { segment, ..seen });
             }
             ControlFlow::Continue(())
         })?;
@@ -196,9 +212,7 @@ impl<'a> Desk<'a> {
             by_pair: HashMap::new(),
         };
         for opening in openings {
-            if desk.wants(opening.number) {
-                desk.add(opening);
-            }
+            desk.add(opening);
         }
         Ok(desk)
     }
@@ -215,7 +229,8 @@ impl<'a> Desk<'a> {
 
     /// The connections that are to be judged.
     pub fn openings(&self) -> impl Iterator<Item = &Opening> {
-        self.live.iter().map(|live| &live.opening)
+        let all = self.live.iter().map(|live| &live.opening);
+        all.filter(|opening| self.choice.wants(opening.number))
     }
 
     /// Reads the capture again, judges its segments and hands on a line for each.
@@ -251,11 +266,6 @@ impl<'a> Desk<'a> {
             Some(error) => Err(error.into()),
             None => Ok(self.report(unread)),
         }
-    }
-
-    /// Whether a connection is looked at.
-    fn wants(&self, number: usize) -> bool {
-        self.choice.connection.is_none_or(|chosen| chosen == number)
     }
 
     /// Adds a connection to those of its pair. One that the server did not open takes no segments from an earlier one
@@ -297,17 +307,14 @@ impl<'a> Desk<'a> {
         seen: Seen,
         each: &mut dyn FnMut(&Line) -> io::Result<()>,
     ) -> io::Result<()> {
-        let Some(place) = self.place(&seen) else {
+        let place = self.place(&seen);
+        let wanted = |place: &usize| self.choice.wants(self.live[*place].opening.number);
+        let Some(place) = place.filter(wanted) else {
             return Ok(());
         };
-        let summed = self.choice.set_checksums.then(|| {
-            let (source, destination) = (seen.source.ip(), seen.destination.ip());
-            with_checksum(source, destination, seen.segment)
-        });
-        let seen = Seen {
-            segment: summed.as_deref().unwrap_or(seen.segment),
-            ..seen
-        };
+        let summed = self.choice.summed(&seen);
+        let segment = summed.as_deref().unwrap_or(seen.segment);
+        let seen = Seen { segment, ..seen };
         each(&self.live[place].line(&self.views, seen))
     }
 
@@ -317,11 +324,12 @@ impl<'a> Desk<'a> {
         for (number, found) in (1..).zip(self.finder.found()) {
             if !self.views.cover(found.client, found.server) {
                 others += 1;
-            } else if found.syns.is_empty() && self.wants(number) {
+            } else if found.syns.is_empty() && self.choice.wants(number) {
                 unopened.push(number);
             }
         }
-        let judged = self.live.into_iter();
+        let wanted = |live: &Live| self.choice.wants(live.opening.number);
+        let judged = self.live.into_iter().filter(wanted);
         let judged =
             judged.map(|live| (live.opening, [live.at_client.counts, live.at_server.counts]));
         Report {
