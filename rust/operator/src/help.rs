@@ -13,7 +13,7 @@ embankery: key tables and captures for TCP-AO (RFC 5925) and TCP MD5 (RFC 2385)
   embankery demo           two ends whose sequence numbers roll over
 
 embankery COMMAND --help says more of each. Exit status: 0 all is well; 1 something was refused,
-dropped or could not be judged; 2 bad usage, or a file that cannot be read. docs/OPERATING.md has
+dropped or could not be judged; 2 bad usage, or a file cannot be read. docs/OPERATING.md has
 the tables' grammar and the procedures.
 ";
 
@@ -64,20 +64,20 @@ embankery desk CAPTURE [--keys KEYS] [--md5 MD5] [--connection N] [--local ADDRE
                        [--problems] [--set-checksums]
 
 Reads a capture (pcap or pcapng; Ethernet, raw IP, Linux cooked) and has the archive judge every
-segment of each connection that an entry matches, both directions: what arrives at the station whose
-tables are given (in) by these, what arrives at its peer (out) by their mirror. A connection can be
-judged if its SYN and SYN+ACK are in the capture, since the keys depend on both ISNs.
+segment of each connection that an entry matches, both directions: what arrives at the station
+whose tables are given (in) by these, what arrives at its peer (out) by their mirror. A connection
+can be judged if its SYN and SYN+ACK are in the capture, since the keys depend on both ISNs.
 
 A line has the packet's number, the time since the first packet, the connection, the direction, the
-index in the recording of that direction, the number (0 accepted), the extension, the KeyID, and what
-happened. A summary by reason follows.
+index in the recording of that direction, the number (0 accepted), the extension, the KeyID, and
+what happened. A summary by reason follows.
 
   --keys, --md5     the station's tables, as text or as bytes
   --connection N    only this connection (embankery record --list has the numbers)
   --local ADDRESS   the station's address; otherwise it is found by trying both ends
   --problems        only lines of segments that were not accepted
-  --set-checksums   sets each segment's checksum right first: for a capture made on the sender, where
-                    the network card writes checksums only afterwards, so that all would get 40
+  --set-checksums   sets each segment's checksum right first: for a capture made on the sender,
+                    where the network card writes checksums afterwards, so that all would get 40
 ";
 
 /// `record`.
@@ -86,11 +86,11 @@ embankery record CAPTURE --keys KEYS [--md5 MD5] [--connection N] [--local ADDRE
                          [--set-checksums] > LINE.recording
 embankery record CAPTURE --list
 
-Lists the connections of a capture and writes one direction of one of them as a recording, which the
-program desk reads: the key table, the connection just after its opening, and each segment that
-arrives. That is the direction that arrives at the station whose table is given; with --leaving it is
-the other one, with the table's mirror. The list goes to the standard error, or with --list, alone,
-to the standard output.
+Lists the connections of a capture and writes one direction of one of them as a recording, which
+the program desk reads: the key table, the connection just after its opening, and each segment that
+arrives. That is the direction that arrives at the station whose table is given; with --leaving it
+is the other one, with the table's mirror. The list goes to the standard error, or with --list,
+alone, to the standard output.
 ";
 
 /// `explain`.
