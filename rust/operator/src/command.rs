@@ -1,13 +1,14 @@
 //! The subcommands.
 
 use crate::arguments::{flag, valued, Arguments, Known};
-use crate::desk::{Choice, Desk, Fate};
+use crate::desk::{find, Choice, Desk, Fate};
 use crate::openings::{Direction, Views};
 use crate::record::record;
 use crate::stop::{Stop, DONE, REFUSED, USAGE};
 use crate::tables::{checked, counted, File, Station};
 use crate::{demo, explain, help, show};
 use embankery::Verdict;
+use formats::capture::Walked;
 use formats::text::{Keys, Kind};
 use std::io::{self, IsTerminal, Write};
 use std::net::IpAddr;
@@ -90,6 +91,7 @@ pub fn run(arguments: &[String], out: &mut dyn Write, err: &mut dyn Write) -> u8
         Err(stop) => {
             // Where not even this can be written, the status says it.
             let _ = match stop.status {
+                _ if stop.words.is_empty() => Ok(()),
                 USAGE => writeln!(writers.err, "embankery: {}", stop.words),
                 _ => writeln!(writers.err, "{}", stop.words),
             };
@@ -238,10 +240,7 @@ fn desk(arguments: &Arguments, writers: &mut Writers) -> Result<u8, Stop> {
     let path = arguments.one("the capture")?;
     let (station, choice) = (station(arguments)?, choice(arguments)?);
     let mirrored = station.mirrored()?;
-    let views = Views {
-        ours: station.tables()?,
-        peers: mirrored.tables()?,
-    };
+    let views = Views::new(&station, &mirrored)?;
     let open = || std::fs::File::open(path);
     let desk = Desk::new(open(), views, choice).map_err(|stop| of_file(path, stop))?;
     let (out, first) = (&mut writers.out, desk.walked().first);
@@ -273,52 +272,57 @@ fn of_file(path: &str, stop: Stop) -> Stop {
     }
 }
 
+fn list(path: &str, choice: &Choice, writers: &mut Writers) -> Result<u8, Stop> {
+    let found = find(std::fs::File::open(path), choice);
+    let (finder, walked) = found.map_err(|stop| of_file(path, stop))?;
+    write!(writers.out, "{}", show::list(finder.found()))?;
+    ended(path, &walked, writers)
+}
+
+/// Says whether a capture could not be read to its end.
+fn ended(path: &str, walked: &Walked, writers: &mut Writers) -> Result<u8, Stop> {
+    let Some(fault) = &walked.fault else {
+        return Ok(DONE);
+    };
+    writeln!(writers.err, "{path}: {fault}")?;
+    Ok(REFUSED)
+}
+
 fn write_recording(arguments: &Arguments, writers: &mut Writers) -> Result<u8, Stop> {
     let path = arguments.one("the capture")?;
-    let open = || std::fs::File::open(path);
-    let list_only = arguments.has(LIST.name);
-    let station = match list_only {
-        true => Station::empty()?,
-        false => station(arguments)?,
-    };
     let choice = choice(arguments)?;
-    let tables = station.tables()?;
-    let views = Views {
-        ours: tables,
-        peers: tables,
-    };
-    let desk = Desk::new(open(), views, choice).map_err(|stop| of_file(path, stop))?;
-    let list = show::list(desk.found());
-    let fault = desk.walked().fault.as_ref();
-    let fault = fault.map_or(String::new(), |fault| format!("{path}: {fault}\n"));
-    if list_only {
-        write!(writers.out, "{list}")?;
-        write!(writers.err, "{fault}")?;
-        return Ok(if fault.is_empty() { DONE } else { REFUSED });
+    if arguments.has(LIST.name) {
+        return list(path, &choice, writers);
     }
-    write!(writers.err, "{list}{fault}")?;
+    let open = || std::fs::File::open(path);
+    let station = station(arguments)?;
     not_a_terminal()?;
+    let mirrored = station.mirrored()?;
+    let views = Views::new(&station, &mirrored)?;
+    let desk = Desk::new(open(), views, choice).map_err(|stop| of_file(path, stop))?;
+    write!(writers.err, "{}", show::list(desk.found()))?;
+    let status = ended(path, desk.walked(), writers)?;
     let direction = match arguments.has(LEAVING.name) {
         true => Direction::Out,
         false => Direction::In,
     };
-    let recorded = record(open, &station, choice, direction, &mut writers.out)?;
+    let stations = [&station, &mirrored];
+    let recorded = record(desk, open(), stations, direction, &mut writers.out)?;
     let (opening, segments) = (&recorded.opening, recorded.segments);
-    let end = opening.address(opening.receiver(direction));
-    let number = opening.number;
+    let (number, end) = (opening.number, opening.address(opening.receiver(direction)));
     writeln!(
         writers.err,
         "recorded: connection {number}, {segments} segments that arrive at {end}"
     )?;
-    if recorded.left_out > 0 {
-        let left_out = recorded.left_out;
-        writeln!(
-            writers.err,
-            "left out: {left_out} that are not whole, or too long for a recording"
-        )?;
+    if recorded.left_out == 0 {
+        return Ok(status);
     }
-    let good = recorded.left_out == 0 && fault.is_empty();
-    Ok(if good { DONE } else { REFUSED })
+    let left_out = recorded.left_out;
+    writeln!(
+        writers.err,
+        "left out: {left_out} that are not whole, or too long for a recording"
+    )?;
+    Ok(REFUSED)
 }
 
 fn explain_number(arguments: &Arguments, writers: &mut Writers) -> Result<u8, Stop> {

@@ -151,6 +151,20 @@ fn read<R: Read>(
     })
 }
 
+/// The connections of a capture.
+pub fn find<R: Read>(input: io::Result<R>, choice: &Choice) -> Result<(Finder, Walked), Stop> {
+    let mut finder = Finder::default();
+    let walked = read(input, |event| {
+        if let Event::Segment(seen) = event {
+            let summed = choice.summed(&seen);
+            let segment = summed.as_deref().unwrap_or(seen.segment);
+            finder.take(Seen { segment, ..seen });
+        }
+        ControlFlow::Continue(())
+    })?;
+    Ok((finder, walked))
+}
+
 const FRAGMENT: &str = "a later fragment of a TCP segment";
 
 /// A capture whose connections are known, and how they were opened; its segments are still to be judged.
@@ -184,15 +198,7 @@ impl<'a> Desk<'a> {
         views: Views<'a>,
         choice: Choice,
     ) -> Result<Desk<'a>, Stop> {
-        let mut finder = Finder::default();
-        let walked = read(input, |event| {
-            if let Event::Segment(seen) = event {
-                let summed = choice.summed(&seen);
-                let segment = summed.as_deref().unwrap_or(seen.segment);
-                finder.take(Seen { segment, ..seen });
-            }
-            ControlFlow::Continue(())
-        })?;
+        let (finder, walked) = find(input, &choice)?;
         let all = finder.found().len();
         if let Some(number) = choice
             .connection
@@ -220,6 +226,16 @@ impl<'a> Desk<'a> {
     /// The capture as a whole.
     pub fn walked(&self) -> &Walked {
         &self.walked
+    }
+
+    /// What of it is looked at.
+    pub fn choice(&self) -> &Choice {
+        &self.choice
+    }
+
+    /// The tables by which it is judged.
+    pub fn views(&self) -> &Views<'a> {
+        &self.views
     }
 
     /// All connections of the capture.

@@ -3,6 +3,8 @@
 //! A capture has both ends' segments, a table is one end's. What arrives at that end is judged by the table, what
 //! arrives at the other by the table's mirror.
 
+use crate::stop::Stop;
+use crate::tables::Station;
 use embankery::{judge_syn, Connection, Refusal, Tables, UnknownKeyId, Verdict};
 use formats::capture::tcp::{with_checksum, Header, Signature};
 use formats::connections::{Found, Kept};
@@ -116,6 +118,14 @@ pub struct Views<'a> {
 }
 
 impl<'a> Views<'a> {
+    /// A station's tables, and their mirror: [`Station::mirrored`].
+    pub fn new(station: &'a Station, mirrored: &'a Station) -> Result<Views<'a>, Stop> {
+        Ok(Views {
+            ours: station.tables()?,
+            peers: mirrored.tables()?,
+        })
+    }
+
     /// The tables by which what arrives at an end is judged.
     pub fn at(&self, receiver: Side, ours: Side) -> Tables<'a> {
         if receiver == ours {

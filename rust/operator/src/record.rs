@@ -1,12 +1,10 @@
 //! One direction of a connection in a capture, as a recording (document 02, Ticket 1).
 
-use crate::desk::{Choice, Desk, Fate};
-use crate::openings::{Direction, Opening, Views};
+use crate::desk::{Desk, Fate};
+use crate::openings::{Direction, Opening};
 use crate::stop::Stop;
-use crate::tables::Station;
+use crate::tables::{matching, Station};
 use embankery::{Connection, Way};
-use formats::connections::Found;
-use formats::entry::split;
 use formats::recording::{Opened, Recording, SEGMENT_ROOM};
 use std::io::{self, Read, Write};
 
@@ -21,22 +19,17 @@ pub struct Recorded {
     pub left_out: u64,
 }
 
-/// Writes the segments of a connection that arrive in this direction, behind the table by which they are judged.
-/// Where the choice names no connection, there must be one alone that can be recorded.
+/// Writes the segments of a connection that arrive in this direction, behind the entries that match it: of the
+/// station's key table, or of its mirror. So a recording holds no other connection's keys, and they could decide no
+/// verdict in it. Where the desk's choice names no connection, there must be one alone that can be recorded.
 pub fn record<R: Read>(
-    mut open: impl FnMut() -> io::Result<R>,
-    station: &Station,
-    choice: Choice,
+    desk: Desk,
+    input: io::Result<R>,
+    [ours, mirrored]: [&Station; 2],
     direction: Direction,
     out: impl Write,
 ) -> Result<Recorded, Stop> {
-    let mirrored = station.mirrored()?;
-    let views = Views {
-        ours: station.tables()?,
-        peers: mirrored.tables()?,
-    };
-    let desk = Desk::new(open(), views, choice)?;
-    let opening = chosen(&desk, &views, choice, direction)?;
+    let opening = chosen(&desk, direction)?;
     let receiver = opening.receiver(direction);
     let Some((_, state)) = &opening.end(receiver).opened else {
         return Err(Stop::refused(not_open(&opening, direction)));
@@ -49,13 +42,13 @@ pub fn record<R: Read>(
         )));
     }
     let table = match direction {
-        Direction::In => station.keys(),
+        Direction::In => ours.keys(),
         Direction::Out => mirrored.keys(),
     };
-    let entries = split(table.as_bytes());
+    let entries = matching(table, [state.local(), state.remote()]);
     let mut recording = Recording::begin(out, entries, &just_opened(state))?;
     let (mut segments, mut left_out) = (0, 0);
-    desk.judge(open(), &mut |line| {
+    desk.judge(input, &mut |line| {
         if (line.connection, line.direction) != (opening.number, direction) {
             return Ok(());
         }
@@ -86,18 +79,13 @@ fn just_opened(state: &Connection) -> Opened {
 }
 
 /// The connection that was asked for, or the only one that can be recorded.
-fn chosen(
-    desk: &Desk,
-    views: &Views,
-    choice: Choice,
-    direction: Direction,
-) -> Result<Opening, Stop> {
+fn chosen(desk: &Desk, direction: Direction) -> Result<Opening, Stop> {
     let all: Vec<&Opening> = desk.openings().collect();
     let is_open = |opening: &&Opening| opening.end(opening.receiver(direction)).opened.is_some();
     let open: Vec<&Opening> = all.iter().copied().filter(is_open).collect();
-    match (&open[..], &all[..], choice.connection) {
+    match (&open[..], &all[..], desk.choice().connection) {
         ([one], _, _) | ([], [one], _) => Ok((*one).clone()),
-        ([], [], Some(number)) => Err(Stop::refused(unusable(desk.found(), views, number))),
+        ([], [], Some(number)) => Err(Stop::refused(unusable(desk, number))),
         ([], [], None) => Err(Stop::refused(
             "no connection of the capture has both its SYN and an entry",
         )),
@@ -107,9 +95,9 @@ fn chosen(
     }
 }
 
-fn unusable(found: &[Found], views: &Views, number: usize) -> String {
-    let found = &found[number - 1];
-    match views.cover(found.client, found.server) {
+fn unusable(desk: &Desk, number: usize) -> String {
+    let found = &desk.found()[number - 1];
+    match desk.views().cover(found.client, found.server) {
         true => format!("connection {number} has no opening in the capture"),
         false => format!("connection {number}: no entry matches it"),
     }

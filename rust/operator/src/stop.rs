@@ -51,9 +51,12 @@ impl Stop {
     }
 }
 
-/// What is written to the command's output cannot be written.
+/// What is written to the command's output cannot be written. Where nobody reads it any more, nothing is said.
 impl From<std::io::Error> for Stop {
     fn from(error: std::io::Error) -> Stop {
+        if error.kind() == std::io::ErrorKind::BrokenPipe {
+            return Stop::system("");
+        }
         Stop::system(format!("the output: {error}"))
     }
 }

@@ -5,6 +5,7 @@ use embankery::{Connection, KeyTable, Md5Entry, Md5Table, Refusal, Table, Tables
 use formats::entry::{split, Algorithm, Entry, Signing};
 use formats::text::{self, Keys, Kind};
 use std::fs;
+use std::net::SocketAddr;
 use std::path::Path;
 
 /// A table's file: its bytes, and where each entry stands if it was text.
@@ -237,8 +238,15 @@ fn clash([file, other]: [&File; 2], index: usize, before: usize) -> Option<Strin
     Some(lines.join("\n"))
 }
 
+/// The entries of a key table that match a pair, in their order.
+pub fn matching(table: &KeyTable, pair: [SocketAddr; 2]) -> Vec<&[u8]> {
+    let entries = split(table.as_bytes()).into_iter();
+    let fits = |bytes: &&[u8]| Entry::read(bytes).is_some_and(|entry| matches(bytes, &entry, pair));
+    entries.filter(fits).collect()
+}
+
 /// Whether an entry matches a pair: the archive opens a connection of this pair by it.
-fn matches(bytes: &[u8], entry: &Entry, [local, remote]: [std::net::SocketAddr; 2]) -> bool {
+fn matches(bytes: &[u8], entry: &Entry, [local, remote]: [SocketAddr; 2]) -> bool {
     match entry.signing {
         Signing::TcpAo { send_id, .. } => KeyTable::from_bytes(bytes)
             .and_then(|table| Connection::open_active(&table, local, remote, 0, send_id))
@@ -277,11 +285,6 @@ fn one_line(entry: &Entry) -> String {
 }
 
 impl Station {
-    /// A station without any entry.
-    pub fn empty() -> Result<Station, Stop> {
-        checked(&File::empty(Kind::Keys), &File::empty(Kind::Md5))
-    }
-
     /// Both tables, as the archive's calls take them.
     pub fn tables(&self) -> Result<Tables<'_>, Stop> {
         let tables = Tables::new(&self.keys, &self.md5);

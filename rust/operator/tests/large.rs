@@ -47,10 +47,7 @@ fn sixty_four_megabytes() {
     };
     let station = line.station();
     let mirrored = station.mirrored().unwrap();
-    let views = Views {
-        ours: station.tables().unwrap(),
-        peers: mirrored.tables().unwrap(),
-    };
+    let views = Views::new(&station, &mirrored).unwrap();
     let before = most_memory();
     let desk = Desk::new(open(), views, Choice::default()).unwrap();
     let mut lines = 0;

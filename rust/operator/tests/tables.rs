@@ -121,6 +121,25 @@ fn changed(old: &str, new: &str) -> String {
     entry("first", 1, 1) + &second.replacen(old, new, 1)
 }
 
+/// Entries that do not clash.
+fn numbered(i: usize) -> Vec<u8> {
+    let remote = Side::host(&[10, 0, (i / 256) as u8, (i % 256) as u8]);
+    Entry {
+        remote,
+        ..Entry::default()
+    }
+    .bytes()
+}
+
+/// How many entries a table may have: 64, or with document 02's Ticket 8 1,024.
+fn most_entries() -> usize {
+    let table: Vec<u8> = (0..65).flat_map(numbered).collect();
+    match of(&table) {
+        Ok(_) => 1_024,
+        Err(_) => 64,
+    }
+}
+
 /// Every refusal of a table's entry, from text: the line, the entry, the number and its meaning.
 #[test]
 fn every_refusal_from_text() {
@@ -154,16 +173,17 @@ fn every_refusal_from_text() {
         let meaning = embankery::Refusal::meaning_of(number).unwrap();
         assert!(said.contains(meaning), "{said}");
     }
-    let many: String = (0..=64)
+    let most = most_entries();
+    let many: String = (0..=most)
         .map(|i| {
-            format!("entry\nlocal 10.0.0.1\nremote 10.0.0.{i}\nsend-id 1\nrecv-id 1\nalgorithm hmac-sha-1\nkey hex 01\n")
+            let (high, low) = (i / 256, i % 256);
+            let sides = format!("local 10.0.0.1\nremote 10.0.{high}.{low}");
+            format!("entry\n{sides}\nsend-id 1\nrecv-id 1\nalgorithm hmac-sha-1\nkey hex 01\n")
         })
         .collect();
     let said = words(many.as_bytes());
-    assert!(
-        said.starts_with("keys.txt, line 449, entry 64: 12: "),
-        "{said}"
-    );
+    let place = format!("keys.txt, line {}, entry {most}: 12: ", 7 * most + 1);
+    assert!(said.starts_with(&place), "{said}");
     // The first refusal counts: what is wrong behind it is not said.
     let worse = many + "entry\nlocal 1.1.1.1/0\nremote 1.1.1.1\nsend-id 1\nrecv-id 1\nalgorithm hmac-sha-1\nkey hex\n";
     assert_eq!(words(worse.as_bytes()), said);
@@ -204,10 +224,10 @@ fn every_refusal_from_bytes() {
         let place = format!("keys.txt, byte 104, entry 1: {number}: ");
         assert!(said.starts_with(&place), "{number}: {said}");
     }
-    let many: Vec<u8> = (0..=64)
-        .flat_map(|i| Entry::default().ids(i, i).bytes())
-        .collect();
-    assert!(words(&many).starts_with("keys.txt, byte 6656, entry 64: 12: "));
+    let most = most_entries();
+    let many: Vec<u8> = (0..=most).flat_map(numbered).collect();
+    let place = format!("keys.txt, byte {}, entry {most}: 12: ", 104 * most);
+    assert!(words(&many).starts_with(&place));
     assert!(words(&good.bytes()[..50]).starts_with("keys.txt, byte 0, entry 0: 10: "));
 }
 

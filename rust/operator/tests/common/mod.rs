@@ -11,7 +11,6 @@ use kit::Segment;
 use operator::desk::{Choice, Counts, Desk, Fate, Report};
 use operator::tables::{checked, File, Station};
 use operator::{record, Direction, Recorded, Stop, Views};
-use std::io;
 use std::path::PathBuf;
 
 /// The names of the twenty captures: Linux's own TCP-AO and TCP MD5.
@@ -81,10 +80,7 @@ pub fn at_desk(
     choice: Choice,
 ) -> Result<(Vec<Judged>, Report), Stop> {
     let mirrored = station.mirrored()?;
-    let views = Views {
-        ours: station.tables()?,
-        peers: mirrored.tables()?,
-    };
+    let views = Views::new(station, &mirrored)?;
     let mut lines = Vec::new();
     let desk = Desk::new(Ok(file), views, choice)?;
     let report = desk.judge(Ok(file), &mut |line| {
@@ -114,9 +110,11 @@ pub fn recording(
     choice: Choice,
     direction: Direction,
 ) -> Result<(Vec<u8>, Recorded), Stop> {
+    let mirrored = station.mirrored()?;
+    let views = Views::new(station, &mirrored)?;
+    let desk = Desk::new(Ok(file), views, choice)?;
     let mut out = Vec::new();
-    let open = || Ok::<_, io::Error>(file);
-    let recorded = record(open, station, choice, direction, &mut out)?;
+    let recorded = record(desk, Ok(file), [station, &mirrored], direction, &mut out)?;
     Ok((out, recorded))
 }
 
