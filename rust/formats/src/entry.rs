@@ -55,24 +55,28 @@ pub enum Algorithm {
 #[derive(Clone, Copy, Debug, PartialEq, Eq)]
 pub enum Signing {
     /// By TCP-AO: an entry of a key table.
-    TcpAo {
-        /// The KeyID of segments that we sign by it.
-        send_id: u8,
-        /// The KeyID of segments that the peer signs by it.
-        recv_id: u8,
-        /// The algorithm of the MAC and of the key derivation.
-        algorithm: Algorithm,
-        /// The MAC's bytes, where the entry says how many: kinds 5 and 7.
-        mac_length: Option<u8>,
-        /// Whether the MAC covers all options.
-        all_options: bool,
-        /// Whether our side is translated on the way.
-        local_nat: bool,
-        /// Whether the peer's side is.
-        remote_nat: bool,
-    },
+    TcpAo(TcpAo),
     /// By TCP MD5: an entry of an MD5 table.
     TcpMd5,
+}
+
+/// What an entry of a key table says beside its sides and its key.
+#[derive(Clone, Copy, Debug, PartialEq, Eq)]
+pub struct TcpAo {
+    /// The KeyID of segments that we sign by it.
+    pub send_id: u8,
+    /// The KeyID of segments that the peer signs by it.
+    pub recv_id: u8,
+    /// The algorithm of the MAC and of the key derivation.
+    pub algorithm: Algorithm,
+    /// The MAC's bytes, where the entry says how many: kinds 5 and 7.
+    pub mac_length: Option<u8>,
+    /// Whether the MAC covers all options.
+    pub all_options: bool,
+    /// Whether our side is translated on the way.
+    pub local_nat: bool,
+    /// Whether the peer's side is.
+    pub remote_nat: bool,
 }
 
 /// An entry of a key table or of an MD5 table.
@@ -151,15 +155,18 @@ impl Entry {
             MD5 => None,
             _ => return None,
         };
-        let signing = algorithm.map_or(Signing::TcpMd5, |algorithm| Signing::TcpAo {
-            send_id: bytes[3],
-            recv_id: bytes[4],
-            algorithm,
-            mac_length: said.then_some(bytes[behind]),
-            all_options: flags & 1 != 0,
-            local_nat: flags & 2 != 0,
-            remote_nat: flags & 4 != 0,
-        });
+        let by_ao = |algorithm| {
+            Signing::TcpAo(TcpAo {
+                send_id: bytes[3],
+                recv_id: bytes[4],
+                algorithm,
+                mac_length: said.then_some(bytes[behind]),
+                all_options: flags & 1 != 0,
+                local_nat: flags & 2 != 0,
+                remote_nat: flags & 4 != 0,
+            })
+        };
+        let signing = algorithm.map_or(Signing::TcpMd5, by_ao);
         let (length, key) = key.split_first()?;
         Some(Entry {
             local: side(5, 13),
@@ -173,23 +180,13 @@ impl Entry {
     pub fn mirrored(&self) -> Entry {
         let signing = match self.signing {
             Signing::TcpMd5 => Signing::TcpMd5,
-            Signing::TcpAo {
-                send_id,
-                recv_id,
-                algorithm,
-                mac_length,
-                all_options,
-                local_nat,
-                remote_nat,
-            } => Signing::TcpAo {
-                send_id: recv_id,
-                recv_id: send_id,
-                algorithm,
-                mac_length,
-                all_options,
-                local_nat: remote_nat,
-                remote_nat: local_nat,
-            },
+            Signing::TcpAo(ao) => Signing::TcpAo(TcpAo {
+                send_id: ao.recv_id,
+                recv_id: ao.send_id,
+                local_nat: ao.remote_nat,
+                remote_nat: ao.local_nat,
+                ..ao
+            }),
         };
         Entry {
             local: self.remote,
@@ -222,23 +219,11 @@ mod tests {
     use super::*;
 
     fn ao(entry: &Entry) -> (u8, u8, Option<u8>, [bool; 3]) {
-        match entry.signing {
-            Signing::TcpAo {
-                send_id,
-                recv_id,
-                mac_length,
-                all_options,
-                local_nat,
-                remote_nat,
-                ..
-            } => (
-                send_id,
-                recv_id,
-                mac_length,
-                [all_options, local_nat, remote_nat],
-            ),
-            Signing::TcpMd5 => panic!("an MD5 entry"),
-        }
+        let Signing::TcpAo(ao) = entry.signing else {
+            panic!("an MD5 entry");
+        };
+        let flags = [ao.all_options, ao.local_nat, ao.remote_nat];
+        (ao.send_id, ao.recv_id, ao.mac_length, flags)
     }
 
     /// The bytes are `kit`'s, which knows them from the papers.

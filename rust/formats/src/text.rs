@@ -11,7 +11,7 @@
 //!     key           hex 00112233445566778899aabbccddeeff00112233
 //! ```
 
-use crate::entry::{Algorithm, Entry, Side, Signing};
+use crate::entry::{Algorithm, Entry, Side, Signing, TcpAo};
 use std::collections::BTreeMap;
 use std::fmt;
 use std::net::IpAddr;
@@ -260,7 +260,7 @@ impl<'a> Lines<'a> {
         }
         let nat = self.optional("nat", |value| chosen(value, &NAT))?;
         let [local_nat, remote_nat] = nat.unwrap_or_default();
-        Ok(Signing::TcpAo {
+        Ok(Signing::TcpAo(TcpAo {
             send_id: self.required("send-id", number)?,
             recv_id: self.required("recv-id", number)?,
             algorithm,
@@ -270,7 +270,7 @@ impl<'a> Lines<'a> {
                 .unwrap_or(true),
             local_nat,
             remote_nat,
-        })
+        }))
     }
 }
 
@@ -384,26 +384,18 @@ pub fn write(entry: &Entry, index: usize, keys: Keys) -> String {
     }
     match entry.signing {
         Signing::TcpMd5 => line("algorithm", MD5.to_string()),
-        Signing::TcpAo {
-            send_id,
-            recv_id,
-            algorithm,
-            mac_length,
-            all_options,
-            local_nat,
-            remote_nat,
-        } => {
-            line("send-id", send_id.to_string());
-            line("recv-id", recv_id.to_string());
-            line("algorithm", name_of(&ALGORITHMS, algorithm));
-            if let Some(bytes) = mac_length {
+        Signing::TcpAo(ao) => {
+            line("send-id", ao.send_id.to_string());
+            line("recv-id", ao.recv_id.to_string());
+            line("algorithm", name_of(&ALGORITHMS, ao.algorithm));
+            if let Some(bytes) = ao.mac_length {
                 line("mac-length", bytes.to_string());
             }
-            if !all_options {
-                line("options", name_of(&COVERED, all_options));
+            if !ao.all_options {
+                line("options", name_of(&COVERED, ao.all_options));
             }
-            if local_nat || remote_nat {
-                line("nat", name_of(&NAT, [local_nat, remote_nat]));
+            if ao.local_nat || ao.remote_nat {
+                line("nat", name_of(&NAT, [ao.local_nat, ao.remote_nat]));
             }
         }
     }

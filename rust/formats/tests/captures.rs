@@ -25,13 +25,11 @@ fn packets() -> Vec<Vec<u8>> {
     segments().iter().flat_map(of).collect()
 }
 
-/// What a reading gives: each segment with its ends and its time, and what was said of the whole.
-fn read(
-    file: &[u8],
-) -> (
-    Vec<(IpAddr, IpAddr, Vec<u8>, String)>,
-    Result<Walked, Fault>,
-) {
+/// A segment's ends, its bytes and its time.
+type Segment = (IpAddr, IpAddr, Vec<u8>, String);
+
+/// What a reading gives: each segment, and what was said of the whole.
+fn read(file: &[u8]) -> (Vec<Segment>, Result<Walked, Fault>) {
     let mut seen = Vec::new();
     let walked = walk(file, |event| {
         if let Event::Segment(one) = event {

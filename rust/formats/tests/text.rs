@@ -1,6 +1,6 @@
 //! Tables as text: what is written is read again, and a mistake is named with its line and entry.
 
-use formats::entry::{Algorithm, Entry, Side, Signing};
+use formats::entry::{Algorithm, Entry, Side, Signing, TcpAo};
 use formats::text::{parse, write, Keys, Kind};
 use kit::Bytes;
 
@@ -39,7 +39,7 @@ fn every_field() {
     let entry = Entry {
         local: side,
         remote,
-        signing: Signing::TcpAo {
+        signing: Signing::TcpAo(TcpAo {
             send_id: 1,
             recv_id: 2,
             algorithm: Algorithm::Aes128Cmac,
@@ -47,7 +47,7 @@ fn every_field() {
             all_options: false,
             local_nat: false,
             remote_nat: true,
-        },
+        }),
         key: vec![0, 0x11, 0xAA, 0xBB, 0xFF],
     };
     let blocks = parse(&text, Kind::Keys, &mut no_file).unwrap();
@@ -207,13 +207,8 @@ fn numbers_above_a_byte() {
         .replace("16", "1000");
     let entry = &read(&text, Kind::Keys).unwrap()[0];
     assert_eq!(entry.remote.prefix, 255);
-    assert!(matches!(
-        entry.signing,
-        Signing::TcpAo {
-            mac_length: Some(255),
-            ..
-        }
-    ));
+    let said = |ao: &TcpAo| ao.mac_length == Some(255);
+    assert!(matches!(&entry.signing, Signing::TcpAo(ao) if said(ao)));
 }
 
 fn side(bytes: &mut Bytes, ipv4: bool) -> Side {
@@ -245,7 +240,7 @@ fn round_trips() {
         ];
         let signing = match bytes.below(4) {
             0 => Signing::TcpMd5,
-            _ => Signing::TcpAo {
+            _ => Signing::TcpAo(TcpAo {
                 send_id: bytes.byte(),
                 recv_id: bytes.byte(),
                 algorithm: algorithms[bytes.below(3)],
@@ -253,7 +248,7 @@ fn round_trips() {
                 all_options: bytes.below(2) == 0,
                 local_nat: bytes.below(2) == 0,
                 remote_nat: bytes.below(2) == 0,
-            },
+            }),
         };
         let kind = if signing == Signing::TcpMd5 {
             Kind::Md5

@@ -1,4 +1,6 @@
-//! Captures: IP packets around segments, frames around packets, files around frames.
+//! Captures: IP packets around segments, frames around packets, files around frames, and files without end.
+
+use std::io::{self, Read};
 
 /// What stands around a packet.
 #[derive(Clone, Copy, Debug, PartialEq, Eq)]
@@ -204,4 +206,51 @@ impl Form {
         }
         file
     }
+}
+
+/// A file that is made while it is read: a front, and then the same bytes again and again, so many times.
+#[derive(Clone, Debug)]
+pub struct Endless {
+    pub front: Vec<u8>,
+    pub again: Vec<u8>,
+    pub times: u64,
+    /// Where in the front, or in the bytes behind it, the reading is.
+    pub at: usize,
+}
+
+impl Endless {
+    /// About so many bytes.
+    pub fn new(front: Vec<u8>, again: Vec<u8>, length: u64) -> Endless {
+        Endless {
+            times: length / again.len() as u64,
+            front,
+            again,
+            at: 0,
+        }
+    }
+}
+
+impl Read for Endless {
+    fn read(&mut self, buffer: &mut [u8]) -> io::Result<usize> {
+        if self.at == self.front.len() {
+            if self.times == 0 {
+                return Ok(0);
+            }
+            self.front.clone_from(&self.again);
+            (self.at, self.times) = (0, self.times - 1);
+        }
+        let rest = &self.front[self.at..];
+        let count = rest.len().min(buffer.len());
+        buffer[..count].copy_from_slice(&rest[..count]);
+        self.at += count;
+        Ok(count)
+    }
+}
+
+/// The most memory that this process had so far, in bytes, as Linux says it.
+pub fn most_memory() -> u64 {
+    let status = std::fs::read_to_string("/proc/self/status").unwrap();
+    let line = status.lines().find_map(|line| line.strip_prefix("VmHWM:"));
+    let kilobytes = line.unwrap().trim().trim_end_matches(" kB");
+    kilobytes.parse::<u64>().unwrap() * 1_024
 }

@@ -1,7 +1,8 @@
 //! Key tables and MD5 tables: from text or bytes, checked by the archive, and what is wrong with them in words.
 
 use crate::stop::Stop;
-use embankery::{Connection, KeyTable, Md5Entry, Md5Table, Refusal, Table, Tables};
+use embankery::{Connection, Covered, Entry as Builder, KeyTable, Md5Entry};
+use embankery::{Md5Table, Refusal, Table, Tables};
 use formats::entry::{split, Algorithm, Entry, Signing};
 use formats::text::{self, Keys, Kind};
 use std::fs;
@@ -118,16 +119,7 @@ fn bytes_of(entry: &Entry) -> Vec<u8> {
         .remote_ports(remote.low..=remote.high)
         .key(&entry.key)
         .bytes(),
-        Signing::TcpAo {
-            send_id,
-            recv_id,
-            algorithm,
-            mac_length,
-            all_options,
-            local_nat,
-            remote_nat,
-        } => {
-            use embankery::{Covered, Entry as Builder};
+        Signing::TcpAo(ao) => {
             let builder = if ipv4 {
                 Builder::ipv4()
             } else {
@@ -137,22 +129,21 @@ fn bytes_of(entry: &Entry) -> Vec<u8> {
             .local_ports(local.low..=local.high)
             .remote(remote.address, remote.prefix)
             .remote_ports(remote.low..=remote.high)
-            .send_id(send_id)
-            .recv_id(recv_id)
-            .algorithm(match algorithm {
+            .send_id(ao.send_id)
+            .recv_id(ao.recv_id)
+            .algorithm(match ao.algorithm {
                 Algorithm::HmacSha1 => embankery::Algorithm::HmacSha1_96,
                 Algorithm::Aes128Cmac => embankery::Algorithm::Aes128Cmac96,
                 Algorithm::HmacSha256 => embankery::Algorithm::HmacSha256,
             })
-            .covered(if all_options {
-                Covered::AllOptions
-            } else {
-                Covered::OnlyTcpAo
+            .covered(match ao.all_options {
+                true => Covered::AllOptions,
+                false => Covered::OnlyTcpAo,
             })
-            .local_nat(local_nat)
-            .remote_nat(remote_nat)
+            .local_nat(ao.local_nat)
+            .remote_nat(ao.remote_nat)
             .key(&entry.key);
-            match mac_length {
+            match ao.mac_length {
                 Some(length) => builder.mac_length(length).bytes(),
                 None => builder.bytes(),
             }
@@ -248,8 +239,8 @@ pub fn matching(table: &KeyTable, pair: [SocketAddr; 2]) -> Vec<&[u8]> {
 /// Whether an entry matches a pair: the archive opens a connection of this pair by it.
 fn matches(bytes: &[u8], entry: &Entry, [local, remote]: [SocketAddr; 2]) -> bool {
     match entry.signing {
-        Signing::TcpAo { send_id, .. } => KeyTable::from_bytes(bytes)
-            .and_then(|table| Connection::open_active(&table, local, remote, 0, send_id))
+        Signing::TcpAo(ao) => KeyTable::from_bytes(bytes)
+            .and_then(|table| Connection::open_active(&table, local, remote, 0, ao.send_id))
             .is_ok(),
         Signing::TcpMd5 => Md5Table::from_bytes(bytes)
             .and_then(|table| Connection::open_active_md5(&table, local, remote, 0))
@@ -259,21 +250,13 @@ fn matches(bytes: &[u8], entry: &Entry, [local, remote]: [SocketAddr; 2]) -> boo
 
 /// Which IDs two entries of a key table share.
 fn shared(one: &Entry, other: &Entry) -> String {
-    let ids = |entry: &Entry| match entry.signing {
-        Signing::TcpAo {
-            send_id, recv_id, ..
-        } => Some((send_id, recv_id)),
-        Signing::TcpMd5 => None,
+    let (Signing::TcpAo(one), Signing::TcpAo(other)) = (one.signing, other.signing) else {
+        return String::new();
     };
-    match (ids(one), ids(other)) {
-        (Some((send, recv)), Some((other_send, other_recv))) => {
-            let send = (send == other_send).then(|| format!("SendID {send}"));
-            let recv = (recv == other_recv).then(|| format!("RecvID {recv}"));
-            let both: Vec<String> = [send, recv].into_iter().flatten().collect();
-            format!(", and share {}", both.join(" and "))
-        }
-        _ => String::new(),
-    }
+    let send = (one.send_id == other.send_id).then(|| format!("SendID {}", one.send_id));
+    let recv = (one.recv_id == other.recv_id).then(|| format!("RecvID {}", one.recv_id));
+    let both: Vec<String> = [send, recv].into_iter().flatten().collect();
+    format!(", and share {}", both.join(" and "))
 }
 
 /// An entry in one line, without its key.

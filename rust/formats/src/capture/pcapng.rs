@@ -133,7 +133,7 @@ impl Pcapng {
         read: u64,
     ) -> Result<Block, Fault> {
         let length = self.order.u32(length);
-        if length % 4 != 0 || u64::from(length) < FRAME + read {
+        if !length.is_multiple_of(4) || u64::from(length) < FRAME + read {
             return source.damaged(4 + read, format!("no block can have {length} bytes"));
         }
         let rest = u64::from(length) - FRAME - read;
