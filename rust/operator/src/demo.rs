@@ -11,6 +11,8 @@ const CLIENT: (Ipv4Addr, u16) = (Ipv4Addr::new(10, 0, 0, 1), 40_000);
 const SERVER: (Ipv4Addr, u16) = (Ipv4Addr::new(10, 0, 0, 2), 179);
 const ISNS: [u32; 2] = [0xFFFF_FFC0, 0xFFFF_FFD8];
 const DATA: u32 = 24;
+const SYN: u8 = 0x02;
+const ACK: u8 = 0x10;
 
 /// An end: its table, its state, and the pair as it holds it.
 struct End {
@@ -58,13 +60,8 @@ fn table(here: Ipv4Addr, there: Ipv4Addr, ids: [[u8; 2]; 2]) -> Result<KeyTable,
 /// Runs it, and writes a line for each arrival. It ends with 1 if something came out otherwise than it must.
 pub fn demo(out: &mut dyn Write) -> Result<u8, Stop> {
     let mut demo = Demo { out, good: true };
-    match demo.run()? {
-        Ok(()) if demo.good => Ok(DONE),
-        Ok(()) => Ok(REFUSED),
-        Err(refusal) => Err(Stop::refused(format!(
-            "the demonstration was refused: {refusal}"
-        ))),
-    }
+    demo.run()?;
+    Ok(if demo.good { DONE } else { REFUSED })
 }
 
 struct Demo<'a> {
@@ -72,14 +69,16 @@ struct Demo<'a> {
     good: bool,
 }
 
-/// What a segment must get.
-const ACCEPT: u8 = 0;
+const TITLE: &str = "\
+A client and a server exchange signed segments while their 32-bit sequence numbers pass ffffffff. In
+whatever order they arrive, each end finds where a segment lies, written extension:number. \"key\" is
+the KeyID of a segment, \"signs\" the one under which its receiver signs from then on. Key 1 has KeyID
+61 from the client and 84 from the server, key 2 has 62 and 85.
+
+at      what                   number    lies at     key   no.  signs  what happened
+";
 
 impl Demo<'_> {
-    fn say(&mut self, words: &str) -> std::io::Result<()> {
-        writeln!(self.out, "{words}")
-    }
-
     /// A segment arrives, and must get this number.
     fn arrives(
         &mut self,
@@ -87,7 +86,7 @@ impl Demo<'_> {
         what: &str,
         segment: &[u8],
         number: u8,
-    ) -> std::io::Result<()> {
+    ) -> Result<(), Stop> {
         let sequence = u32::from_be_bytes([segment[4], segment[5], segment[6], segment[7]]);
         let key = segment[22];
         let verdict = end.judge(segment);
@@ -97,92 +96,61 @@ impl Demo<'_> {
             _ => "-".to_string(),
         };
         self.good &= given == number;
-        let signs = end.state.send_id();
-        let to = end.name;
-        writeln!(
-            self.out,
-            "{to:<7} {what:<22} {sequence:08x}  {lies:<11} {key:>3} {given:>4}  {signs:>5}  {words}"
-        )
+        let (to, signs) = (end.name, end.state.send_id());
+        let place = format!("{to:<7} {what:<22} {sequence:08x}  {lies:<11}");
+        writeln!(self.out, "{place} {key:>3} {given:>5}  {signs:>5}  {words}")?;
+        Ok(())
     }
 
-    fn run(&mut self) -> Result<Result<(), Refusal>, Stop> {
-        self.say("A client and a server exchange signed segments while their 32-bit sequence numbers pass")?;
-        self.say("ffffffff. In whatever order they arrive, each end finds where a segment lies: extension:number.")?;
-        self.say(
-            "Key 1 has KeyID 61 from the client and 84 from the server, key 2 has 62 and 85.\n",
-        )?;
-        let mut ends = match ends() {
-            Ok(ends) => ends,
-            Err(refusal) => return Ok(Err(refusal)),
-        };
-        self.say(
-            "at      what                   number    lies at     key   no.  signs  what happened",
-        )?;
-        Ok(match self.exchange(&mut ends) {
-            Ok(done) => done.map(Ok).unwrap_or_else(Err),
-            Err(error) => return Err(error.into()),
-        })
-    }
-
-    fn exchange(&mut self, ends: &mut [End; 2]) -> std::io::Result<Result<(), Refusal>> {
-        let [client, server] = ends;
+    fn run(&mut self) -> Result<(), Stop> {
+        self.out.write_all(TITLE.as_bytes())?;
+        let [mut client, mut server] = ends()?;
+        let data = [b'a'; DATA as usize];
+        let places = [1, 2, 3, 4].map(|i| ISNS[0].wrapping_add(1 + (i - 1) * DATA));
         let mut sent = Vec::new();
-        for i in 0..4 {
-            match client.sign(
-                ISNS[0].wrapping_add(1 + i * DATA),
-                0x10,
-                &[b'a'; DATA as usize],
-            ) {
-                Ok(segment) => sent.push(segment),
-                Err(refusal) => return Ok(Err(refusal)),
-            }
+        for place in places {
+            sent.push(client.sign(place, ACK, &data)?);
         }
-        self.arrives(server, "data 1", &sent[0], ACCEPT)?;
-        self.arrives(server, "data 4, too early", &sent[3], ACCEPT)?;
         let mut damaged = sent[1].clone();
         damaged[40] ^= 1;
-        self.arrives(server, "data 2, damaged", &damaged, 40)?;
         let forged = with_checksum(CLIENT.0.into(), SERVER.0.into(), &damaged);
-        self.arrives(server, "data 2, forged", &forged, 29)?;
-        self.arrives(server, "data 2", &sent[1], ACCEPT)?;
-        self.arrives(server, "data 4 again", &sent[3], ACCEPT)?;
-        self.arrives(server, "data 3", &sent[2], ACCEPT)?;
+        self.arrives(&mut server, "data 1", &sent[0], 0)?;
+        self.arrives(&mut server, "data 4, too early", &sent[3], 0)?;
+        self.arrives(&mut server, "data 2, damaged", &damaged, 40)?;
+        self.arrives(&mut server, "data 2, forged", &forged, 29)?;
+        self.arrives(&mut server, "data 2", &sent[1], 0)?;
+        self.arrives(&mut server, "data 4 again", &sent[3], 0)?;
+        self.arrives(&mut server, "data 3", &sent[2], 0)?;
 
-        if let Err(refusal) = server.state.ask(&server.table, 62) {
-            return Ok(Err(refusal));
-        }
-        self.say("        the server asks for key 2; what it signs from here on says so")?;
-        let answer = match server.sign(ISNS[1].wrapping_add(1), 0x10, b"use key 2") {
-            Ok(answer) => answer,
-            Err(refusal) => return Ok(Err(refusal)),
-        };
-        self.arrives(client, "data, asks for key 2", &answer, ACCEPT)?;
-        let next = match client.sign(ISNS[0].wrapping_add(1 + 4 * DATA), 0x10, b"under key 2") {
-            Ok(next) => next,
-            Err(refusal) => return Ok(Err(refusal)),
-        };
-        self.arrives(server, "data under key 2", &next, ACCEPT)?;
-        self.say("")?;
+        writeln!(
+            self.out,
+            "        the server's operator asks for key 2; what it signs then says so"
+        )?;
+        server.state.ask(&server.table, 62)?;
+        let answer = server.sign(ISNS[1].wrapping_add(1), ACK, b"use key 2")?;
+        self.arrives(&mut client, "data, asks for key 2", &answer, 0)?;
+        let next = client.sign(ISNS[0].wrapping_add(1 + 4 * DATA), ACK, b"under key 2")?;
+        self.arrives(&mut server, "data under key 2", &next, 0)?;
+        writeln!(self.out)?;
         for end in [client, server] {
-            let drops: Vec<String> = end
-                .state
-                .drops()
-                .filter(|(_, count)| *count > 0)
+            let state = &end.state;
+            let drops = state.drops().filter(|(_, count)| *count > 0);
+            let drops: Vec<String> = drops
                 .map(|(number, count)| format!("{count} with {number}"))
                 .collect();
-            let drops = if drops.is_empty() {
-                "none".to_string()
-            } else {
-                drops.join(", ")
+            let drops = match drops.is_empty() {
+                true => "none".to_string(),
+                false => drops.join(", "),
             };
-            let (accepted, reference) = (end.state.accepted(), end.state.seen_reference());
-            let (high, low) = (reference >> 32, reference as u32);
-            let name = end.name;
-            self.say(&format!(
-                "{name}: {accepted} accepted, dropped: {drops}; reference {high}:{low:08x}"
-            ))?;
+            let (high, low) = (state.seen_reference() >> 32, state.seen_reference() as u32);
+            let counts = format!("{} accepted, dropped: {drops}", state.accepted());
+            writeln!(
+                self.out,
+                "{}: {counts}; reference {high}:{low:08x}",
+                end.name
+            )?;
         }
-        Ok(Ok(()))
+        Ok(())
     }
 }
 
@@ -193,12 +161,12 @@ fn ends() -> Result<[End; 2], Refusal> {
         table(SERVER.0, CLIENT.0, [[84, 61], [85, 62]])?,
     ];
     let mut client = Connection::open_active(&tables[0], CLIENT, SERVER, ISNS[0], 61)?;
-    let syn = segment(CLIENT.1, SERVER.1, ISNS[0], 0x02, b"");
+    let syn = segment(CLIENT.1, SERVER.1, ISNS[0], SYN, b"");
     let syn = client.sign(&tables[0], &syn)?;
     let drop = UnknownKeyId::Drop;
     let server = Connection::open_passive(&tables[1], CLIENT.0, SERVER.0, &syn, ISNS[1], drop)?;
     let mut server = server.ok_or(Refusal::UnknownKeyId)?;
-    let answer = segment(SERVER.1, CLIENT.1, ISNS[1], 0x12, b"");
+    let answer = segment(SERVER.1, CLIENT.1, ISNS[1], SYN | ACK, b"");
     let answer = server.sign(&tables[1], &answer)?;
     if let Verdict::Drop(refusal) = client.judge(&tables[0], SERVER.0, CLIENT.0, &answer) {
         return Err(refusal);

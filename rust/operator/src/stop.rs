@@ -1,5 +1,7 @@
 //! How the command ends.
 
+use embankery::Refusal;
+
 /// Why the command ends before it is done, in words, with its exit status.
 #[derive(Clone, Debug, PartialEq, Eq)]
 pub struct Stop {
@@ -58,5 +60,12 @@ impl From<std::io::Error> for Stop {
             return Stop::system("");
         }
         Stop::system(format!("the output: {error}"))
+    }
+}
+
+/// The archive refuses.
+impl From<Refusal> for Stop {
+    fn from(refusal: Refusal) -> Stop {
+        Stop::refused(refusal.to_string())
     }
 }

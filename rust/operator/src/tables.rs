@@ -270,8 +270,7 @@ fn one_line(entry: &Entry) -> String {
 impl Station {
     /// Both tables, as the archive's calls take them.
     pub fn tables(&self) -> Result<Tables<'_>, Stop> {
-        let tables = Tables::new(&self.keys, &self.md5);
-        tables.map_err(|refusal| Stop::refused(refusal.to_string()))
+        Ok(Tables::new(&self.keys, &self.md5)?)
     }
 
     /// The tables of a station at the other end of each connection: every entry mirrored.
@@ -282,17 +281,10 @@ impl Station {
                 .flat_map(|entry| bytes_of(&entry.mirrored()))
                 .collect()
         };
-        let (keys, md5) = (
-            mirrored(self.keys.as_bytes()),
-            mirrored(self.md5.as_bytes()),
-        );
-        let station = || {
-            Ok(Station {
-                keys: KeyTable::from_bytes(keys)?,
-                md5: Md5Table::from_bytes(md5)?,
-            })
-        };
-        station().map_err(|refusal: Refusal| Stop::refused(refusal.to_string()))
+        Ok(Station {
+            keys: KeyTable::from_bytes(mirrored(self.keys.as_bytes()))?,
+            md5: Md5Table::from_bytes(mirrored(self.md5.as_bytes()))?,
+        })
     }
 
     /// The key table.

@@ -246,3 +246,45 @@ fn the_demonstration() {
         "{out}"
     );
 }
+
+/// README.md shows what the desk prints, as it prints it.
+#[test]
+fn the_readme() {
+    let top = PathBuf::from(env!("CARGO_MANIFEST_DIR")).join("../..");
+    let readme = fs::read_to_string(top.join("README.md")).unwrap();
+    let section = readme.split("\n## A capture at the desk\n").nth(1).unwrap();
+    let mut lines = section
+        .lines()
+        .filter_map(|line| line.strip_prefix("    target/bin/embankery "));
+    let arguments: Vec<&str> = lines.next().unwrap().split(' ').collect();
+    let mut command = Command::new(env!("CARGO_BIN_EXE_embankery"));
+    let output = command.current_dir(&top).args(arguments).output().unwrap();
+    let shown = section
+        .split("```text\n")
+        .nth(1)
+        .unwrap()
+        .split("```")
+        .next()
+        .unwrap();
+    assert_eq!(
+        (text(&output.stdout).as_str(), output.status.code()),
+        (shown, Some(1))
+    );
+    // The other commands that it names.
+    for line in lines {
+        let arguments = line
+            .split("   ")
+            .next()
+            .unwrap()
+            .split(" > ")
+            .next()
+            .unwrap();
+        let mut command = Command::new(env!("CARGO_BIN_EXE_embankery"));
+        let output = command
+            .current_dir(&top)
+            .args(arguments.split(' '))
+            .output()
+            .unwrap();
+        assert_eq!(output.status.code(), Some(0), "{line}");
+    }
+}
