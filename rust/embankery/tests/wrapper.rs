@@ -753,7 +753,10 @@ fn translation() {
                 let entry = entry.algorithm(kind.algorithm).covered(kind.covered);
                 entry.key(b"a key of both ends")
             };
-            let ours = entry(0).local(inside, 32).remote(server, 32).local_nat(said);
+            let ours = entry(0)
+                .local(inside, 32)
+                .remote(server, 32)
+                .local_nat(said);
             let theirs = entry(1)
                 .local(server, 32)
                 .remote(outside, 32)
