@@ -25,7 +25,8 @@ const OTHERS: [(u8, &str); 3] = [
     ),
 ];
 
-/// Number, usual cause, what to do.
+/// Number, usual cause, what to do. Those of document 02's requests that have not landed are not explained yet: the
+/// wrapper has no words for them.
 const ROWS: &[(u8, &str, &str)] = &[
     (
         0,
@@ -199,6 +200,26 @@ const ROWS: &[(u8, &str, &str)] = &[
          cable, radio link or card; a translator must set the checksum right.",
     ),
     (
+        41,
+        "The peer opens anew a connection that was not closed here.",
+        "Close the old one when TCP says so, then open.",
+    ),
+    (
+        42,
+        "Every place in the table of connections is in use.",
+        "Close the connections that have ended; 256 is the most.",
+    ),
+    (
+        43,
+        "A connection signs under this key or asks its peer for it.",
+        "Change the key first (docs/OPERATING.md), or remove it by force and name what follows it.",
+    ),
+    (
+        44,
+        "Bytes that were prepared by another version, were damaged, or are no prepared table.",
+        "Prepare the tables again from their own bytes.",
+    ),
+    (
         45,
         "A peer that has both an entry for TCP-AO and one for TCP MD5.",
         "embankery table check names both. Take the MD5 entry away once the peer signs by TCP-AO.",
@@ -213,6 +234,17 @@ const ROWS: &[(u8, &str, &str)] = &[
         "The peer is in the MD5 table and does not sign at all.",
         "Check the peer's TCP MD5 key for this connection; forged segments get it too.",
     ),
+    (
+        48,
+        "Pieces that are not one segment: more or fewer bytes than announced, too many parts, a header that is not \
+         just the header, or another connection's run.",
+        "Begin the segment again with its header.",
+    ),
+    (
+        49,
+        "A record of a connection that was cut off, damaged or written in another layout.",
+        "Take another copy, or open the connection anew.",
+    ),
 ];
 
 /// A number explained, if it is one.
@@ -226,7 +258,7 @@ pub fn explain(number: u8) -> Option<Explained> {
     })
 }
 
-/// Every number that is explained.
+/// Every number that is given.
 pub fn all() -> impl Iterator<Item = Explained> {
     ROWS.iter().filter_map(|(number, _, _)| explain(*number))
 }
