@@ -8,6 +8,7 @@ use crate::tables::Station;
 use embankery::{judge_syn, Connection, Refusal, Tables, UnknownKeyId, Verdict};
 use formats::capture::tcp::{with_checksum, Header, Signature};
 use formats::connections::{Found, Kept};
+use std::cmp::Ordering;
 use std::net::{IpAddr, SocketAddr};
 
 /// An end of a connection.
@@ -62,6 +63,8 @@ pub struct Opening {
     pub server: SocketAddr,
     /// Which end is the station whose tables are given.
     pub ours: Side,
+    /// Whether it may as well be the other, by all that the opening shows.
+    pub either: bool,
     /// The first packet of the opening.
     pub start: u64,
     /// Whether a SYN+ACK for it is in the capture.
@@ -160,12 +163,13 @@ pub fn openings(found: &[Found], views: &Views, ours: Option<IpAddr>) -> Vec<Ope
         let may_be = |(_, end): &(Side, SocketAddr)| ours.is_none_or(|ours| ours == end.ip());
         let trials = ends.into_iter().filter(may_be);
         let trials = trials.map(|(side, _)| opening(number, found, views, side));
-        trials.reduce(|best, next| {
-            if rank(&next) > rank(&best) {
-                next
-            } else {
-                best
-            }
+        trials.reduce(|first, second| match rank(&second).cmp(&rank(&first)) {
+            Ordering::Greater => second,
+            Ordering::Less => first,
+            Ordering::Equal => Opening {
+                either: true,
+                ..first
+            },
         })
     });
     tried.collect()
@@ -212,6 +216,7 @@ fn opening(number: usize, found: &Found, views: &Views, ours: Side) -> Opening {
         client,
         server,
         ours,
+        either: false,
         start: first.fold(syn.number, u64::min),
         answered: !found.answers.is_empty(),
         at_client,

@@ -118,7 +118,12 @@ pub fn head(opening: &Opening) -> String {
         None => "",
     };
     let (client, server) = (end(Side::Client), end(Side::Server));
-    format!("connection {}: {client} to {server}{way}", opening.number)
+    let either = match opening.either {
+        true => "; the tables fit either end, --local ADDRESS says which is ours",
+        false => "",
+    };
+    let number = opening.number;
+    format!("connection {number}: {client} to {server}{way}{either}")
 }
 
 /// What happened how often, by connection and direction, and what was not looked at.

@@ -7,7 +7,7 @@ use common::*;
 use kit::capture::{packet, Form, Wrap};
 use kit::segment::{summed, ACK, SYN};
 use operator::desk::{Choice, Fate};
-use operator::Direction;
+use operator::{Direction, Side};
 
 /// The opening, then six segments of the client and two of the server.
 fn line() -> Line {
@@ -275,6 +275,32 @@ fn other_tables() {
         let (_, report) = at_desk(&file, &server, choice).unwrap();
         assert_eq!(report.is_good(), good);
     }
+}
+
+/// A table that fits both ends: that is said, and `--local` decides.
+#[test]
+fn either_end() {
+    let any = |send, recv, key: &[u8]| {
+        let entry = embankery::Entry::ipv4().send_id(send).recv_id(recv);
+        entry.key(key).build().unwrap()
+    };
+    let (same, other) = (any(1, 1, b"the key"), any(7, 9, b"another"));
+    let table = embankery::KeyTable::new([&same, &other]).unwrap();
+    let mut line = Line::open_with([table.clone(), table], ISNS, 1);
+    line.sends(0, 1, b"data");
+    let file = plain(&line.packets);
+    let of = |ours: Option<[u8; 4]>| {
+        let choice = Choice {
+            ours: ours.map(Into::into),
+            ..Choice::default()
+        };
+        let (_, report) = at_desk(&file, &line.station(), choice).unwrap();
+        assert!(report.is_good());
+        (report.judged[0].0.either, report.judged[0].0.ours)
+    };
+    assert_eq!(of(None), (true, Side::Server));
+    assert_eq!(of(Some(CLIENT.0)), (false, Side::Client));
+    assert_eq!(of(Some(SERVER.0)), (false, Side::Server));
 }
 
 /// A connection without keys beside one with keys is not looked at.

@@ -199,8 +199,13 @@ pub fn sent(end: usize, segment: &[u8]) -> Vec<u8> {
 impl Line {
     /// Opens with these ISNs; packets 1 and 2 are the SYN and the SYN+ACK.
     pub fn open(isns: [u32; 2]) -> Line {
-        let tables = tables(b"the key");
-        let mut client = Connection::open_active(&tables[0], CLIENT, SERVER, isns[0], 1).unwrap();
+        Line::open_with(tables(b"the key"), isns, 1)
+    }
+
+    /// Opens with these tables, by the client's entry with this SendID.
+    pub fn open_with(tables: [KeyTable; 2], isns: [u32; 2], send_id: u8) -> Line {
+        let mut client =
+            Connection::open_active(&tables[0], CLIENT, SERVER, isns[0], send_id).unwrap();
         let syn = client
             .sign(&tables[0], &unsigned(0, isns[0], 0, SYN, b""))
             .unwrap();
