@@ -86,6 +86,11 @@ impl Finder {
         &self.found
     }
 
+    /// The same, to be kept.
+    pub fn into_found(self) -> Vec<Found> {
+        self.found
+    }
+
     /// How many segments belong to connections for which there was no room.
     pub fn left_out(&self) -> u64 {
         self.left_out

@@ -350,8 +350,8 @@ impl<'a> Desk<'a> {
             judged.map(|live| (live.opening, [live.at_client.counts, live.at_server.counts]));
         Report {
             walked: self.walked,
-            found: self.finder.found().to_vec(),
             left_out: self.finder.left_out(),
+            found: self.finder.into_found(),
             judged: judged.collect(),
             unopened,
             others,
