@@ -277,6 +277,71 @@ fn other_tables() {
     }
 }
 
+/// A client behind address translation, captured on the server's side: its address and port are others there.
+#[test]
+fn translated() {
+    let outside = ([203, 0, 113, 9], 61_001);
+    let entry = |local: [u8; 4], remote: [u8; 4]| {
+        let entry = embankery::Entry::ipv4().local(local, 32).remote(remote, 32);
+        entry.key(b"the key")
+    };
+    let client = entry(CLIENT.0, SERVER.0)
+        .send_id(1)
+        .recv_id(2)
+        .local_nat(true);
+    let server = entry(SERVER.0, outside.0)
+        .send_id(2)
+        .recv_id(1)
+        .remote_nat(true);
+    let table = |entry: embankery::EntryBuilder| {
+        embankery::KeyTable::new([&entry.build().unwrap()]).unwrap()
+    };
+    let (client, server) = (table(client), table(server));
+    // The client's segments, with the source that the translator writes.
+    let translated = |segment: &[u8]| {
+        let mut segment = segment.to_vec();
+        segment[0..2].copy_from_slice(&u16::to_be_bytes(outside.1));
+        summed(&outside.0, &SERVER.0, &segment)
+    };
+    let mut connection =
+        embankery::Connection::open_active(&client, CLIENT, SERVER, ISNS[0], 1).unwrap();
+    let syn = connection
+        .sign(&client, &unsigned(0, ISNS[0], 0, SYN, b""))
+        .unwrap();
+    let syn = translated(&syn);
+    let drop = embankery::UnknownKeyId::Drop;
+    let opened =
+        embankery::Connection::open_passive(&server, outside.0, SERVER.0, &syn, ISNS[1], drop);
+    let mut answer = unsigned(1, ISNS[1], ISNS[0] + 1, SYN | ACK, b"");
+    answer[2..4].copy_from_slice(&u16::to_be_bytes(outside.1));
+    let answer = opened.unwrap().unwrap().sign(&server, &answer).unwrap();
+    let mut inside = answer.clone();
+    inside[2..4].copy_from_slice(&CLIENT.1.to_be_bytes());
+    let inside = summed(&SERVER.0, &CLIENT.0, &inside);
+    let _ = connection.judge(&client, SERVER.0, CLIENT.0, &inside);
+    let data = unsigned(0, ISNS[0] + 1, 1, ACK, b"data");
+    let data = translated(&connection.sign(&client, &data).unwrap());
+    let packets = [
+        packet(&outside.0, &SERVER.0, &syn),
+        packet(&SERVER.0, &outside.0, &answer),
+        packet(&outside.0, &SERVER.0, &data),
+    ];
+    assert_eq!(numbers(&plain(&packets), &station(&server)), [Some(0); 3]);
+    // On the client's side they are as it signed them.
+    let packets = [
+        sent(
+            0,
+            &summed(
+                &CLIENT.0,
+                &SERVER.0,
+                &[&CLIENT.1.to_be_bytes()[..], &syn[2..]].concat(),
+            ),
+        ),
+        sent(1, &inside),
+    ];
+    assert_eq!(numbers(&plain(&packets), &station(&client)), [Some(0); 2]);
+}
+
 /// A table that fits both ends: that is said, and `--local` decides.
 #[test]
 fn either_end() {

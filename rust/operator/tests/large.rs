@@ -39,6 +39,6 @@ fn sixty_four_megabytes() {
     });
     assert!(report.unwrap().is_good());
     assert_eq!(lines, 2 + 100 * file.times);
-    let taken = most_memory() - before;
+    let taken = most_memory().saturating_sub(before);
     assert!(taken < ALLOWED, "{taken} bytes more");
 }
