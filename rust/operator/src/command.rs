@@ -343,8 +343,16 @@ fn explain_number(arguments: &Arguments, writers: &mut Writers) -> Result<u8, St
         )));
     };
     writeln!(writers.out, "{}: {}", explained.number, explained.meaning)?;
-    writeln!(writers.out, "\nusual cause\n    {}", explained.cause)?;
-    writeln!(writers.out, "\nwhat to do\n    {}", explained.remedy)?;
+    writeln!(
+        writers.out,
+        "\nusual cause\n{}",
+        show::wrapped(explained.cause)
+    )?;
+    writeln!(
+        writers.out,
+        "\nwhat to do\n{}",
+        show::wrapped(explained.remedy)
+    )?;
     Ok(DONE)
 }
 

@@ -132,6 +132,7 @@ pub fn summary(report: &Report) -> String {
     let mut all = Counts::default();
     for (opening, counts) in &report.judged {
         let _ = writeln!(text, "{}", head(opening));
+        text.push_str(&not_opened(opening));
         for direction in [Direction::In, Direction::Out] {
             let counts = match opening.receiver(direction) {
                 Side::Client => &counts[0],
@@ -140,9 +141,6 @@ pub fn summary(report: &Report) -> String {
             let _ = writeln!(text, "  {:<4}{}", direction.name(), in_numbers(counts));
             text.push_str(&reasons(counts));
             join(&mut all, counts);
-        }
-        if !opening.answered {
-            let _ = writeln!(text, "  the capture has no SYN+ACK for it");
         }
     }
     for number in &report.unopened {
@@ -170,6 +168,27 @@ pub fn summary(report: &Report) -> String {
     }
     not_looked_at(report, &mut text);
     let _ = writeln!(text, "all: {}", in_numbers(&all));
+    text
+}
+
+/// Why an end was not opened, from which what its segments got follows.
+fn not_opened(opening: &Opening) -> String {
+    let mut text = String::new();
+    for side in [Side::Server, Side::Client] {
+        let (end, address) = (opening.end(side), opening.address(side));
+        let why = match (end.packet, end.failed) {
+            _ if end.opened.is_some() => continue,
+            (Some((_, Verdict::Accept { .. })), _) | (None, None) => {
+                "the capture has no SYN+ACK".to_string()
+            }
+            (Some((packet, verdict)), _) => {
+                let (number, _, words) = verdict_in_words(verdict);
+                format!("packet {packet} got {number}, {words}")
+            }
+            (None, Some(refusal)) => format!("from its SYN it could not have opened: {refusal}"),
+        };
+        let _ = writeln!(text, "  not opened at {address}: {why}");
+    }
     text
 }
 
@@ -252,4 +271,20 @@ fn plural(count: u64, one: &str, more: &str) -> String {
         1 => format!("1 {one}"),
         _ => format!("{count} {more}"),
     }
+}
+
+/// A text in lines of at most 90 characters, each indented.
+pub fn wrapped(text: &str) -> String {
+    const WIDTH: usize = 90;
+    let mut lines = vec![String::from("   ")];
+    for word in text.split_whitespace() {
+        let last = lines.len() - 1;
+        if lines[last].chars().count() + 1 + word.chars().count() > WIDTH {
+            lines.push(format!("    {word}"));
+        } else {
+            lines[last].push(' ');
+            lines[last].push_str(word);
+        }
+    }
+    lines.join("\n")
 }

@@ -187,6 +187,21 @@ fn the_desk() {
         "{out}"
     );
 
+    // Another connection's key for the same two ends.
+    let other = fs::read_to_string(path("sha1-reset-v4.txt")).unwrap();
+    let other = other.replace("send-id       3", "send-id       10");
+    let other = write(&folder, "other.txt", other.as_bytes());
+    let (status, out, _) = run(&["desk", &capture, "--keys", &other, "--problems"]);
+    assert_eq!(status, 1);
+    assert!(
+        out.contains("not opened at 10.9.0.2:5023: packet 1 got 29, dropped: "),
+        "{out}"
+    );
+    assert!(
+        out.contains("not opened at 10.9.0.1:40023: packet 2 got 26, dropped: "),
+        "{out}"
+    );
+
     let (status, out, err) = run(&["desk", &keys, "--keys", &keys]);
     assert_eq!((status, out.as_str()), (1, ""));
     assert!(err.contains("this is no capture"), "{err}");
@@ -228,6 +243,7 @@ fn explanations() {
         out.starts_with("29: the MAC, or TCP MD5's digest, differs\n\nusual cause\n"),
         "{out}"
     );
+    assert!(out.lines().all(|line| line.chars().count() <= 90));
     let (status, out, _) = run(&["explain"]);
     assert_eq!(status, 0);
     assert!(out.starts_with("  0  accepted, or done\n") && out.lines().count() > 30);
