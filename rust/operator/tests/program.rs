@@ -1,7 +1,7 @@
 //! The desk's lines are those of the program `desk` on the recording that it wrote.
 //!
 //! The program is Rattle's, proved; `make` puts it into target/bin. Where it is not there, nothing is compared, and
-//! the test says so.
+//! the test says so; in the gate, which makes it before the tests, that is a failure.
 
 mod common;
 
@@ -15,8 +15,12 @@ use std::path::PathBuf;
 use std::process::{Command, Stdio};
 
 fn program() -> Option<PathBuf> {
-    let program = PathBuf::from(env!("CARGO_MANIFEST_DIR")).join("../../target/bin/desk");
-    program.is_file().then_some(program)
+    let top = PathBuf::from(env!("CARGO_MANIFEST_DIR")).join("../..");
+    let program = top.join("target/bin/desk");
+    let is_there = program.is_file();
+    let must_be = std::env::var_os("GATE").is_some() && top.join("crates/desk").is_dir();
+    assert!(is_there || !must_be, "target/bin/desk is not there");
+    is_there.then_some(program)
 }
 
 /// What the program prints for a recording.
