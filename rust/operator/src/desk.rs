@@ -135,7 +135,9 @@ impl Report {
             .judged
             .iter()
             .all(|(_, counts)| counts.iter().all(clean));
-        let all_read = self.walked.fault.is_none() && self.unread.is_empty() && self.left_out == 0;
+        let walked = &self.walked;
+        let all_read = walked.fault.is_none() && walked.unknown == 0 && self.unread.is_empty();
+        let all_read = all_read && self.left_out == 0;
         all_clean && all_read && self.unopened.is_empty() && !self.judged.is_empty()
     }
 }

@@ -424,3 +424,29 @@ fn a_file_cut_off() {
         1
     );
 }
+
+/// Whatever stands in a capture, the desk ends, in an answer; and what is changed on the way is not accepted.
+#[test]
+fn any_bytes() {
+    let line = line();
+    let file = plain(&line.packets);
+    let station = line.station();
+    let was_sent = |segment: &[u8]| line.packets.iter().any(|packet| packet[20..] == *segment);
+    for at in 0..file.len() {
+        let mut changed = file.clone();
+        changed[at] ^= 1 << (at % 8);
+        if let Ok((lines, _)) = at_desk(&changed, &station, Choice::default()) {
+            let mut accepted = lines.iter().filter(|line| line.number() == Some(0));
+            assert!(accepted.all(|line| was_sent(&line.segment)), "byte {at}");
+        }
+    }
+    let mut bytes = kit::Bytes(11);
+    for _ in 0..500 {
+        let mut changed = file.clone();
+        for _ in 0..20 {
+            let at = bytes.below(changed.len());
+            changed[at] = bytes.byte();
+        }
+        let _ = at_desk(&changed, &station, Choice::default());
+    }
+}

@@ -59,6 +59,7 @@ pub struct Judged {
     pub index: Option<u64>,
     pub fate: Fate,
     pub note: String,
+    pub segment: Vec<u8>,
 }
 
 impl Judged {
@@ -91,6 +92,7 @@ pub fn at_desk(
             index: line.index,
             fate: line.fate.clone(),
             note: line.note.clone(),
+            segment: line.segment.to_vec(),
         });
         Ok(())
     })?;
