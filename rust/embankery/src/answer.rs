@@ -113,7 +113,7 @@ macro_rules! refusals {
             /// What the number means, if it is one that a call may refuse with.
             ///
             /// ```
-            /// assert_eq!(embankery::Refusal::meaning_of(37), Some("signing: the output is too short"));
+            /// assert_eq!(embankery::Refusal::meaning_of(40), Some("the segment's checksum is wrong"));
             /// assert_eq!(embankery::Refusal::meaning_of(9), None);
             /// ```
             pub fn meaning_of(number: u8) -> Option<&'static str> {

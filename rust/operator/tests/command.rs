@@ -269,6 +269,7 @@ fn the_readme() {
     let top = PathBuf::from(env!("CARGO_MANIFEST_DIR")).join("../..");
     let readme = fs::read_to_string(top.join("README.md")).unwrap();
     let section = readme.split("\n## A capture at the desk\n").nth(1).unwrap();
+    let section = section.split("\n## ").next().unwrap();
     let mut lines = section
         .lines()
         .filter_map(|line| line.strip_prefix("    target/bin/embankery "));
