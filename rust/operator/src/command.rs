@@ -312,7 +312,7 @@ fn write_recording(arguments: &Arguments, writers: &mut Writers) -> Result<u8, S
     let (number, end) = (opening.number, opening.address(opening.receiver(direction)));
     writeln!(
         writers.err,
-        "recorded: connection {number}, {segments} segments that arrive at {end}"
+        "recorded: connection {number}, {segments} segments that arrive at {end}; it holds their keys"
     )?;
     if recorded.left_out == 0 {
         return Ok(status);
