@@ -110,6 +110,19 @@ macro_rules! refusals {
                 }
             }
 
+            /// What the number means, if it is one that a call may refuse with.
+            ///
+            /// ```
+            /// assert_eq!(embankery::Refusal::meaning_of(40), Some("the segment's checksum is wrong"));
+            /// assert_eq!(embankery::Refusal::meaning_of(9), None);
+            /// ```
+            pub fn meaning_of(number: u8) -> Option<&'static str> {
+                match Refusal::new(number, Table::Keys, 0) {
+                    Refusal::Other(_) => None,
+                    refusal => Some(refusal.meaning()),
+                }
+            }
+
             /// What the number means.
             pub fn meaning(&self) -> &'static str {
                 match self {

@@ -191,15 +191,17 @@ impl Md5EntryBuilder {
         if !family(self.local.address) || !family(self.remote.address) {
             return Err(Refusal::AddressSizes);
         }
-        let kind = if self.any.is_ipv4() { 4 } else { 6 };
-        let bytes = entry_bytes(
-            [kind, 0, 19, 0, 0],
-            [&self.local, &self.remote],
-            None,
-            &self.key,
-        );
+        let bytes = self.bytes();
         Answer(raw::check_table(&[], &bytes)).done()?;
         Ok(Md5Entry { bytes })
+    }
+
+    /// The entry's bytes in a table, whether the archive allows them or not, as
+    /// [`EntryBuilder::bytes`](crate::EntryBuilder::bytes) has it. They hold the key.
+    pub fn bytes(&self) -> Vec<u8> {
+        let kind = if self.any.is_ipv4() { 4 } else { 6 };
+        let (front, sides) = ([kind, 0, 19, 0, 0], [&self.local, &self.remote]);
+        entry_bytes(front, sides, None, &self.key)
     }
 }
 

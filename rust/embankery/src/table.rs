@@ -460,8 +460,20 @@ impl EntryBuilder {
         Ok(Entry { bytes })
     }
 
-    /// The bytes; the flags of translated sides are document 02's, Ticket 10.
-    fn bytes(&self) -> Vec<u8> {
+    /// The entry's bytes in a table, whether the archive allows them or not: a table with them tells. With
+    /// addresses of two families they are no entry's. They hold the master key.
+    ///
+    /// ```
+    /// use embankery::{Entry, KeyTable};
+    ///
+    /// let good = Entry::ipv4().key(b"key");
+    /// assert_eq!(good.bytes(), good.clone().build()?.as_bytes());
+    /// let table = [good.bytes(), good.local_ports(9..=8).bytes()].concat();
+    /// assert_eq!(KeyTable::from_bytes(table).unwrap_err().number(), 14);
+    /// # Ok::<(), embankery::Refusal>(())
+    /// ```
+    pub fn bytes(&self) -> Vec<u8> {
+        // The flags of translated sides are document 02's, Ticket 10.
         let family = if self.any.is_ipv4() { 4 } else { 6 };
         let kind = family + u8::from(self.mac_length.is_some());
         let covered = match self.covered {

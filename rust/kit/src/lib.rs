@@ -7,6 +7,7 @@
 
 pub mod bytes;
 pub mod calls;
+pub mod capture;
 pub mod ends;
 pub mod entry;
 pub mod linux;
