@@ -7,15 +7,16 @@ use mathlib.Core.List.{List, [], _∷_, _++_}
 use native.Mathlib.Omega.{arith}
 use native.Mathlib.Nat.{sub-zero}
 use lib.ListN.{length, getD, take, drop, drop-of-length-le, length-drop, length-append}
-use lib.Seq.{take-nil, take-all, take-append-add, append-snoc}
+use lib.Seq.{take-nil, take-append-add, append-snoc}
 use lib.Dec.{leb, eqb}
 use borrow.Author.Tests.{eq-eqb, ne-eqb, le-leb, lt-leb}
 use Rattle.octets.specs.Tests.{Test, test}
 use Rattle.keys.specs.Entry.{knownKind, extra, body, size, idsOf, selectorOf, entryOf, Item, item, itemAt, sound, items, entries}
-use Rattle.keys.specs.EntryLaws.{kind-is, items-at, items-end, sound-inside, entries-next, entries-stop, entries-few}
-use Rattle.keys.specs.Match.{clash}
+use Rattle.keys.specs.EntryLaws.{kind-is, items-at, items-end, sound-inside, entries-next, entries-stop}
+use Rattle.keys.specs.Match.{overlap, share, clash}
 use Rattle.keys.specs.Table.{numberOf, kindListed, entryTests, clashing, itemTests, loadTests, refusing, loadedFrom, loaded}
-use Rattle.keys.specs.Table.{nobody, found, anyOf, meetsBy, meetsAny, placeOf}
+use Rattle.keys.specs.Table.{nobody, found, anyOf, meets, meetsAny, placeOf}
+use Rattle.keys.specs.FoundLaws.{any-found}
 use Rattle.keys.specs.FaultLaws.{number-past, entry-lacks, listed-known, item-good}
 use Rattle.keys.proofs.Bytes.{tail, tail-is}
 use Rattle.keys.proofs.Tests.{given, passing}
@@ -118,57 +119,54 @@ cond-hit b x y z e h = rw e at h
 cond-miss : (b : Bool) (x y z : Found) → b ≡ false → cond b x y ≡ z → y ≡ z
 cond-miss b x y z e h = rw e at h
 
--- the loop over the first entries
+-- the loop over the entries before one
 
 -- what is left after j of the first i entries, from `at` on, answers as all i do
-pub record Looking (t : List ℕ) (test : Entry → Bool) (i j at : ℕ) : Type 0 where
+pub record Clashing (t : List ℕ) (e : Entry) (i j at : ℕ) : Type 0 where
   pub few : j ≤ i
   pub within : at ≤ length t
-  pub rest : anyOf test (take (i - j) (entries (drop at t))) ≡ anyOf test (take i (entries t))
+  pub rest : clashing e (take (i - j) (entries (drop at t))) ≡ clashing e (take i (entries t))
 
-pub looking-start : (t : List ℕ) (test : Entry → Bool) (i : ℕ) → Looking t test i 0 0
-looking-start t test i = record { few = omega arith; within = omega arith; rest = ap (λ (n : ℕ). anyOf test (take n (entries t))) (sub-zero i) }
+pub clashing-start : (t : List ℕ) (e : Entry) (i : ℕ) → Clashing t e i 0 0
+clashing-start t e i = record { few = omega arith; within = omega arith; rest = ap (λ (n : ℕ). clashing e (take n (entries t))) (sub-zero i) }
 
-pub looking-over : {t : List ℕ} {test : Entry → Bool} {i j at : ℕ} → Looking t test i j at → i ≤ j → false ≡ anyOf test (take i (entries t))
-unfolding anyOf
-looking-over {t} {test} {i} {j} {at} w k = let z : i - j ≡ 0 = omega arith in sym (ap (λ (n : ℕ). anyOf test (take n (entries (drop at t)))) z) ∙ w .rest
+pub clashing-over : {t : List ℕ} {e : Entry} {i j at : ℕ} → Clashing t e i j at → i ≤ j → false ≡ clashing e (take i (entries t))
+unfolding clashing
+clashing-over {t} {e} {i} {j} {at} w k = let z : i - j ≡ 0 = omega arith in sym (ap (λ (n : ℕ). clashing e (take n (entries (drop at t)))) z) ∙ w .rest
 
-module _ {t : List ℕ} {test : Entry → Bool} {i j at : ℕ} (w : Looking t test i j at) (n : ℕ) (ne : n ≡ sizeAt t at) where
-  pub looking-cut : n ≡ 0 → false ≡ anyOf test (take i (entries t))
-  unfolding anyOf
-  looking-cut z =
-      sym (ap (λ (l : List Entry). anyOf test (take (i - j) l)) (entries-stop t at (sound-not t at n ne z)) ∙ ap (anyOf test) (take-nil (i - j))) ∙ w .rest
+module _ {t : List ℕ} {e : Entry} {i j at : ℕ} (w : Clashing t e i j at) (n : ℕ) (ne : n ≡ sizeAt t at) where
+  pub clashing-cut : n ≡ 0 → false ≡ clashing e (take i (entries t))
+  unfolding clashing
+  clashing-cut z =
+      sym (ap (λ (l : List Entry). clashing e (take (i - j) l)) (entries-stop t at (sound-not t at n ne z)) ∙ ap (clashing e) (take-nil (i - j))) ∙ w .rest
 
   module _ (y : n ≡ 0 → ⊥) where
-    pub looking-inside : at + size (getD t at 0) ≤ length t
-    looking-inside = sound-inside t at (sound-there t at n ne y)
+    pub clashing-inside : at + size (getD t at 0) ≤ length t
+    clashing-inside = sound-inside t at (sound-there t at n ne y)
 
-    pub looking-step : (1 ≤ n) × (at + n ≤ length t)
-    looking-step = size-inside t at n ne (sound-there t at n ne y)
+    pub clashing-step : (1 ≤ n) × (at + n ≤ length t)
+    clashing-step = size-inside t at n ne (sound-there t at n ne y)
 
-    turn : j < i → (test (itemAt t at .entry) || anyOf test (take (i - (j + 1)) (entries (drop (at + n) t)))) ≡ anyOf test (take i (entries t))
-    unfolding anyOf
+    turn : j < i → (clash (itemAt t at .entry) e || clashing e (take (i - (j + 1)) (entries (drop (at + n) t)))) ≡ clashing e (take i (entries t))
+    unfolding clashing
     turn k =
         let h = sound-there t at n ne y in
         let z : i - j ≡ suc (i - (j + 1)) = omega arith in
-        ap (λ (m : ℕ). test (itemAt t at .entry) || anyOf test (take (i - (j + 1)) (entries (drop (at + m) t)))) (size-sound t at n ne h)
+        ap (λ (m : ℕ). clash (itemAt t at .entry) e || clashing e (take (i - (j + 1)) (entries (drop (at + m) t)))) (size-sound t at n ne h)
         ∙ sym
-        (ap (λ (l : List Entry). anyOf test (take (i - j) l)) (entries-next t at h)
-        ∙ ap (λ (m : ℕ). anyOf test (take m (itemAt t at .entry ∷ entries (drop (at + size (getD t at 0)) t)))) z)
+        (ap (λ (l : List Entry). clashing e (take (i - j) l)) (entries-next t at h)
+        ∙ ap (λ (m : ℕ). clashing e (take m (itemAt t at .entry ∷ entries (drop (at + size (getD t at 0)) t)))) z)
         ∙ w .rest
 
-    module _ (k : j < i) (r : Bool) (re : r ≡ test (itemAt t at .entry)) where
-      pub looking-hit : r ≡ true → true ≡ anyOf test (take i (entries t))
-      looking-hit g = or-hit (test (itemAt t at .entry)) _ _ (sym re ∙ g) (turn k)
+    module _ (k : j < i) (r : Bool) (re : r ≡ (share (itemAt t at .entry .ids) (e .ids) && overlap (itemAt t at .entry .selector) (e .selector))) where
+      pub clashing-hit : r ≡ true → true ≡ clashing e (take i (entries t))
+      unfolding clash
+      clashing-hit g = or-hit (clash (itemAt t at .entry) e) _ _ (sym re ∙ g) (turn k)
 
-      pub looking-next : r ≡ false → Looking t test i (j + 1) (at + n)
-      looking-next g = record { few = omega arith; within = looking-step .1; rest = or-miss (test (itemAt t at .entry)) _ _ (sym re ∙ g) (turn k) }
-
--- where the IDs count, that is a clash
-clashing-is : (e : Entry) (l : List Entry) → anyOf (meetsBy false (e .ids) (e .selector)) l ≡ clashing e l
-unfolding anyOf clashing clash
-clashing-is e [] = refl
-clashing-is e (f ∷ l) = ap (λ (b : Bool). meetsBy false (e .ids) (e .selector) f || b) (clashing-is e l)
+      pub clashing-next : r ≡ false → Clashing t e i (j + 1) (at + n)
+      unfolding clash
+      clashing-next g =
+          record { few = omega arith; within = clashing-step .1; rest = or-miss (clash (itemAt t at .entry) e) _ _ (sym re ∙ g) (turn k) }
 
 -- the loop of a search
 
@@ -219,20 +217,26 @@ module _ {t : List ℕ} {test : Entry → Bool} {i at : ℕ} (w : Seeking t test
             let k = w .counted in
             record { counted = omega arith; within = h .1; rest = cond-miss (test (itemAt t at .entry)) _ _ _ (sym re ∙ g) seek-turn }
 
--- the search by another table's entries, with the loop of a search
+-- the two searches by another table's entries, with the loop of a search
 
 pub place-by : (t : List ℕ) (test : Entry → Bool) → nobody ≡ found test 0 (entries t) → _≡_ {A = Meeting} (record { there = false; index = 0 }) (placeOf (found test 0 (entries t)))
 unfolding nobody
 place-by t test e = ap placeOf e
 
--- all of the other table's entries are among the first so many
-pub meets-any-at : (t : List ℕ) (at : ℕ) (o : List ℕ) (i : Ids) (s : Selector) (r : Bool) → i ≡ idsOf (tail t at) → s ≡ selectorOf (getD (tail t at) 0 0) (tail t at)
-    → r ≡ anyOf (meetsBy true i s) (take (length o) (entries o)) → r ≡ meetsAny (entries o) (itemAt t at .entry)
-unfolding meetsAny
-meets-any-at t at o i s r d q e =
-    e
-    ∙ ap (λ (l : List Entry). anyOf (meetsBy true i s) l) (take-all (length o) (entries o) (entries-few o))
-    ∙ (λ k. anyOf (meetsBy true (ids-at t at i d k) (selector-at t at s q k)) (entries o))
+pub any-by : (t : List ℕ) (test : Entry → Bool) (r : Found) → r ≡ found test 0 (entries t) → r .there ≡ anyOf test (entries t)
+any-by t test r e = ap (λ (x : Found). x .there) e ∙ sym (any-found test (entries t) 0)
+
+pub none-by : (t : List ℕ) (test : Entry → Bool) → nobody ≡ found test 0 (entries t) → false ≡ anyOf test (entries t)
+unfolding nobody
+none-by t test e = any-by t test nobody e
+
+module _ (t : List ℕ) (at : ℕ) where
+  pub meets-at : (s x : Selector) (r : Bool) → x ≡ selectorOf (getD (tail t at) 0 0) (tail t at) → r ≡ overlap x s → r ≡ meets s (itemAt t at .entry)
+  meets-at s x r q e = e ∙ ap (λ (y : Selector). overlap y s) (selector-at t at x q)
+
+  pub meets-any-at : (o : List Entry) (s : Selector) (r : Bool) → s ≡ selectorOf (getD (tail t at) 0 0) (tail t at) → r ≡ anyOf (meets s) o → r ≡ meetsAny o (itemAt t at .entry)
+  unfolding meetsAny
+  meets-any-at o s r q e = e ∙ ap (λ (x : Selector). anyOf (meets x) o) (selector-at t at s q)
 
 -- the loader's loop
 
@@ -334,11 +338,11 @@ module _ (kind : TableKind) (before : List Entry) (x : Item) where
       given (entryTests kind (x .entry)) (test 17 (clashing (x .entry) before) ∷ []) n (f ∙ ap (λ (y : Entry). numberOf (entryTests kind y)) q) k ∙ past-begin h w
 
   item-last : (e : Entry) (n : ℕ) (r b : Bool) → kindListed kind x ≡ true → x .whole ≡ true → e ≡ x .entry → n ≡ numberOf (entryTests kind e) → n ≡ 0
-      → r ≡ anyOf (meetsBy false (e .ids) (e .selector)) before → r ≡ b → cond b 17 0 ≡ numberOf (itemTests kind before x)
+      → r ≡ clashing e before → r ≡ b → cond b 17 0 ≡ numberOf (itemTests kind before x)
   unfolding numberOf
   item-last e n r b h w q f z c d =
       passing (entryTests kind (x .entry)) (test 17 (clashing (x .entry) before) ∷ []) n (cond b 17 0) (entry-lacks kind (x .entry)) (f ∙ ap (λ (y : Entry). numberOf (entryTests kind y)) q) z
-      (ap (λ (y : Bool). cond y 17 0) (sym d ∙ c ∙ clashing-is e before ∙ ap (λ (y : Entry). clashing y before) q))
+      (ap (λ (y : Bool). cond y 17 0) (sym d ∙ c ∙ ap (λ (y : Entry). clashing y before) q))
       ∙ past-begin h w
 
 module _ (t : List ℕ) (at : ℕ) (kind : TableKind) (before : List Entry) where
@@ -358,5 +362,5 @@ module _ (t : List ℕ) (at : ℕ) (kind : TableKind) (before : List Entry) (k :
   pub number-wrong : (n ≡ 0 → ⊥) → n ≡ numberOf (itemTests kind before (itemAt t at))
   number-wrong z = item-wrong kind before (itemAt t at) e n (listed-is t at kind k true ke kt) there-whole (entry-at t at e ee) ne z
 
-  pub number-last : (r b : Bool) → n ≡ 0 → r ≡ anyOf (meetsBy false (e .ids) (e .selector)) before → r ≡ b → cond b 17 0 ≡ numberOf (itemTests kind before (itemAt t at))
+  pub number-last : (r b : Bool) → n ≡ 0 → r ≡ clashing e before → r ≡ b → cond b 17 0 ≡ numberOf (itemTests kind before (itemAt t at))
   number-last r b z c d = item-last kind before (itemAt t at) e n r b (listed-is t at kind k true ke kt) there-whole (entry-at t at e ee) ne z c d

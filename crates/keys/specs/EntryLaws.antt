@@ -111,21 +111,6 @@ module _ (t : List ℕ) (at : ℕ) where
       go true e = ap entriesOf (items-end (leb-true (length t) at e))
       go false e = rw (items-at (leb-false (length t) at e), h)
 
--- there are no more entries than bytes
-
-items-few : (n : ℕ) (t : List ℕ) → length (entriesOf (items n t)) ≤ length t
-unfolding items entriesOf
-items-few n [] = omega arith
-items-few (suc n) (b ∷ t) = let h = items-few n t in omega arith
-items-few zero (b ∷ t) = go (sound (item (b ∷ t))) refl (items-few (body b) t)
-  where
-    go : (c : Bool) → sound (item (b ∷ t)) ≡ c → length (entriesOf (items (body b) t)) ≤ length t → length (entriesOf (items 0 (b ∷ t))) ≤ suc (length t)
-    go true e h = rw e (omega arith)
-    go false e h = rw e (omega arith)
-
-pub entries-few : (t : List ℕ) → length (entries t) ≤ length t
-entries-few t = items-few 0 t
-
 -- bytes
 
 take-octets : (n : ℕ) (s : List ℕ) → Octets s → Octets (take n s)

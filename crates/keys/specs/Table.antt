@@ -10,7 +10,7 @@ use lib.Dec.{ltb, eqb}
 use Rattle.octets.specs.Tests.{Test, test, first}
 use Rattle.wire.specs.Prefix.{clearPast}
 use Rattle.keys.specs.Entry.{width, Item, items}
-use Rattle.keys.specs.Match.{matches, overlap, share, clash}
+use Rattle.keys.specs.Match.{matches, overlap, clash}
 use Rattle.keys.specs.declared.entry.Side.{Side}
 use Rattle.keys.specs.declared.entry.Selector.{Selector}
 use Rattle.keys.specs.declared.entry.Ids.{Ids}
@@ -152,13 +152,13 @@ hasId (Recv id) i = eqb (i .recv) id
 unfoldable pub answers : By → Pair → Entry → Bool
 answers by p e = hasId by (e .ids) && matches (e .selector) p
 
--- an entry matches some pair that a selector matches too and, unless any ID will do, shares one of the IDs
-abbrev pub meetsBy : Bool → Ids → Selector → Entry → Bool
-meetsBy any i s e = (any || share (e .ids) i) && overlap (e .selector) s
+-- an entry matches some pair that a selector matches too
+abbrev pub meets : Selector → Entry → Bool
+meets s e = overlap (e .selector) s
 
--- some entry of a list matches a pair that an entry matches too, whatever their IDs
+-- some entry of a list does, of an entry's selector
 unfoldable pub meetsAny : List Entry → Entry → Bool
-meetsAny l e = anyOf (meetsBy true (e .ids) (e .selector)) l
+meetsAny l e = anyOf (meets (e .selector)) l
 
 -- whether a search found anything, and where
 abbrev pub placeOf : Found → Meeting

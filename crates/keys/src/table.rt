@@ -2,15 +2,15 @@
 // (house bytes)" and "Numbers given back"; document 02, Ticket 9.
 // Any bytes are a table. Entries before another are read again from their bytes, their IDs first, so that no array of them is kept.
 ghost use mathlib.Core.Path.{_≡_};
-ghost use mathlib.Core.Bool.{cond, _&&_, _||_};
+ghost use mathlib.Core.Bool.{cond, _&&_};
 ghost use mathlib.Core.List.{[], _∷_};
 ghost use Prim.Native.Nat.{_+_, _≤_, _<_};
 ghost use lib.ListN.{length, take, getD};
 ghost use lib.Dec.{eqb};
-ghost use Rattle.keys.specs.Match.{share};
-ghost use Rattle.keys.specs.Entry.{size, idsOf, item, itemAt, sound, entries};
-ghost use Rattle.keys.specs.Table.{numberOf, kindListed, itemTests, loaded};
-ghost use Rattle.keys.specs.Table.{nobody, found, anyOf, hasId, answers, meetsBy, meetsAny, placeOf};
+ghost use Rattle.keys.specs.Entry.{size, item, itemAt, sound, entries};
+ghost use Rattle.keys.specs.Match.{share, overlap};
+ghost use Rattle.keys.specs.Table.{numberOf, kindListed, itemTests, clashing, loaded};
+ghost use Rattle.keys.specs.Table.{nobody, found, anyOf, hasId, answers, meets, meetsAny, placeOf};
 use crate::entry::Entry;
 use crate::entry::Ids;
 use crate::entry::Pair;
@@ -75,31 +75,21 @@ fn size_at(table: &[u8], at: usize) -> usize
     n
 }
 
-// Whether the entry whose bytes begin with e's shares one of these IDs, or any will do.
-fn ids_meet(e: &[u8], any: bool, ids: Ids) -> bool
-    requires { ⌜ size (getD (now e) 0 0) ≤ length (now e) ⌝ }
-    ensures { λ r. ⌜ r ≡ (any || share (idsOf (now (e .entry))) ids) ⌝ }
-{
-    if any {
-        return true;
-    }
-    crate::matching::shares(ids_of(e), ids)
-}
-
-// Whether the entry at `at` does and matches a pair that the selector matches too. The IDs mostly decide.
-fn meets_at(table: &[u8], at: usize, any: bool, ids: Ids, selector: Selector) -> bool
+// Whether the entry at `at` clashes with one of these IDs and this selector. The IDs mostly decide.
+fn clash_at(table: &[u8], at: usize, ids: Ids, selector: Selector) -> bool
     requires { ⌜ at + size (getD (now table) at 0) ≤ length (now table) ⌝ }
-    ensures { λ r. ⌜ r ≡ meetsBy any ids selector (itemAt (now (table .entry)) at .entry) ⌝ }
+    ensures { λ r. ⌜ r ≡ (share (itemAt (now (table .entry)) at .entry .ids) ids
+        && overlap (itemAt (now (table .entry)) at .entry .selector) selector) ⌝ }
 {
-    if !ids_meet(&table[at..], any, ids) {
+    if !crate::matching::shares(ids_of(&table[at..]), ids) {
         return false;
     }
     crate::matching::overlaps(&table[at..], selector)
 }
 
-// Whether one of the first i entries does. One loop for 17 and for 45: only so does the compiler take the comparison into it.
-fn meets_before(table: &[u8], i: usize, any: bool, ids: Ids, selector: Selector) -> bool
-    ensures { λ r. ⌜ r ≡ anyOf (meetsBy any ids selector) (take i (entries (now (table .entry)))) ⌝ }
+// Whether one of the first i entries clashes with e.
+fn clashes_before(table: &[u8], i: usize, e: Entry) -> bool
+    ensures { λ r. ⌜ r ≡ clashing e (take i (entries (now (table .entry)))) ⌝ }
 {
     let mut at: usize = 0;
     let mut j: usize = 0;
@@ -108,7 +98,7 @@ fn meets_before(table: &[u8], i: usize, any: bool, ids: Ids, selector: Selector)
         if n == 0 {
             return false;
         }
-        if meets_at(table, at, any, ids, selector) {
+        if clash_at(table, at, e.ids, e.selector) {
             return true;
         }
         at = at + n;
@@ -144,7 +134,7 @@ fn number_at(table: &[u8], at: usize, i: usize, kind: TableKind) -> u8
     if n != 0 {
         return n;
     }
-    if meets_before(table, i, false, e.ids, e.selector) {
+    if clashes_before(table, i, e) {
         return 17;
     }
     0
@@ -281,6 +271,24 @@ pub fn find(table: &[u8], pair: Pair, by: By) -> Found
     nothing()
 }
 
+// Whether some entry matches a pair that the selector matches too.
+fn meets_any(table: &[u8], s: Selector) -> bool
+    ensures { λ r. ⌜ r ≡ anyOf (meets s) (entries (now (table .entry))) ⌝ }
+{
+    let mut at: usize = 0;
+    while at < table.len() {
+        let n = size_at(table, at);
+        if n == 0 {
+            return false;
+        }
+        if crate::matching::selectors_overlap(selector_of(&table[at..]), s) {
+            return true;
+        }
+        at = at + n;
+    }
+    false
+}
+
 // The first entry of `table` that matches a pair which some entry of `others` matches too.
 pub fn find_meeting(table: &[u8], others: &[u8]) -> Meeting
     ensures { λ r. ⌜ r ≡ placeOf (found (meetsAny (entries (now (others .entry)))) 0 (entries (now (table .entry)))) ⌝ }
@@ -295,8 +303,7 @@ pub fn find_meeting(table: &[u8], others: &[u8]) -> Meeting
                 index: 0,
             };
         }
-        let ids = ids_of(&table[at..]);
-        if meets_before(others, others.len(), true, ids, selector_of(&table[at..])) {
+        if meets_any(others, selector_of(&table[at..])) {
             return Meeting {
                 there: true,
                 index: i,

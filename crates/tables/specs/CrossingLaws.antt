@@ -11,7 +11,7 @@ use Rattle.keys.specs.FoundLaws.{found-first, found-before, found-there, any-th
 use Rattle.keys.specs.LoadLaws.{refused-low}
 use Rattle.keys.specs.MatchLaws.{Fields, witness, witness-is, overlap-matches, overlap-found}
 use Rattle.keys.specs.PlaceLaws.{each-at}
-use Rattle.keys.specs.Table.{loaded, hit, meetsBy, meetsAny}
+use Rattle.keys.specs.Table.{loaded, hit, meets, meetsAny}
 use Rattle.keys.specs.declared.entry.Entry.{Entry}
 use Rattle.keys.specs.declared.table.TableKind.the-variants.{Keys, Md5}
 use Rattle.keys.specs.declared.table.Loaded.{Loaded}
@@ -30,7 +30,7 @@ FieldsOf e = Fields (e .selector)
 meets-crossed : (k : List ℕ) (e : Entry) → Octets k → FieldsOf e → meetsAny (entries k) e ≡ true → Crossed k e
 unfolding meetsAny
 meets-crossed k e o f h =
-    let r = any-there (meetsBy true (e .ids) (e .selector)) (entries k) h in
+    let r = any-there (meets (e .selector)) (entries k) h in
     let m = overlap-matches (r .1 .selector) (e .selector) (r .3) in
     record {
       place = r .0;
@@ -44,9 +44,7 @@ meets-crossed k e o f h =
 
 crossed-meets : (k : List ℕ) (e : Entry) → Crossed k e → meetsAny (entries k) e ≡ true
 unfolding meetsAny
-crossed-meets k e c =
-    any-of (meetsBy true (e .ids) (e .selector)) (c .at-place)
-    (overlap-found (c .other .selector) (e .selector) (c .pair) (c .first) (c .second))
+crossed-meets k e c = any-of (meets (e .selector)) (c .at-place) (overlap-found (c .other .selector) (e .selector) (c .pair) (c .first) (c .second))
 
 -- where 45 comes from
 

@@ -11,7 +11,7 @@ use Rattle.keys.specs.FoundLaws.{found-none, any-none}
 use Rattle.keys.specs.LoadLaws.{valid-formed}
 use Rattle.keys.specs.Places.{At}
 use Rattle.keys.specs.PlaceLaws.{each-at, apart-at}
-use Rattle.keys.specs.Table.{loaded, meetsBy, meetsAny}
+use Rattle.keys.specs.Table.{loaded, meets, meetsAny}
 use Rattle.keys.specs.declared.entry.Entry.{Entry}
 use Rattle.keys.specs.declared.table.TableKind.the-variants.{Keys, Md5}
 use Rattle.keys.specs.declared.table.Loaded.{Loaded}
@@ -56,7 +56,7 @@ valid-bytes k m n e =
       proper = a .0 .formed;
       md5-proper = b .0 .formed;
       md5-digest = md5-digests maxEntries (t .md5s .0) m (t .md5s .1);
-      uncrossed = λ i j e f p q. any-none (meetsBy true (f .ids) (f .selector)) (found-none (meetsAny (entries k)) 0 (t .uncrossed) q) p;
+      uncrossed = λ i j e f p q. any-none (meets (f .selector)) (found-none (meetsAny (entries k)) 0 (t .uncrossed) q) p;
     }
 
 pub valid-count : ValidCount

@@ -3,8 +3,7 @@ use borrow.Author.Needs.{needs}
 use Prim.Native.Nat.{_-_}
 use mathlib.Core.Path.{refl, ap}
 use lib.ListN.{length}
-use Rattle.keys.proofs.Walk.{Seeking, seek-start, seek-over, seek-cut, seek-inside, seek-step, seek-hit, seek-next, tail-whole}
-use Rattle.keys.proofs.Walk.{place-by, meets-any-at}
+use Rattle.keys.proofs.Walk.{Seeking, seek-start, seek-over, seek-cut, seek-inside, seek-step, seek-hit, seek-next, tail-whole, place-by, meets-any-at}
 use Rattle.keys.specs.Entry.{entries}
 use Rattle.keys.specs.Table.{nobody, meetsAny, placeOf}
 use native.Mathlib.Omega.{arith}
@@ -20,49 +19,36 @@ abbrev μ-loop : tie.MeasureT-loop
 returns : tie.Need-returns Inv-loop μ-loop
 returns c = place-by _ _ (seek-cut (c .before .before .before .loop .inv) _ (c .before .size-at .ensures) (c .if1 .taken) nobody refl)
 
-ids-of-requires : tie.Need-ids-of-requires Inv-loop μ-loop
-ids-of-requires c κs =
-    let l = c .before .before .before .before .loop in
-    let a = c .before .before .before .before .before .before .before .args in
-    tail-whole (a .table .now) (l .at) (seek-inside (l .inv) _ (c .before .before .size-at .ensures) (c .before .if1 .left))
-
 selector-of-requires : tie.Need-selector-of-requires Inv-loop μ-loop
 selector-of-requires c κs =
-    let d = c .before .before .before in
-    let l = d .before .before .before .loop in
-    let a = d .before .before .before .before .before .before .args in
-    tail-whole (a .table .now) (l .at) (seek-inside (l .inv) _ (d .before .size-at .ensures) (d .if1 .left))
+    let a = c .before .before .before .before .before .before .before .args in
+    let l = c .before .before .before .before .loop in
+    tail-whole (a .table .now) (l .at) (seek-inside (l .inv) _ (c .before .before .size-at .ensures) (c .before .if1 .left))
 
 returns-2 : tie.Need-returns-2 Inv-loop μ-loop
 returns-2 c =
-    let d = c .before .before .before .before .before .before in
-    let l = d .before .before .before .loop in
-    let a = d .before .before .before .before .before .before .args in
+    let a = c .before .before .before .before .before .before .before .before .before .before .args in
+    let l = c .before .before .before .before .before .before .before .loop in
     ap placeOf
-    (seek-hit (l .inv) _ (d .before .size-at .ensures) (d .if1 .left) _
-    (meets-any-at (a .table .now) (l .at) (a .others .now) _ _ _ (c .before .before .before .before .ids-of .ensures) (c .before .before .selector-of .ensures)
-    (c .before .meets-before .ensures))
-    (c .if2 .taken) _ refl)
+    (seek-hit (l .inv) _ (c .before .before .before .before .before .size-at .ensures) (c .before .before .before .before .if1 .left)
+    _ (meets-any-at (a .table .now) (l .at) (entries (a .others .now)) _ _ (c .before .before .selector-of .ensures) (c .before .meets-any .ensures)) (c .if2 .taken) _ refl)
 
 add-at : tie.Need-add-at Inv-loop μ-loop
 add-at c =
-    let d = c .before .before .before .before .before .before in
-    omega (arith, seek-step (d .before .before .before .loop .inv) _ (d .before .size-at .ensures) (d .if1 .left))
+    let l = c .before .before .before .before .before .before .before .loop in
+    omega (arith, seek-step (l .inv) _ (c .before .before .before .before .before .size-at .ensures) (c .before .before .before .before .if1 .left))
 
 loop-less : tie.Need-loop-less Inv-loop μ-loop
 loop-less c =
-    let d = c .before .before .before .before .before .before in
-    omega (arith, seek-step (d .before .before .before .loop .inv) _ (d .before .size-at .ensures) (d .if1 .left))
+    let l = c .before .before .before .before .before .before .before .loop in
+    omega (arith, seek-step (l .inv) _ (c .before .before .before .before .before .size-at .ensures) (c .before .before .before .before .if1 .left))
 
 loop-again : tie.Need-loop-again Inv-loop μ-loop
 loop-again c =
-    let d = c .before .before .before .before .before .before in
-    let l = d .before .before .before .loop in
-    let a = d .before .before .before .before .before .before .args in
-    seek-next (l .inv) _ (d .before .size-at .ensures) (d .if1 .left) _
-    (meets-any-at (a .table .now) (l .at) (a .others .now) _ _ _ (c .before .before .before .before .ids-of .ensures) (c .before .before .selector-of .ensures)
-    (c .before .meets-before .ensures))
-    (c .if2 .left)
+    let a = c .before .before .before .before .before .before .before .before .before .before .args in
+    let l = c .before .before .before .before .before .before .before .loop in
+    seek-next (l .inv) _ (c .before .before .before .before .before .size-at .ensures) (c .before .before .before .before .if1 .left)
+    _ (meets-any-at (a .table .now) (l .at) (entries (a .others .now)) _ _ (c .before .before .selector-of .ensures) (c .before .meets-any .ensures)) (c .if2 .left)
 
 returns-3 : tie.Need-returns-3 Inv-loop μ-loop
 returns-3 c = place-by _ _ (seek-over (c .before .loop .inv) (c .loop-test .left) nobody refl)
@@ -76,10 +62,6 @@ find-meeting-spec =
     (λ c. seek-start _ _)
     (λ c κs. search needs)
     returns
-    (λ c. search needs)
-    (λ c. search needs)
-    (λ c. search needs)
-    ids-of-requires
     (λ c. search needs)
     (λ c. search needs)
     (λ c. search needs)

@@ -36,14 +36,14 @@ returns-4 c =
     let d = c .before .before .before .before .before .before in
     let s = d .before .before .before .before .before .before in
     number-last (s .args .table .now) (s .args .at) (s .args .kind) (take (s .args .i) (entries (s .args .table .now))) _ _ _ (d .before .before .before .kind-listed .ensures) (not-false _ (d .before .before .if1 .left)) (d .before .size-of .ensures)
-    (s .pre) (d .if2 .left) (c .before .before .before .before .entry-of .ensures) _ (c .before .before .before .entry-number .ensures) _ true (c .before .before .if3 .left) (c .before .meets-before .ensures) (c .if4 .taken)
+    (s .pre) (d .if2 .left) (c .before .before .before .before .entry-of .ensures) _ (c .before .before .before .entry-number .ensures) _ true (c .before .before .if3 .left) (c .before .clashes-before .ensures) (c .if4 .taken)
 
 returns-5 : tie.Need-returns-5
 returns-5 c =
     let d = c .before .before .before .before .before .before in
     let s = d .before .before .before .before .before .before in
     number-last (s .args .table .now) (s .args .at) (s .args .kind) (take (s .args .i) (entries (s .args .table .now))) _ _ _ (d .before .before .before .kind-listed .ensures) (not-false _ (d .before .before .if1 .left)) (d .before .size-of .ensures)
-    (s .pre) (d .if2 .left) (c .before .before .before .before .entry-of .ensures) _ (c .before .before .before .entry-number .ensures) _ false (c .before .before .if3 .left) (c .before .meets-before .ensures) (c .if4 .left)
+    (s .pre) (d .if2 .left) (c .before .before .before .before .entry-of .ensures) _ (c .before .before .before .entry-number .ensures) _ false (c .before .before .if3 .left) (c .before .clashes-before .ensures) (c .if4 .left)
 
 pub number-at-spec : {M : Type 1} → statement M
 number-at-spec =
