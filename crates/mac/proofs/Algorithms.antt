@@ -6,6 +6,7 @@ use Prim.Native.Nat.{ℕ}
 use native.Mathlib.Omega.{arith}
 use lib.ListN.{length, take, getD}
 use lib.Seq.{take-all}
+use Rattle.mac.specs.Blocks.{chained}
 use Rattle.mac.specs.Hmac.{filled}
 use Rattle.mac.specs.HashContexts.{partsOf, wordsOf, digestBytes, digestRoom}
 use Rattle.mac.specs.declared.hash_algorithm.HashAlgorithm.{HashAlgorithm}
@@ -50,6 +51,9 @@ Initial a r = take (wordsOf a) r ≡ partsOf a .initial
 abbrev pub Suffix : HashAlgorithm → ℕ → List ℕ → Type 0
 Suffix a n r = r ≡ partsOf a .suffix n
 
+abbrev pub Chained : HashAlgorithm → List ℕ → ℕ → List ℕ → List ℕ → Type 0
+Chained a h n d r = take (wordsOf a) r ≡ chained (partsOf a) (take (wordsOf a) h) n d
+
 -- In the arm of the algorithm b.
 module _ (a b : HashAlgorithm) (is : a ≡ b) where
   pub bytes-in : digestBytes b ≡ digestBytes a
@@ -63,6 +67,11 @@ module _ (a b : HashAlgorithm) (is : a ≡ b) where
       → w ≡ v → x ≡ take (wordsOf b) h → y ≡ f x w → take (wordsOf b) r ≡ y → Compressed a h m r
   compressed-in f h m w v x y r ef ew ex ey er =
       subst (λ (z : HashAlgorithm). Compressed z h m r) (sym is) (er ∙ ey ∙ ap₂ f ex ew ∙ sym (ef (take (wordsOf b) h)))
+
+  pub chained-in : (h d x y r : List ℕ) (n : ℕ) → x ≡ take (wordsOf b) h → y ≡ chained (partsOf b) x n d → take (wordsOf b) r ≡ y
+      → Chained a h n d r
+  chained-in h d x y r n ex ey er =
+      subst (λ (z : HashAlgorithm). Chained z h n d r) (sym is) (er ∙ ey ∙ ap (λ (c : List ℕ). chained (partsOf b) c n d) ex)
 
   pub suffix-in : (n : ℕ) (r : List ℕ) → r ≡ partsOf b .suffix n → Suffix a n r
   suffix-in n r e = subst (λ (z : HashAlgorithm). Suffix z n r) (sym is) e

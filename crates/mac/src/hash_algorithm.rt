@@ -5,6 +5,7 @@ ghost use mathlib.Core.Path.{_≡_};
 ghost use mathlib.Core.List.{_++_};
 ghost use lib.ListN.{length, take, replicate};
 ghost use Rattle.mac.specs.Blocks.{chained};
+ghost use Rattle.mac.specs.Md5.{parts as md5Parts};
 ghost use Rattle.mac.specs.Hmac.{filled as filledOf};
 ghost use Rattle.mac.specs.HashContexts.{partsOf, wordsOf, digestBytes, digestRoom};
 ghost use Prim.Native.Nat.{_/_, _≤_};
@@ -69,6 +70,22 @@ pub(crate) fn first_sixteen(d: [u8; DIGEST_ROOM]) -> [u8; 16]
     let mut out = [0u8; 16];
     octets::copy_at(&mut out, 0, &d[..16]);
     out
+}
+
+// MD5's registers after the whole blocks of data, each handled from where it lies.
+fn md5_blocks(h: [u32; 4], data: &[u8]) -> [u32; 4]
+    ensures { λ r. ⌜ r ≡ chained md5Parts h (length (now («data» .entry)) / 64) (now («data» .entry)) ⌝ }
+{
+    let mut chain = h;
+    let n = data.len() / 64;
+    for i in 0..n {
+        let at = 64 * i;
+        let end = at + 64;
+        let w = compression::md5::load(&data[at..end]);
+        let next = compression::md5::compress(chain, w);
+        chain = next;
+    }
+    chain
 }
 
 impl HashAlgorithm {
@@ -141,7 +158,7 @@ impl HashAlgorithm {
     }
 
     // The chaining value after the whole blocks of data, each compressed from where it lies.
-    pub(crate) fn compress_all(self, h: [u32; 8], data: &[u8]) -> [u32; 8]
+    fn by_blocks(self, h: [u32; 8], data: &[u8]) -> [u32; 8]
         ensures { λ r. ⌜ take (wordsOf self) r
             ≡ chained (partsOf self) (take (wordsOf self) h) (length (now («data» .entry)) / 64) (now («data» .entry)) ⌝ }
     {
@@ -154,5 +171,18 @@ impl HashAlgorithm {
             chain = next;
         }
         chain
+    }
+
+    // The same. MD5 has a loop of its own: a block takes it so little time that the room of eight words, written and read between two
+    // blocks, would cost a tenth of it.
+    pub(crate) fn compress_all(self, h: [u32; 8], data: &[u8]) -> [u32; 8]
+        ensures { λ r. ⌜ take (wordsOf self) r
+            ≡ chained (partsOf self) (take (wordsOf self) h) (length (now («data» .entry)) / 64) (now («data» .entry)) ⌝ }
+    {
+        match self {
+            HashAlgorithm::Sha1 => self.by_blocks(h, data),
+            HashAlgorithm::Sha256 => self.by_blocks(h, data),
+            HashAlgorithm::Md5 => four_in_eight(md5_blocks(first_four(h), data)),
+        }
     }
 }
