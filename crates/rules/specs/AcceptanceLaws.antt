@@ -66,7 +66,7 @@ module _ (q : State) (e : Entry) (x : ℕ) (b : List ℕ) (g : SignedAt q e x b)
     read .formed,
     (
       ap (λ (o : Occurrence). ltb 1 (o .count)) (read .one),
-      (rw (read .one) (ap (λ (n : ℕ). ltb 0 n) (read .no-md5)), (ap (λ (n : ℕ). ltb 1 n) (read .no-md5), tt)),
+      (rw (read .one) (ap (λ (n : ℕ). ltb 0 n) (read .no-md5)), (rw (read .no-md5), tt)),
     ),
   )
 

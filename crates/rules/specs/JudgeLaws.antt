@@ -123,7 +123,7 @@ module _ (t : Tables) (l : Connection) (reference : ℕ) (a : Arrival) where
     unfolding check slot
     sized-counted e =
         ap isCountedBad (past-input (judgeGroups t l reference a) _ right)
-        ∙ first-passes isCountedBad (joined (segmentGroups (judgeGroups t l reference a))) (Good _ _) (rw way) refl
+        ∙ first-passes isCountedBad (joined (segmentGroups (judgeGroups t l reference a))) _ (rw way) refl
       where
         right : NoneApplies (stateTests t (a .source) (a .destination) l)
         right =

@@ -66,7 +66,7 @@ module _ (q : State) (e : Entry) (x : ℕ) (b : List ℕ) (g : SignedAt q e x b)
       ap (ltb 1) (read .no-ao),
       (
         ap (λ (n : ℕ). ltb 0 n && ltb 0 (md5 came .count)) (read .no-ao),
-        (ap (λ (o : Occurrence). ltb 1 (o .count)) (read .one), tt),
+        (rw (read .one), tt),
       ),
     ),
   )
