@@ -91,8 +91,8 @@ all-put f l r n d o₁ o₂ o₃ o₄ o₅ w hf hl hr hn hd e₁ e₂ e₃ e₄ 
     let p₃ = put (f ++ l) r (replicate (stateBytes - remoteAt) 0) o₂ o₃ remoteAt 16 (length r) (p₂ .0) (p₂ .1) hr refl e₃ in
     let p₄ = put ((f ++ l) ++ r) (wordBytes n) (replicate (stateBytes - sentAt) 0) o₃ o₄ sentAt 24 (8 * length n)
     (p₃ .0) (p₃ .1) (length-words n ∙ ap (λ (k : ℕ). 8 * k) hn) (sym (length-words n)) e₄ in
-    let p₅ = put (((f ++ l) ++ r) ++ wordBytes n) (wordBytes d) (replicate (stateBytes - dropsAt) 0) o₄ o₅ dropsAt (8 * slots) (8 * length d)
-    (p₄ .0) (p₄ .1) (length-words d ∙ ap (λ (k : ℕ). 8 * k) hd) (sym (length-words d)) e₅ in
+    let p₅ = put (((f ++ l) ++ r) ++ wordBytes n) (wordBytes d) (replicate (stateBytes - dropsAt) 0) o₄ o₅ dropsAt (8 * slots)
+    (8 * length d) (p₄ .0) (p₄ .1) (length-words d ∙ ap (λ (k : ℕ). 8 * k) hd) (sym (length-words d)) e₅ in
     let p : List ℕ = (((f ++ l) ++ r) ++ wordBytes n) ++ wordBytes d in
     ap (λ (o : List ℕ). set o wayAt w) (p₅ .0) ∙ set-at p 0 [] w wayAt (p₅ .1) ∙ simp append-assoc
 

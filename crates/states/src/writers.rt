@@ -1,13 +1,13 @@
 // Who writes a connection's state: document 01, "Positions", "A connection's life" and "Numbers given back"; document 02, Ticket 9. Every
-// other function passes the state on as it is. Assumes only of an address that becomes part of a pair that it has at most sixteen bytes: the callers have
-// tested 19.
+// other function passes the state on as it is. Assumes only of an address that becomes part of a pair that it has at most sixteen bytes:
+// the callers have tested 19.
 ghost use mathlib.Core.Path.{_≡_};
 ghost use Prim.Native.Nat.{_≤_};
 ghost use lib.ListN.{length, take};
 ghost use Rattle.wire.specs.Bytes.{sameBytes};
 ghost use Rattle.keys.specs.Entry.{width, padded};
-ghost use Rattle.rules.specs.Connection.{pairOf, isOpen, isMd5, opened as openedOf, opening as openingOf, empty as emptyState, withAccepted};
-ghost use Rattle.rules.specs.Connection.{withCounted, withDrop, withSent, withAsked};
+ghost use Rattle.rules.specs.Connection.{pairOf, isOpen, isMd5, opened as openedOf, opening as openingOf, empty as emptyState};
+ghost use Rattle.rules.specs.Connection.{withAccepted, withCounted, withDrop, withSent, withAsked};
 use crate::counts::bump;
 use crate::counts::count_drop;
 use crate::counts::larger;

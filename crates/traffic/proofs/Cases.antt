@@ -134,7 +134,8 @@ module _ (k : List ℕ) {r : List ℕ} where
 
 module _ (algorithm : ℕ) (k m : List ℕ) {r : List ℕ} where
   pub hmac-derived : isHmac algorithm ≡ true → {h : HashAlgorithm} → h ≡ hashFor algorithm
-      → r ≡ filled digestRoom (hmac (hash.hash (partsOf h)) 64 k m) → r ≡ padded digestRoom (applied algorithm (derivationKey algorithm k) m)
+      → r ≡ filled digestRoom (hmac (hash.hash (partsOf h)) 64 k m)
+      → r ≡ padded digestRoom (applied algorithm (derivationKey algorithm k) m)
   unfolding applied filled
   hmac-derived is eh e =
       e ∙ (λ i. padded digestRoom (hmac (hash.hash (partsOf (eh i))) 64 k m)) ∙ go (eqb algorithm 1) (eqb algorithm 3) is

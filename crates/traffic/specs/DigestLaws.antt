@@ -22,7 +22,8 @@ use Rattle.traffic.specs.MacContext.{MacView, keyedLast, macAbsorb, macF
 all-absorbed : (a d k : List ℕ) → keyedLast (absorb (partsOf Md5) (absorb (partsOf Md5) (start (partsOf Md5)) a) d) k ≡ md5 (a ++ (d ++ k))
 all-absorbed a d k =
     let v : View = absorb (partsOf Md5) (start (partsOf Md5)) a in
-    ap (finished (partsOf Md5)) (sym (absorb-append (partsOf Md5) v d k) ∙ sym (absorb-append (partsOf Md5) (start (partsOf Md5)) a (d ++ k)))
+    ap (finished (partsOf Md5))
+    (sym (absorb-append (partsOf Md5) v d k) ∙ sym (absorb-append (partsOf Md5) (start (partsOf Md5)) a (d ++ k)))
     ∙ finished-absorb (partsOf Md5) (a ++ (d ++ k))
 
 -- a context that has absorbed the front of a segment of len bytes with the given header, and then the data, is finished

@@ -5,7 +5,7 @@ ghost use mathlib.Core.Path.{_≡_};
 ghost use lib.ListN.{take};
 ghost use Rattle.rules.specs.Mac.{isHmac};
 ghost use Rattle.traffic.specs.MacContext.{hashFor, isHashed, heldHash, macView, macStart, macAbsorb, macFinished};
-ghost use Rattle.traffic.specs.MacContext.{MacView, Digest, keyedLast};
+ghost use Rattle.traffic.specs.MacContext.{Digest, keyedLast};
 ghost use Rattle.mac.specs.HashContexts.{hashView};
 ghost use Rattle.mac.specs.declared.hash_algorithm.HashAlgorithm.the-variants.{Md5};
 ghost use Rattle.traffic.specs.Padded.{padded as paddedOf, digestRoom};
@@ -17,8 +17,8 @@ use mac::hash_algorithm::HashAlgorithm;
 use mac::hmac::HmacContext;
 
 // Only the context that `algorithm` names means anything, and for 19 (TCP MD5) the inner hash of `hmac` and the first `key_len` bytes of
-// `key`. The others are no part of the view, and neither is which of the numbers other than 1, 3 and 19 `algorithm` is, nor what HmacContext
-// and CmacContext leave free: the contracts leave these of a result free.
+// `key`. The others are no part of the view, and neither is which of the numbers other than 1, 3 and 19 `algorithm` is, nor what
+// HmacContext and CmacContext leave free: the contracts leave these of a result free.
 pub struct MacContext {
     pub algorithm: u8,
     pub key_len: u8,

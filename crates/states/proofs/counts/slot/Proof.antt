@@ -20,12 +20,16 @@ returns-3 c = sym (ap slot (c .if3 .taken) ∙ slot-47)
 returns-4 : tie.Need-returns-4
 returns-4 c =
     let k = c .before in
-    sym (slot-none (k .before .before .before .args .n) (inl (c .if4 .taken)) (k .before .before .if1 .left) (k .before .if2 .left) (k .if3 .left))
+    sym
+    (slot-none (k .before .before .before .args .n) (inl (c .if4 .taken)) (k .before .before .if1 .left) (k .before .if2 .left)
+    (k .if3 .left))
 
 returns-5 : tie.Need-returns-5
 returns-5 c =
     let k = c .before .before in
-    sym (slot-none (k .before .before .before .args .n) (inr (omega arith)) (k .before .before .if1 .left) (k .before .if2 .left) (k .if3 .left))
+    sym
+    (slot-none (k .before .before .before .args .n) (inr (omega arith)) (k .before .before .if1 .left) (k .before .if2 .left)
+    (k .if3 .left))
 
 returns-6 : tie.Need-returns-6
 returns-6 c = sym (slot-is (c .before .before .before .before .before .args .n) (omega arith) (omega arith))

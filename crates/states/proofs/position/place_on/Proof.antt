@@ -17,7 +17,8 @@ returns-3 : tie.Need-returns-3
 returns-3 c =
     let m = c .before in
     let i = m .before .before in
-    rw (sym (i .before .is-open .ensures) ∙ not-false _ (i .if1 .left), sym (m .before .is-md5 .ensures) ∙ m .if2 .left) (c .locate .ensures .0)
+    rw (sym (i .before .is-open .ensures) ∙ not-false _ (i .if1 .left), sym (m .before .is-md5 .ensures) ∙ m .if2 .left)
+    (c .locate .ensures .0)
 
 pub place-on-spec : {M : Type 1} → statement M
 place-on-spec =

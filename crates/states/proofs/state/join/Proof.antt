@@ -10,7 +10,8 @@ returns c =
     let put1 = c .before .before .before .before .before .before .before .before .before .before .before .before .before .before .before .before .before .copy-at .ensures in
     let put2 = c .before .before .before .before .before .before .before .before .before .before .before .before .before .copy-at2 .ensures in
     let put3 = c .before .before .before .before .before .before .before .before .before .copy-at3 .ensures in
-    all-put (a .t1) (a .t2) (a .t3) (a .t4) (a .t5) _ _ _ _ _ (a .way) (search needs) (search needs) (search needs) (search needs) (search needs)
+    all-put (a .t1) (a .t2) (a .t3) (a .t4) (a .t5) _ _ _ _ _ (a .way)
+    (search needs) (search needs) (search needs) (search needs) (search needs)
     put1 put2 put3
     (c .before .before .before .before .before .words-at .ensures)
     (c .before .words-at2 .ensures)

@@ -7,4 +7,5 @@ use Rattle.traffic.proofs.context.held_hash.Tie as tie
 pub held-hash-spec : {M : Type 1} → statement M
 held-hash-spec =
     tie.close
-    (tie.spec (λ c. rw (eq-eqb _ 19 (c .if1 .taken))) (λ c κs. search needs) (λ c. rw (ne-eqb _ 19 (c .before .if1 .left)) (c .hash-for .ensures)))
+    (tie.spec (λ c. rw (eq-eqb _ 19 (c .if1 .taken))) (λ c κs. search needs)
+    (λ c. rw (ne-eqb _ 19 (c .before .if1 .left)) (c .hash-for .ensures)))

@@ -30,8 +30,8 @@ returns c =
     let h = d .before .hash-for in
     let i = d .before .before in
     let a = i .before .before .args in
-    hmac-start (a .algorithm) (sym (i .before .is-hmac .ensures) ∙ i .if1 .taken) (h .result) (h .ensures) (view (c .no-cmac .result)) [] (a .t2) (c .before .new .result)
-    (d .digest-bytes .ensures) (c .before .new .ensures)
+    hmac-start (a .algorithm) (sym (i .before .is-hmac .ensures) ∙ i .if1 .taken) (h .result) (h .ensures) (view (c .no-cmac .result)) []
+    (a .t2) (c .before .new .result) (d .digest-bytes .ensures) (c .before .new .ensures)
 
 returns-2 : tie.Need-returns-2
 returns-2 c =
