@@ -89,7 +89,7 @@ begins-is s pm pu pe pf px {b} h =
     transport (λ i. Begins (first (keyTests (pm i) (pu i) (pe i) (px i) s) (goodBy false (px i) s)) (byAo (pe i .entry) (pf i) s) b) h
 
 -- 46, 47, 26 and 27 likewise
-abbrev Md5Keyed : List ℕ → Found → Flow → ℕ → Begun → Type 0
+abbrev pub Md5Keyed : List ℕ → Found → Flow → ℕ → Begun → Type 0
 Md5Keyed s found f n b = Begins (first (md5Tests found s) (goodBy true (At n) s)) (byMd5 (found .entry) f s) b
 
 pub md5-is : (s : List ℕ) {found e : Found} {g f : Flow} {n m : ℕ} → found ≡ e → g ≡ f → n ≡ m → {b : Begun}

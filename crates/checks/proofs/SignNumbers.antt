@@ -11,7 +11,7 @@ use Rattle.wire.specs.declared.header.Header.{Header}
 use Rattle.rules.specs.declared.Outcome.{Outcome}
 use Rattle.rules.specs.declared.Outcome.the-variants.{Good}
 use Rattle.rules.specs.declared.Place.{Place}
-use Rattle.rules.specs.declared.Place.the-variants.{At}
+use Rattle.rules.specs.declared.Place.the-variants.{At, Nowhere}
 use Rattle.rules.specs.declared.Connection.{Connection}
 use Rattle.rules.specs.declared.State.{State}
 use Rattle.octets.specs.Tests.{tests, first}
@@ -39,6 +39,9 @@ module _ (added end len : ℕ) where
   grows h k l = no _ _ (le-ltb 60 (end + added) (omega arith)) (no _ _ (le-ltb 65535 (len + added) (omega arith)) refl)
 
 -- 36
+pub unplaced : (l : Connection) (p : Place) (s : Bool) → p ≡ Nowhere → refuse 36 ≡ first (placeLines l p s) unrefused
+unplaced l p s e = sym (ap (λ (p : Place). first (placeLines l p s) unrefused) e)
+
 pub placed : (l : Connection) (p : Place) (x : ℕ) (b s : Bool) → p ≡ At x → b ≡ s
     → cond (b && not (eqb x (l .isn))) (refuse 36) unrefused ≡ first (placeLines l p s) unrefused
 placed l p x b s e q =

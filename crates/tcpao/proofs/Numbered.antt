@@ -3,8 +3,8 @@ use Prim.Native.Nat.{ℕ}
 use mathlib.Core.Path.{_≡_, ap, _∙_}
 use mathlib.Core.Bool.{Bool}
 use mathlib.Core.List.{List}
-use Rattle.keys.specs.declared.table.Loaded.{Loaded}
-use Rattle.keys.specs.Table.{Tables, checked}
+use Rattle.tables.specs.declared.Admitted.{Admitted}
+use Rattle.tables.specs.Tables.{Tables}
 use Rattle.rules.specs.declared.Judged.{Judged}
 use Rattle.rules.specs.declared.SynJudged.{SynJudged}
 use Rattle.rules.specs.declared.Settled.{Settled}
@@ -51,5 +51,5 @@ asked-numbered t id q e = (e, ap ofSettled e ∙ law.asked-number t id q)
 pub signed-numbered : (t : Tables) (s out : List ℕ) (q : State) {r : Signed} → r ≡ signed t s out q → ofSigned r ≡ signedNumber t s out q
 signed-numbered t s out q e = ap ofSigned e ∙ law.signed-number t s out q
 
-pub table-numbered : (t : Tables) {r : Loaded} → r ≡ checked t → (r ≡ checked t) × (tableAnswer r ≡ tableNumber t)
+pub table-numbered : (t : Tables) {r : Admitted} → r ≡ t .answer → (r ≡ t .answer) × (tableAnswer r ≡ tableNumber t)
 table-numbered t e = (e, ap tableAnswer e ∙ law.table-number t)

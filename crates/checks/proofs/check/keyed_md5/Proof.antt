@@ -1,10 +1,12 @@
 -- What `by_md5` is given is what the definition's tests look at.
 use borrow.Author.Needs.{needs}
-use mathlib.Core.Path.{refl, ap, _∙_}
+use Prim.Native.Nat.{ℕ}
+use mathlib.Core.Path.{ap, subst, _∙_}
 use Rattle.wire.specs.Options.{aoIn, md5In}
 use Rattle.wire.specs.declared.header.Header.{Header}
 use Rattle.wire.specs.declared.options.Occurrence.{Occurrence}
-use Rattle.checks.proofs.Checks.{md5-is}
+use Rattle.traffic.specs.Flow.{flowOf}
+use Rattle.checks.proofs.Checks.{Md5Keyed}
 use Rattle.checks.proofs.check.keyed_md5.Statement.{statement}
 use Rattle.checks.proofs.check.keyed_md5.Tie as tie
 
@@ -19,7 +21,9 @@ by-md5-requires c κs =
 returns : tie.Need-returns
 returns c =
     let s = c .before .before .before .before in
-    md5-is (s .args .segment .now) refl refl (ap (λ (h : Header). h .sequence) (s .pre .1)) (c .by-md5 .ensures)
+    let a = s .args in
+    subst (λ (n : ℕ). Md5Keyed (a .segment .now) (a .found) (flowOf (a .flow)) n (c .by-md5 .result))
+    (ap (λ (h : Header). h .sequence) (s .pre .1)) (c .by-md5 .ensures)
 
 pub keyed-md5-spec : {M : Type 1} → statement M
 keyed-md5-spec =

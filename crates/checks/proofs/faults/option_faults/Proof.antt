@@ -18,7 +18,7 @@ returns-5 c =
 pub option-faults-spec : {M : Type 1} → statement M
 option-faults-spec =
     tie.close
-    (tie.spec 
+    (tie.spec
     (λ c. simp (lt-ltb _ _ (c .if1 .taken)))
     (λ c. simp (c .before .if2 .taken, lt-ltb _ _ (c .if3 .taken)))
     (λ c. simp (c .before .if2 .taken, le-ltb _ _ (c .if3 .left)))

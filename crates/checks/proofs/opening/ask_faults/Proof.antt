@@ -25,7 +25,7 @@ returns-2 c =
     let t = tablesOf (a .keys .now) (a .md5 .now) in
     pass (familyTests (a .conn)) refl (c .before .before .before .before .before .family-faults .ensures) (c .before .before .before .enum-told .given .1)
     (c .key-faults .ensures
-    ∙ sym (ap (λ (w : Bool). keyed t w (recvEntry t (a .conn .pair) (a .«recv_id»))) (sym (c .before .before .is-md5 .ensures) ∙ c .before .if1 .taken)))
+    ∙ sym (ap (λ (w : Bool). keyed t w (recvEntry t (a .conn .pair) (a .recv-id))) (sym (c .before .before .is-md5 .ensures) ∙ c .before .if1 .taken)))
 
 returns-3 : tie.Need-returns-3
 returns-3 c =

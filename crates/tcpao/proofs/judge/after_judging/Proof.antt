@@ -1,6 +1,7 @@
 -- By the outcome.
 use mathlib.Core.Path.{sym, ap, _∙_}
 use borrow.Author.Needs.{needs}
+use Rattle.tables.specs.Tables.{tablesOf}
 use Rattle.rules.specs.Calls.{afterJudging}
 use Rattle.tcpao.proofs.judge.after_judging.Statement.{statement}
 use Rattle.tcpao.proofs.judge.after_judging.Tie as tie

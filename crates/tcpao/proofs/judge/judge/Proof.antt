@@ -1,5 +1,6 @@
 -- The answer and the state, from what `check` gives.
 use borrow.Author.Needs.{needs}
+use Rattle.tables.specs.Tables.{tablesOf}
 use Rattle.rules.specs.Connection.{arrivalOf}
 use Rattle.tcpao.proofs.Judging.{at-number, judged-is}
 use Rattle.tcpao.proofs.Numbered.{judged-numbered}

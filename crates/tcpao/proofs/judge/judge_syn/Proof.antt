@@ -1,5 +1,6 @@
 -- The answer, from what `check_syn` gives.
 use borrow.Author.Needs.{needs}
+use Rattle.tables.specs.Tables.{tablesOf}
 use Rattle.rules.specs.Connection.{arrivalOf}
 use Rattle.tcpao.proofs.Judging.{syn-is}
 use Rattle.tcpao.proofs.Numbered.{syn-numbered}

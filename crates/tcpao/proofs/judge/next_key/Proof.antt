@@ -1,5 +1,6 @@
 -- The key rule, by its two tests.
 use borrow.Author.Needs.{needs}
+use Rattle.tables.specs.Tables.{tablesOf}
 use Rattle.tcpao.proofs.Judging.{same-key, other-key}
 use Rattle.tcpao.proofs.judge.next_key.Statement.{statement}
 use Rattle.tcpao.proofs.judge.next_key.Tie as tie

@@ -1,5 +1,6 @@
 -- The answer and the state, from what judging found.
 use borrow.Author.Needs.{needs}
+use Rattle.tables.specs.Tables.{tablesOf}
 use Rattle.rules.specs.Connection.{arrivalOf}
 use Rattle.checks.specs.BeginLaws.{syn-ends, syn-ids}
 use Rattle.tcpao.proofs.Judging.{taken-by, passively-is}
@@ -10,7 +11,7 @@ use Rattle.tcpao.proofs.judge.open_passive.Tie as tie
 opened-by-requires : tie.Need-opened-by-requires
 opened-by-requires c κs =
     let a = c .before .before .before .before .before .before .before .before .before .args in
-    let t = a .table .now in
+    let t = tablesOf (a .keys .now) (a .md5 .now) in
     let s = arrivalOf (a .source .now) (a .destination .now) (a .segment .now) in
     let b = c .before .before .before .before .begin-syn in
     let f = c .before .before .finished .ensures in
@@ -20,7 +21,7 @@ opened-by-requires c κs =
 returns : tie.Need-returns
 returns c =
     let a = c .before .before .before .before .before .before .before .before .before .before .args in
-    let t = a .table .now in
+    let t = tablesOf (a .keys .now) (a .md5 .now) in
     let s = arrivalOf (a .source .now) (a .destination .now) (a .segment .now) in
     let b = c .before .before .before .before .before .begin-syn in
     passively-numbered t s (a .isn) (a .strict)

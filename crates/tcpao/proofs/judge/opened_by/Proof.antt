@@ -1,6 +1,6 @@
 -- Only an acceptance opens.
 use borrow.Author.Needs.{needs}
-use Rattle.keys.specs.Table.{recvEntry}
+use Rattle.tables.specs.Tables.{tablesOf, recvEntry}
 use Rattle.rules.specs.Segment.{keyId}
 use Rattle.rules.specs.Connection.{arrivalOf, arrivalPair}
 use Rattle.tcpao.proofs.Judging.{not-opened, opened-is}

@@ -1,5 +1,6 @@
 -- 19 alone needs no pair; behind it the addresses are small enough for one, and the search, the tests and the new state are those of the definition.
 use borrow.Author.Needs.{needs}
+use Rattle.tables.specs.Tables.{tablesOf}
 use Rattle.tcpao.proofs.OpenAnswers.{small, refused-sizes, opens}
 use Rattle.tcpao.proofs.Numbered.{opened-numbered}
 use Rattle.tcpao.proofs.open.open_active.Statement.{statement}

@@ -1,5 +1,6 @@
 -- The tests, then the answer by their outcome.
 use borrow.Author.Needs.{needs}
+use Rattle.tables.specs.Tables.{tablesOf}
 use mathlib.Core.Path.{_∙_}
 use Rattle.rules.specs.Calls.{settledBy, asked}
 use Rattle.tcpao.proofs.Numbered.{asked-numbered}

@@ -1,5 +1,6 @@
 -- What the loader gives.
 use borrow.Author.Needs.{needs}
+use Rattle.tables.specs.Tables.{tablesOf}
 use Rattle.tcpao.proofs.Numbered.{table-numbered}
 use Rattle.tcpao.proofs.operator.check_table.Statement.{statement}
 use Rattle.tcpao.proofs.operator.check_table.Tie as tie
