@@ -1,9 +1,11 @@
 -- Only an acceptance opens.
+use mathlib.Core.Path.{sym, _∙_}
 use borrow.Author.Needs.{needs}
+use borrow.Author.Tests.{eq-eqb, ne-eqb}
 use Rattle.tables.specs.Tables.{tablesOf, recvEntry}
 use Rattle.rules.specs.Segment.{keyId}
 use Rattle.rules.specs.Connection.{arrivalOf, arrivalPair}
-use Rattle.tcpao.proofs.Judging.{not-opened, opened-is}
+use Rattle.tcpao.proofs.Judging.{not-opened, opened-md5, opened-ao}
 use Rattle.tcpao.proofs.judge.opened_by.Statement.{statement}
 use Rattle.tcpao.proofs.judge.opened_by.Tie as tie
 
@@ -18,11 +20,23 @@ arrival-pair-requires c κs = c .before .before .before .before .before .before 
 
 returns-2 : tie.Need-returns-2
 returns-2 c =
-    let a = c .before .before .before .before .before .before .before .before .before .before .before .args in
+    let f = c .before .before .before .before .before .before in
+    let a = f .before .before .before .before .before .before .args in
+    let t = tablesOf (a .keys .now) (a .md5 .now) in
     let good = c .before .before .before .before .before .o .given .1 in
-    let taken = c .before .before .before .before .before .before .before .before .before .before .before .pre _ _ good in
-    opened-is (tablesOf (a .keys .now) (a .md5 .now)) (arrivalOf (a .source .now) (a .destination .now) (a .segment .now)) (a .isn) good (c .before .sequence .ensures) (taken .position)
-    (c .before .before .before .arrival-pair .ensures) (taken .found) (c .before .before .next-key .ensures) (c .opened .ensures)
+    let taken = f .before .before .before .before .before .before .pre _ _ good in
+    opened-md5 t (arrivalOf (a .source .now) (a .destination .now) (a .segment .now)) (a .isn) good (c .before .sequence .ensures) (taken .position)
+    (c .before .before .before .arrival-pair .ensures) (sym (taken .by) ∙ eq-eqb (a .way) 1 (c .before .before .if1 .taken)) (c .opened .ensures)
+
+returns-3 : tie.Need-returns-3
+returns-3 c =
+    let a = c .before .before .before .before .before .before .before .before .before .before .before .before .args in
+    let t = tablesOf (a .keys .now) (a .md5 .now) in
+    let good = c .before .before .before .before .before .before .o .given .1 in
+    let taken = c .before .before .before .before .before .before .before .before .before .before .before .before .pre _ _ good in
+    let ao = sym (taken .by) ∙ ne-eqb (a .way) 1 (c .before .before .before .if1 .left) in
+    opened-ao t (arrivalOf (a .source .now) (a .destination .now) (a .segment .now)) (a .isn) good (c .before .sequence .ensures) (taken .position)
+    (c .before .before .before .before .arrival-pair .ensures) ao (taken .found ao) (c .before .before .next-key .ensures) (c .opened2 .ensures)
 
 pub opened-by-spec : {M : Type 1} → statement M
 opened-by-spec = tie.close (tie.spec (λ c. search needs) (λ c κs. search needs) returns arrival-pair-requires (λ c κs. search needs) (λ c κs. search needs) (λ c κs. search needs) returns-2)
