@@ -99,12 +99,12 @@ module _ (t : Tables) (p : Pair) (isn : ℕ) where
   not-opened f (Bad n i) e q = q
 
 module _ (t : Tables) (a : Arrival) (isn : ℕ) {o : Outcome} {x r : ℕ} (good : o ≡ Good x r) {n : ℕ} (number : n ≡ sequence (a .segment))
-    (position : x ≡ sequence (a .segment)) {p : Pair} (pair : p ≡ arrivalPair a) {s : State} where
-  abbrev Opens : Type 0
-  Opens = s ≡ openedBy t (arrivalPair a) isn (recvEntry t (arrivalPair a) (keyId (a .segment)) .entry) o
+    (position : x ≡ sequence (a .segment)) {p : Pair} (pair : p ≡ arrivalPair a) where
+  abbrev Opens : State → Type 0
+  Opens s = s ≡ openedBy t (arrivalPair a) isn (recvEntry t (arrivalPair a) (keyId (a .segment)) .entry) o
 
   -- by MD5
-  pub opened-md5 : synIsMd5 t (arrivalPair a) ≡ true → s ≡ opened 1 p isn n 0 0 → Opens
+  pub opened-md5 : synIsMd5 t (arrivalPair a) ≡ true → {s : State} → s ≡ opened 1 p isn n 0 0 → Opens s
   opened-md5 m es =
       es
       ∙ (λ i. opened 1 (pair i) isn ((number ∙ sym position) i) 0 0)
@@ -113,7 +113,7 @@ module _ (t : Tables) (a : Arrival) (isn : ℕ) {o : Outcome} {x r : ℕ} (good 
 
   -- by TCP-AO, with the entry found
   pub opened-ao : synIsMd5 t (arrivalPair a) ≡ false → {ids : Ids} → ids ≡ recvEntry t (arrivalPair a) (keyId (a .segment)) .entry .ids
-      → {k : ℕ} → k ≡ nextKey t p r (ids .send) → s ≡ opened 0 p isn n k (ids .recv) → Opens
+      → {k : ℕ} → k ≡ nextKey t p r (ids .send) → {s : State} → s ≡ opened 0 p isn n k (ids .recv) → Opens s
   opened-ao m {ids} ef ek es =
       es
       ∙ (λ i. opened 0 p isn ((number ∙ sym position) i) (ek i) (ids .recv))

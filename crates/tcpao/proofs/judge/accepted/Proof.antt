@@ -10,16 +10,16 @@ use Rattle.tcpao.proofs.judge.accepted.Tie as tie
 
 returns : tie.Need-returns
 returns c =
-    let a = c .before .before .before .before .before .before .before .args in
+    let a = c .before .before .before .before .before .before .before .before .args in
     yes _ _ (sym (c .before .before .is-open .ensures) ∙ c .before .if1 .taken)
     (c .accepted-on .ensures
     ∙ ap (λ (k : ℕ). cond (isMd5 (a .q .conn)) (withCounted (a .q)) (withAccepted (a .x) k (a .q))) (c .before .before .before .next-on .ensures))
 
 returns-2 : tie.Need-returns-2
 returns-2 c =
-    let a = c .before .before .before .before .before .before .before .args in
+    let a = c .before .before .before .before .before .before .before .before .args in
     let opening = sym (c .before .before .is-open .ensures) ∙ c .before .if1 .left in
-    let at = sym (c .before .before .before .before .before .before .before .pre opening) in
+    let at = sym (c .before .before .before .before .before .before .before .before .pre opening) in
     no _ _ opening
     (c .opened .ensures
     ∙ (λ i. opened (a .q .conn .way) (a .q .conn .pair) (a .q .conn .isn) (at i) (c .before .before .before .next-on .ensures i) (a .q .«ask_id»)))

@@ -10,7 +10,7 @@ use Rattle.tcpao.proofs.operator.ask.Tie as tie
 returns : tie.Need-returns
 unfolding asked
 returns c =
-    let a = c .before .before .before .before .args in
+    let a = c .before .before .before .before .before .args in
     asked-numbered (tablesOf (a .keys .now) (a .md5 .now)) (a .recv-id) (a .state)
     (c .settled-by .ensures ∙ (λ i. settledBy (c .before .before .ask-faults .ensures i) (a .state) (c .before .with-asked .ensures i)))
 
