@@ -1,4 +1,4 @@
--- 45 exactly. Assumes nothing but, where it says `Octets`, that the bytes are below 256.
+-- What tables are refused with; 45 exactly. Assumes nothing but, where it says `Octets`, that the bytes are below 256.
 use Prim.Native.Nat.{ℕ, _+_}
 use mathlib.Core.Bool.{Bool, true, false}
 use mathlib.Core.Path.{_≡_, refl, sym, ap, _∙_, subst}
@@ -18,9 +18,9 @@ use Rattle.keys.specs.declared.table.Loaded.{Loaded}
 use Rattle.keys.specs.declared.table.Found.{Found}
 use Rattle.keys.specs.declared.table.Loaded.the-variants.{Valid as LoadedValid, Refused as LoadedRefused}
 use Rattle.tables.specs.Tables.{maxEntries, md5Index, crossing, besides, admitted}
-use Rattle.tables.specs.Crossing.{Crossed, Alone, CrossedAt, RefusedCrossed, CrossedRefused}
+use Rattle.tables.specs.Crossing.{Crossed, Alone, CrossedAt, RefusedCrossed, CrossedRefused, KeysRefused, Md5Refused, BothTaken}
 use Rattle.tables.specs.declared.Index.{Index}
-use Rattle.tables.specs.declared.Admitted.the-variants.{Refused}
+use Rattle.tables.specs.declared.Admitted.the-variants.{Valid, Refused}
 
 -- the test by which 45 is given holds of an MD5 entry exactly if it is crossed
 
@@ -111,3 +111,23 @@ crossed-refused k m i ok om c =
     first =
         found-first (meetsAny (entries k)) 0 (c .at-entry) (crossed-meets k (c .entry) (c .crossed))
         (λ j f a h. clear f (each-at FieldsOf (entries-fields m om) a) (c .before j f a h) (meetsAny (entries k) f) refl)
+
+-- the order
+
+pub keys-refused : KeysRefused
+unfolding admitted
+keys-refused k m n i e = rw e
+
+pub md5-refused : Md5Refused
+unfolding admitted besides
+md5-refused k m c n i e f = rw (e, f)
+
+pub both-taken : BothTaken
+unfolding admitted besides
+both-taken k m c d ok om e f n = go (crossing (entries k) (entries m) .there) refl
+  where
+    go : (b : Bool) → crossing (entries k) (entries m) .there ≡ b → admitted k m ≡ Valid c
+    go true q =
+        let r = found-there (meetsAny (entries k)) (entries m) 0 q in
+        absurd (n (r .0) (r .1) (r .2) (meets-crossed k (r .1) ok (each-at FieldsOf (entries-fields m om) (r .2)) (r .3)))
+    go false q = rw (e, f, q)
