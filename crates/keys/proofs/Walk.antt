@@ -231,8 +231,8 @@ unfolding nobody
 none-by t test e = any-by t test nobody e
 
 module _ (t : List ℕ) (at : ℕ) where
-  pub meets-at : (s : Selector) (r : Bool) → r ≡ overlap (selectorOf (getD (tail t at) 0 0) (tail t at)) s → r ≡ meets s (itemAt t at .entry)
-  meets-at s r e = e ∙ ap (λ (x : Selector). overlap x s) (selector-at t at _ refl)
+  pub meets-at : (s x : Selector) (r : Bool) → x ≡ selectorOf (getD (tail t at) 0 0) (tail t at) → r ≡ overlap x s → r ≡ meets s (itemAt t at .entry)
+  meets-at s x r q e = e ∙ ap (λ (y : Selector). overlap y s) (selector-at t at x q)
 
   pub meets-any-at : (o : List Entry) (s : Selector) (r : Bool) → s ≡ selectorOf (getD (tail t at) 0 0) (tail t at) → r ≡ anyOf (meets s) o → r ≡ meetsAny o (itemAt t at .entry)
   unfolding meetsAny

@@ -281,7 +281,7 @@ fn meets_any(table: &[u8], s: Selector) -> bool
         if n == 0 {
             return false;
         }
-        if crate::matching::overlaps(&table[at..], s) {
+        if crate::matching::selectors_overlap(selector_of(&table[at..]), s) {
             return true;
         }
         at = at + n;
