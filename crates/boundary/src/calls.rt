@@ -1,4 +1,4 @@
-// The calls on a key table and on a connection: docs/BOUNDARY.md, "Tables", "The calls on one connection" and "The state". Each
+// The calls on both tables and on a connection: docs/BOUNDARY.md, "Tables", "The calls on one connection" and "The state". Each
 // turns the lent bytes into a state, makes the call of the crate `tcpao`, and turns the state back. Assumes nothing.
 ghost use mathlib.Core.Path.{_≡_};
 ghost use Rattle.tables.specs.Tables.{tablesOf};

@@ -1,4 +1,4 @@
-// The calls on a key table and on a connection for C: docs/BOUNDARY.md, "Tables", "The calls on one connection" and "The
+// The calls on both tables and on a connection for C: docs/BOUNDARY.md, "Tables", "The calls on one connection" and "The
 // state". They are those of the crate `boundary`. Assumes nothing.
 ghost use mathlib.Core.Path.{_≡_};
 ghost use Rattle.tables.specs.Tables.{tablesOf};
