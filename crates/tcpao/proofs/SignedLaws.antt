@@ -238,8 +238,13 @@ module _ (f : Form) (q : State) (s : List ℕ) (can : Signable s f) where
 
   option-long : (m : List ℕ) → length m ≡ f .bytes → length (optionWith f m) ≡ addedBy f
   option-long m e =
-      omega (arith, length-append (f .head) (m ++ replicate (f .ones) 1), length-append m (replicate (f .ones) 1), e,
-      length-replicate {A = ℕ} (f .ones) 1)
+      omega (
+        arith,
+        length-append (f .head) (m ++ replicate (f .ones) 1),
+        length-append m (replicate (f .ones) 1),
+        e,
+        length-replicate {A = ℕ} (f .ones) 1,
+      )
 
   header-long : (m : List ℕ) → length m ≡ f .bytes → length (inserted (optionWith f m) old) ≡ headerEnd s + addedBy f
   header-long m e = length-inserted (optionWith f m) old enough ∙ ap₂ (λ (i j : ℕ). i + j) long (option-long m e)
