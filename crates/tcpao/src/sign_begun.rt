@@ -182,7 +182,8 @@ pub(crate) fn ready(
     end: usize,
     segment: &[u8],
 ) -> SignBegun
-    requires { ⌜ Signable (now segment) (aoForm secret state) × (end ≡ headerEnd (now segment)) × (added ≡ optionBytes (secret .«mac_bytes»)) ⌝ }
+    requires { ⌜ Signable (now segment) (aoForm secret state) × (end ≡ headerEnd (now segment)) × (added ≡ optionBytes
+        (secret .«mac_bytes»)) ⌝ }
     ensures { λ r. ⌜ Starts x (aoForm secret state) (aoFront x secret state (now (segment .entry))) state (now (segment .entry)) r ⌝ }
 {
     let n = secret.mac_bytes;
