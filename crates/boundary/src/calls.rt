@@ -119,8 +119,8 @@ pub fn judge_syn(
     setting: u8,
 ) -> u64
     ensures { λ r. ⌜ answers r
-        ≡ judgeSynExport (tablesOf (now (keys .entry)) (now (md5 .entry))) (now (source .entry)) (now (destination .entry)) (now
-        (segment .entry)) setting ⌝ }
+        ≡ judgeSynExport (tablesOf (now (keys .entry)) (now (md5 .entry)))
+        (now (source .entry)) (now (destination .entry)) (now (segment .entry)) setting ⌝ }
 {
     let r = tcpao::judge::judge_syn(keys, md5, source, destination, segment, setting != 0);
     let verdict = r.verdict;
@@ -139,8 +139,8 @@ pub fn open_passive(
     state: &mut [u8],
 ) -> u64
     ensures { λ r. ⌜ leaves r (now (state .exit))
-        ≡ openPassiveExport (tablesOf (now (keys .entry)) (now (md5 .entry))) (now (source .entry)) (now (destination .entry)) (now
-        (segment .entry)) isn setting
+        ≡ openPassiveExport (tablesOf (now (keys .entry)) (now (md5 .entry)))
+        (now (source .entry)) (now (destination .entry)) (now (segment .entry)) isn setting
         (now (state .entry)) ⌝ }
 {
     if !is_state(state) {
@@ -163,8 +163,8 @@ pub fn judge(
     state: &mut [u8],
 ) -> u64
     ensures { λ r. ⌜ leaves r (now (state .exit))
-        ≡ judgeExport (tablesOf (now (keys .entry)) (now (md5 .entry))) (now (source .entry)) (now (destination .entry)) (now
-        (segment .entry)) (now (state .entry)) ⌝ }
+        ≡ judgeExport (tablesOf (now (keys .entry)) (now (md5 .entry)))
+        (now (source .entry)) (now (destination .entry)) (now (segment .entry)) (now (state .entry)) ⌝ }
 {
     if !is_state(state) {
         return word(WRONG_STATE, 0);
@@ -195,8 +195,8 @@ pub fn sign(keys: &[u8], md5: &[u8], segment: &[u8], out: &mut [u8], state: &mut
 
 // Sets the RecvID asked of the peer.
 pub fn ask(keys: &[u8], md5: &[u8], recv_id: u8, state: &mut [u8]) -> u64
-    ensures { λ r. ⌜ leaves r (now (state .exit)) ≡ askExport (tablesOf (now (keys .entry)) (now (md5 .entry))) «recv_id» (now
-        (state .entry)) ⌝ }
+    ensures { λ r. ⌜ leaves r (now (state .exit)) ≡ askExport (tablesOf (now (keys .entry)) (now (md5 .entry)))
+        «recv_id» (now (state .entry)) ⌝ }
 {
     if !is_state(state) {
         return word(WRONG_STATE, 0);

@@ -241,8 +241,8 @@ fn keyed_syn(
 ) -> Begun
     requires { ⌜ (isRefused (tablesOf (now keys) (now md5) .answer) ≡ false) × (wellSized (now segment) ≡ true)
         × (header ≡ headerOf (length (now segment)) (now segment)) ⌝ }
-    ensures { λ r. ⌜ KeyedSyn (tablesOf (now (keys .entry)) (now (md5 .entry))) pair strict (arrivingOn pair (sequenceOf (now
-        (segment .entry))) 0)
+    ensures { λ r. ⌜ KeyedSyn (tablesOf (now (keys .entry)) (now (md5 .entry)))
+        pair strict (arrivingOn pair (sequenceOf (now (segment .entry))) 0)
         (now (segment .entry)) r ⌝ }
 {
     let options = header.options;
