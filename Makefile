@@ -1,4 +1,4 @@
-# make         proves all crates, builds the archive for C and Rust, and runs the demonstration
+# make         proves all crates, builds the archive for C and Rust and the operator's command, and runs the demonstration
 # make test    the gate: proves all from nothing, with the must-fail edits, and runs every test
 # make bench   the archive's speed against plain Rust's; fails where a wanted ratio is missed
 # make soak    compares the archive with the reference for a minute, or make soak TIME=3600 for an hour
@@ -14,12 +14,12 @@ SHELL := bash
 MAKEFLAGS += --no-print-directory
 .NOTPARALLEL:
 .DELETE_ON_ERROR:
-.PHONY: all proved archive demonstration test guard house expected bench soak clean
+.PHONY: all proved archive operator demonstration test guard house expected bench soak clean
 
 ARCHIVE := target/staticlib/libembankery.a
 SOURCES := crates.txt $(shell find crates -name '*.rt' -o -name '*.antt')
 
-all: proved archive demonstration
+all: proved archive operator demonstration
 
 # Proves what has changed, and runs each program against its stored output.
 proved:
@@ -29,6 +29,11 @@ archive: $(ARCHIVE)
 
 $(ARCHIVE): $(SOURCES)
 	rt staticlib embankery
+
+# The operator's command, over the archive; beside the programs.
+operator: archive
+	cd rust && cargo build --offline --locked --release --quiet --package operator
+	mkdir -p target/bin && cp rust/target/release/embankery target/bin/embankery
 
 # The published vectors, of the functions and of the calls, then two ends that exchange segments across the rollover.
 demonstration: proved

@@ -57,24 +57,24 @@ int main(void)
     make_table(table_a, A, B, 1, 2);
     make_table(table_b, B, A, 2, 1);
 
-    /* A's SYN opens B's end, B's SYN+ACK opens A's. */
-    expect(0, tcpao_open_active(table_a, ENTRY, A, 4, B, 4, PORT_A, PORT_B, 1000, 1, a, STATE));
+    /* A's SYN opens B's end, B's SYN+ACK opens A's. No peer goes by TCP MD5: that table is empty. */
+    expect(0, tcpao_open_active(table_a, ENTRY, NULL, 0, A, 4, B, 4, PORT_A, PORT_B, 1000, 1, a, STATE));
     length = make_segment(plain, PORT_A, PORT_B, 1000, SYN, "");
-    length = expect(0, tcpao_sign(table_a, ENTRY, plain, length, wire, ROOM, a, STATE));
-    expect(0, tcpao_open_passive(table_b, ENTRY, A, 4, B, 4, wire, length, 2000, 1, b, STATE));
+    length = expect(0, tcpao_sign(table_a, ENTRY, NULL, 0, plain, length, wire, ROOM, a, STATE));
+    expect(0, tcpao_open_passive(table_b, ENTRY, NULL, 0, A, 4, B, 4, wire, length, 2000, 1, b, STATE));
     length = make_segment(plain, PORT_B, PORT_A, 2000, SYN | ACK, "");
-    length = expect(0, tcpao_sign(table_b, ENTRY, plain, length, wire, ROOM, b, STATE));
-    expect(0, tcpao_judge(table_a, ENTRY, B, 4, A, 4, wire, length, a, STATE));
+    length = expect(0, tcpao_sign(table_b, ENTRY, NULL, 0, plain, length, wire, ROOM, b, STATE));
+    expect(0, tcpao_judge(table_a, ENTRY, NULL, 0, B, 4, A, 4, wire, length, a, STATE));
 
     length = make_segment(plain, PORT_A, PORT_B, 1001, ACK, "hello");
-    length = expect(0, tcpao_sign(table_a, ENTRY, plain, length, wire, ROOM, a, STATE));
+    length = expect(0, tcpao_sign(table_a, ENTRY, NULL, 0, plain, length, wire, ROOM, a, STATE));
     printf("signed: %u bytes\n", (unsigned)length);
 
     printf("as signed: accepted with extension %u\n",
-           expect(0, tcpao_judge(table_b, ENTRY, A, 4, B, 4, wire, length, b, STATE)));
+           expect(0, tcpao_judge(table_b, ENTRY, NULL, 0, A, 4, B, 4, wire, length, b, STATE)));
 
     wire[36] ^= 1; /* the first byte of the data */
-    expect(40, tcpao_judge(table_b, ENTRY, A, 4, B, 4, wire, length, b, STATE));
+    expect(40, tcpao_judge(table_b, ENTRY, NULL, 0, A, 4, B, 4, wire, length, b, STATE));
     printf("damaged: dropped with 40\n");
     return 0;
 }

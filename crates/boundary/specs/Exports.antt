@@ -1,4 +1,4 @@
--- What the calls on a key table and on a connection answer, and what they leave in the buffers lent to them: docs/BOUNDARY.md, "Tables",
+-- What the calls on both tables and on a connection answer, and what they leave in the buffers lent to them: docs/BOUNDARY.md, "Tables",
 -- "The calls on one connection" and "The state". What the calls do is defined in Calls.antt of `rules`, and a state's bytes in
 -- Layout.antt of `states`; here are the rules of the boundary alone, and then each export, one definition. Assumes nothing.
 use Prim.Native.Nat.{ℕ}
@@ -10,10 +10,10 @@ use Rattle.rules.specs.declared.Verdict.the-variants.{Accept, Pass, Drop}
 use Rattle.rules.specs.declared.Done.{Done}
 use Rattle.rules.specs.declared.Done.the-variants as D
 use Rattle.rules.specs.declared.State.{State}
-use Rattle.keys.specs.Table.{Tables, checked}
+use Rattle.tables.specs.Tables.{Tables}
 use Rattle.rules.specs.Answers.{Answer, answer, tableAnswer}
 use Rattle.rules.specs.Connection.{arrivalOf}
-use Rattle.rules.specs.Calls.{judged, judgedSyn, openedPassively, openedActively, asked, signed, output}
+use Rattle.rules.specs.Calls.{judged, judgedSyn, openedPassively, openedActively, openedActivelyMd5, asked, signed, output}
 use Rattle.rules.specs.declared.Judged.{Judged}
 use Rattle.rules.specs.declared.Settled.{Settled}
 use Rattle.rules.specs.declared.Signed.{Signed}
@@ -95,11 +95,15 @@ afterSigned b x out s = writes (answered b (ofSigned s)) (stateAfter b (s .state
 -- The calls of docs/BOUNDARY.md, by their names there.
 
 unfoldable pub checkTableExport : Tables → Export
-checkTableExport t = answers (word (tableAnswer (checked t)))
+checkTableExport t = answers (word (tableAnswer (t .answer)))
 
 unfoldable pub openActiveExport : Tables → (local remote : List ℕ) (localPort remotePort isn sendId : ℕ) (state : List ℕ) → Export
 openActiveExport t local remote localPort remotePort isn sendId b =
     afterOpenedActively b (openedActively t local remote localPort remotePort isn sendId)
+
+unfoldable pub openActiveMd5Export : Tables → (local remote : List ℕ) (localPort remotePort isn : ℕ) (state : List ℕ) → Export
+openActiveMd5Export t local remote localPort remotePort isn b =
+    afterOpenedActively b (openedActivelyMd5 t local remote localPort remotePort isn)
 
 unfoldable pub judgeSynExport : Tables → (source destination segment : List ℕ) (setting : ℕ) → Export
 judgeSynExport t source destination segment setting =

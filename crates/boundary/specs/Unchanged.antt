@@ -8,17 +8,18 @@ use mathlib.Core.Bool.{true, false, _&&_}
 use mathlib.Core.List.{List}
 use lib.ListN.{replicate}
 use Rattle.octets.specs.Each.{Octets}
-use Rattle.keys.specs.Table.{Tables}
+use Rattle.tables.specs.Tables.{Tables}
 use Rattle.rules.specs.declared.Verdict.the-variants.{Pass, Drop}
 use Rattle.rules.specs.declared.Signing.the-variants as S
 use Rattle.rules.specs.declared.Done.the-variants as D
 use Rattle.rules.specs.declared.Judged.{Judged}
 use Rattle.rules.specs.Connection.{arrivalOf, isOpen, isCounted}
-use Rattle.rules.specs.Calls.{judged, openedPassively, openedActively, asked, signed}
+use Rattle.rules.specs.Calls.{judged, openedPassively, openedActively, openedActivelyMd5, asked, signed}
+use Rattle.rules.specs.Lent.{Lent, tables}
 use Rattle.rules.specs.Refusals.{oneMore}
 use Rattle.states.specs.Layout.{isState, stateBytes, decodeOf}
 use Rattle.boundary.specs.Exports.{changed, stateWhere, strictly}
-use Rattle.boundary.specs.Exports.{openPassiveExport, openActiveExport, judgeExport, signExport, askExport}
+use Rattle.boundary.specs.Exports.{openPassiveExport, openActiveExport, openActiveMd5Export, judgeExport, signExport, askExport}
 
 -- a state buffer of another length: whatever the call below would do, no buffer changes
 abbrev pub OtherLength : Type 0
@@ -46,27 +47,33 @@ ActivelyRefused = (t : Tables) (local remote : List ℕ) (localPort remotePort i
     → openedActively t local remote localPort remotePort isn sendId .answer ≡ D.Refused n
     → openActiveExport t local remote localPort remotePort isn sendId b .state ≡ b
 
+abbrev pub ActivelyMd5Refused : Type 0
+ActivelyMd5Refused = (t : Tables) (local remote : List ℕ) (localPort remotePort isn : ℕ) (b : List ℕ) (n : ℕ)
+    → openedActivelyMd5 t local remote localPort remotePort isn .answer ≡ D.Refused n
+    → openActiveMd5Export t local remote localPort remotePort isn b .state ≡ b
+
 -- The calls on a connection, whose state is decodeOf b.
 
-abbrev pub judging : (b : List ℕ) → Tables → (source destination segment : List ℕ) → Judged
-judging b t source destination segment = judged t (arrivalOf source destination segment) (decodeOf b)
+abbrev pub judging : (b : List ℕ) → Lent → (source destination segment : List ℕ) → Judged
+judging b lent source destination segment = judged (tables lent) (arrivalOf source destination segment) (decodeOf b)
 
 -- a drop adds one to its count if the connection is open and the number is counted, and nothing else
 abbrev pub JudgeRefused : Type 0
-JudgeRefused = (b : List ℕ) → Octets b → (t : Tables) (source destination segment : List ℕ) (n : ℕ)
-    → judging b t source destination segment .verdict ≡ Drop n
-    → judgeExport t source destination segment b .state
+JudgeRefused = (b : List ℕ) → Octets b → (lent : Lent) (source destination segment : List ℕ) (n : ℕ)
+    → judging b lent source destination segment .verdict ≡ Drop n
+    → judgeExport (tables lent) source destination segment b .state
     ≡ stateWhere b (isOpen (decodeOf b .conn) && isCounted n) (oneMore n (decodeOf b))
 
 -- and judging never passes: that is for a bare SYN without a state
 abbrev pub JudgePassesNone : Type 0
-JudgePassesNone = (b : List ℕ) → Octets b → (t : Tables) (source destination segment : List ℕ)
-    → judging b t source destination segment .verdict ≡ Pass → ⊥
+JudgePassesNone = (b : List ℕ) → Octets b → (lent : Lent) (source destination segment : List ℕ)
+    → judging b lent source destination segment .verdict ≡ Pass → ⊥
 
 abbrev pub SignRefused : Type 0
-SignRefused = (b : List ℕ) → Octets b → (t : Tables) (s out : List ℕ) (n : ℕ) → signed t s out (decodeOf b) .answer ≡ S.Refused n
-    → (signExport t s out b .state ≡ b) × (signExport t s out b .out ≡ out)
+SignRefused = (b : List ℕ) → Octets b → (lent : Lent) (s out : List ℕ) (n : ℕ)
+    → signed (tables lent) s out (decodeOf b) .answer ≡ S.Refused n
+    → (signExport (tables lent) s out b .state ≡ b) × (signExport (tables lent) s out b .out ≡ out)
 
 abbrev pub AskRefused : Type 0
-AskRefused = (b : List ℕ) → Octets b → (t : Tables) (id n : ℕ) → asked t id (decodeOf b) .answer ≡ D.Refused n
-    → askExport t id b .state ≡ b
+AskRefused = (b : List ℕ) → Octets b → (lent : Lent) (id n : ℕ) → asked (tables lent) id (decodeOf b) .answer ≡ D.Refused n
+    → askExport (tables lent) id b .state ≡ b

@@ -10,7 +10,8 @@ use borrow.Author.Tests.{eqb-true}
 use Rattle.octets.specs.Each.{Octets}
 use Rattle.rules.specs.declared.State.{State}
 use Rattle.rules.specs.Connection.{arrivalOf, isOpen, isCounted, empty}
-use Rattle.rules.specs.Calls.{openedActively, asked, signed, output}
+use Rattle.rules.specs.Calls.{openedActively, openedActivelyMd5, asked, signed, output}
+use Rattle.rules.specs.Lent.{Lent, tables}
 use Rattle.rules.specs.History.{judge, sign, ask}
 use Rattle.rules.specs.Refusals.{on, byVerdict, bySigning, oneMore}
 use Rattle.rules.specs.RefusalLaws.{refusal, passed-empty}
@@ -18,8 +19,8 @@ use Rattle.rules.specs.GivenNumberLaws.{judge-never-passes}
 use Rattle.states.specs.Layout.{isState, stateBytes, decodeOf, wordBytes, rows, joined, encodeOf}
 use Rattle.states.specs.LayoutLaws.{encode-decode}
 use Rattle.boundary.specs.Exports.{changed, stateAfter, settles, opens, stateWhere, strictly}
-use Rattle.boundary.specs.Exports.{openPassiveExport, openActiveExport, judgeExport, signExport, askExport}
-use Rattle.boundary.specs.Unchanged.{OtherLength, passively, PassivelyRefused, PassivelyPassed, ActivelyRefused}
+use Rattle.boundary.specs.Exports.{openPassiveExport, openActiveExport, openActiveMd5Export, judgeExport, signExport, askExport}
+use Rattle.boundary.specs.Unchanged.{OtherLength, passively, PassivelyRefused, PassivelyPassed, ActivelyRefused, ActivelyMd5Refused}
 use Rattle.boundary.specs.Unchanged.{judging, JudgeRefused, JudgePassesNone, SignRefused, AskRefused}
 
 pub other-length : OtherLength
@@ -61,6 +62,11 @@ unfolding openActiveExport
 actively-refused t local remote localPort remotePort isn sendId b n e =
     closed b (openedActively t local remote localPort remotePort isn sendId .state) _ (ap opens e)
 
+pub actively-md5-refused : ActivelyMd5Refused
+unfolding openActiveMd5Export
+actively-md5-refused t local remote localPort remotePort isn b n e =
+    closed b (openedActivelyMd5 t local remote localPort remotePort isn .state) _ (ap opens e)
+
 -- a state that is left alone is written as the bytes that it was read from
 alike : (b : List ℕ) → Octets b → (q : State) (c : Bool) (m : State) → q ≡ cond c m (decodeOf b) → stateAfter b q ≡ stateWhere b c m
 unfolding changed
@@ -83,19 +89,19 @@ judge-refused b o t source destination segment n e =
 
 pub judge-passes-none : JudgePassesNone
 judge-passes-none b o t source destination segment e =
-    let z : _≡_ {A = ℕ} 0 1 = cc (rw e at (judge-never-passes t (arrivalOf source destination segment) (decodeOf b))) in
+    let z : _≡_ {A = ℕ} 0 1 = cc (rw e at (judge-never-passes (tables t) (arrivalOf source destination segment) (decodeOf b))) in
     omega arith
 
 pub sign-refused : SignRefused
 unfolding changed signExport
 sign-refused b o t s out n e =
     let u = refusal (on (sign t s out) (decodeOf b)) n (ap bySigning e) in
-    (kept b o (signed t s out (decodeOf b) .state) (u .state), go (isState b) refl (u .output))
+    (kept b o (signed (tables t) s out (decodeOf b) .state) (u .state), go (isState b) refl (u .output))
   where
-    go : (c : Bool) → isState b ≡ c → output t s out (decodeOf b) ≡ out → changed b (output t s out (decodeOf b)) out ≡ out
+    go : (c : Bool) → isState b ≡ c → output (tables t) s out (decodeOf b) ≡ out → changed b (output (tables t) s out (decodeOf b)) out ≡ out
     go true p u = rw p u
     go false p u = rw p
 
 pub ask-refused : AskRefused
 unfolding askExport
-ask-refused b o t id n e = kept b o (asked t id (decodeOf b) .state) (refusal (on (ask t id) (decodeOf b)) n e .state)
+ask-refused b o t id n e = kept b o (asked (tables t) id (decodeOf b) .state) (refusal (on (ask t id) (decodeOf b)) n e .state)

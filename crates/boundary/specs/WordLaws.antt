@@ -4,4 +4,4 @@ use Rattle.boundary.specs.Word.{word, WordReads}
 
 pub reads : WordReads
 unfolding word
-reads a n w = record { number = omega arith; zero = omega arith; value = omega arith }
+reads a n t w = record { number = omega arith; table = omega arith; zero = omega arith; value = omega arith }

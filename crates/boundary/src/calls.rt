@@ -1,8 +1,9 @@
-// The calls on a key table and on a connection: docs/BOUNDARY.md, "Tables", "The calls on one connection" and "The state". Each
+// The calls on both tables and on a connection: docs/BOUNDARY.md, "Tables", "The calls on one connection" and "The state". Each
 // turns the lent bytes into a state, makes the call of the crate `tcpao`, and turns the state back. Assumes nothing.
 ghost use mathlib.Core.Path.{_≡_};
+ghost use Rattle.tables.specs.Tables.{tablesOf};
 ghost use Rattle.boundary.specs.Exports.{settles as settlesOf, opens as opensOf, answers, leaves, writes};
-ghost use Rattle.boundary.specs.Exports.{checkTableExport, openActiveExport, judgeSynExport, openPassiveExport};
+ghost use Rattle.boundary.specs.Exports.{checkTableExport, openActiveExport, openActiveMd5Export, judgeSynExport, openPassiveExport};
 ghost use Rattle.boundary.specs.Exports.{judgeExport, signExport, askExport};
 use crate::answer::of_done;
 use crate::answer::of_signing;
@@ -39,16 +40,17 @@ fn opens(answer: Done) -> bool
     }
 }
 
-// How many entries, or 10 to 17 with the entry's index.
-pub fn check_table(table: &[u8]) -> u64
-    ensures { λ r. ⌜ answers r ≡ checkTableExport (now (table .entry)) ⌝ }
+// How many key entries, or 10 to 17 and 45 with the entry's table and index.
+pub fn check_table(keys: &[u8], md5: &[u8]) -> u64
+    ensures { λ r. ⌜ answers r ≡ checkTableExport (tablesOf (now (keys .entry)) (now (md5 .entry))) ⌝ }
 {
-    of_table(tcpao::operator::check_table(table))
+    of_table(tcpao::operator::check_table(keys, md5))
 }
 
 // Opens actively; the state is written only where that is done.
 pub fn open_active(
-    table: &[u8],
+    keys: &[u8],
+    md5: &[u8],
     local: &[u8],
     remote: &[u8],
     local_port: u16,
@@ -58,13 +60,49 @@ pub fn open_active(
     state: &mut [u8],
 ) -> u64
     ensures { λ r. ⌜ leaves r (now (state .exit))
-        ≡ openActiveExport (now (table .entry)) (now (local .entry)) (now (remote .entry)) «local_port» «remote_port» isn «send_id»
+        ≡ openActiveExport (tablesOf (now (keys .entry)) (now (md5 .entry))) (now (local .entry)) (now (remote .entry)) «local_port»
+        «remote_port» isn «send_id»
         (now (state .entry)) ⌝ }
 {
     if !is_state(state) {
         return word(WRONG_STATE, 0);
     }
-    let r = tcpao::open::open_active(table, local, remote, local_port, remote_port, isn, send_id);
+    let r = tcpao::open::open_active(
+        keys,
+        md5,
+        local,
+        remote,
+        local_port,
+        remote_port,
+        isn,
+        send_id,
+    );
+    let answer = r.answer;
+    let opening = r.state;
+    put_where(state, opens(answer), opening);
+    of_done(answer, r.index)
+}
+
+// Ticket 9: opens actively by MD5.
+pub fn open_active_md5(
+    keys: &[u8],
+    md5: &[u8],
+    local: &[u8],
+    remote: &[u8],
+    local_port: u16,
+    remote_port: u16,
+    isn: u32,
+    state: &mut [u8],
+) -> u64
+    ensures { λ r. ⌜ leaves r (now (state .exit))
+        ≡ openActiveMd5Export (tablesOf (now (keys .entry)) (now (md5 .entry))) (now (local .entry)) (now (remote .entry)) «local_port»
+        «remote_port» isn
+        (now (state .entry)) ⌝ }
+{
+    if !is_state(state) {
+        return word(WRONG_STATE, 0);
+    }
+    let r = tcpao::open::open_active_md5(keys, md5, local, remote, local_port, remote_port, isn);
     let answer = r.answer;
     let opening = r.state;
     put_where(state, opens(answer), opening);
@@ -73,23 +111,26 @@ pub fn open_active(
 
 // A bare SYN, without a state.
 pub fn judge_syn(
-    table: &[u8],
+    keys: &[u8],
+    md5: &[u8],
     source: &[u8],
     destination: &[u8],
     segment: &[u8],
     setting: u8,
 ) -> u64
     ensures { λ r. ⌜ answers r
-        ≡ judgeSynExport (now (table .entry)) (now (source .entry)) (now (destination .entry)) (now (segment .entry)) setting ⌝ }
+        ≡ judgeSynExport (tablesOf (now (keys .entry)) (now (md5 .entry)))
+        (now (source .entry)) (now (destination .entry)) (now (segment .entry)) setting ⌝ }
 {
-    let r = tcpao::judge::judge_syn(table, source, destination, segment, setting != 0);
+    let r = tcpao::judge::judge_syn(keys, md5, source, destination, segment, setting != 0);
     let verdict = r.verdict;
     of_verdict(verdict, r.index)
 }
 
 // Judges the bare SYN again and, only on accept, opens. Writes the state that it opened, or the empty one where the SYN is only passed.
 pub fn open_passive(
-    table: &[u8],
+    keys: &[u8],
+    md5: &[u8],
     source: &[u8],
     destination: &[u8],
     segment: &[u8],
@@ -98,13 +139,14 @@ pub fn open_passive(
     state: &mut [u8],
 ) -> u64
     ensures { λ r. ⌜ leaves r (now (state .exit))
-        ≡ openPassiveExport (now (table .entry)) (now (source .entry)) (now (destination .entry)) (now (segment .entry)) isn setting
+        ≡ openPassiveExport (tablesOf (now (keys .entry)) (now (md5 .entry)))
+        (now (source .entry)) (now (destination .entry)) (now (segment .entry)) isn setting
         (now (state .entry)) ⌝ }
 {
     if !is_state(state) {
         return word(WRONG_STATE, 0);
     }
-    let r = tcpao::judge::open_passive(table, source, destination, segment, isn, setting != 0);
+    let r = tcpao::judge::open_passive(keys, md5, source, destination, segment, isn, setting != 0);
     let verdict = r.verdict;
     let opened = r.state;
     put_where(state, settles(verdict), opened);
@@ -113,20 +155,22 @@ pub fn open_passive(
 
 // Judges an arriving segment on a connection, opening or open.
 pub fn judge(
-    table: &[u8],
+    keys: &[u8],
+    md5: &[u8],
     source: &[u8],
     destination: &[u8],
     segment: &[u8],
     state: &mut [u8],
 ) -> u64
     ensures { λ r. ⌜ leaves r (now (state .exit))
-        ≡ judgeExport (now (table .entry)) (now (source .entry)) (now (destination .entry)) (now (segment .entry)) (now (state .entry)) ⌝ }
+        ≡ judgeExport (tablesOf (now (keys .entry)) (now (md5 .entry)))
+        (now (source .entry)) (now (destination .entry)) (now (segment .entry)) (now (state .entry)) ⌝ }
 {
     if !is_state(state) {
         return word(WRONG_STATE, 0);
     }
     let held = decode(state);
-    let r = tcpao::judge::judge(table, source, destination, segment, held);
+    let r = tcpao::judge::judge(keys, md5, source, destination, segment, held);
     let verdict = r.verdict;
     let judged = r.state;
     put(state, judged);
@@ -134,15 +178,15 @@ pub fn judge(
 }
 
 // Signs a segment into `out`; only the signed length's bytes of it are written.
-pub fn sign(table: &[u8], segment: &[u8], out: &mut [u8], state: &mut [u8]) -> u64
+pub fn sign(keys: &[u8], md5: &[u8], segment: &[u8], out: &mut [u8], state: &mut [u8]) -> u64
     ensures { λ r. ⌜ writes r (now (state .exit)) (now (out .exit))
-        ≡ signExport (now (table .entry)) (now (segment .entry)) (now (out .entry)) (now (state .entry)) ⌝ }
+        ≡ signExport (tablesOf (now (keys .entry)) (now (md5 .entry))) (now (segment .entry)) (now (out .entry)) (now (state .entry)) ⌝ }
 {
     if !is_state(state) {
         return word(WRONG_STATE, 0);
     }
     let held = decode(state);
-    let r = tcpao::sign::sign(table, segment, out, held);
+    let r = tcpao::sign::sign(keys, md5, segment, out, held);
     let answer = r.answer;
     let signed = r.state;
     put(state, signed);
@@ -150,14 +194,15 @@ pub fn sign(table: &[u8], segment: &[u8], out: &mut [u8], state: &mut [u8]) -> u
 }
 
 // Sets the RecvID asked of the peer.
-pub fn ask(table: &[u8], recv_id: u8, state: &mut [u8]) -> u64
-    ensures { λ r. ⌜ leaves r (now (state .exit)) ≡ askExport (now (table .entry)) «recv_id» (now (state .entry)) ⌝ }
+pub fn ask(keys: &[u8], md5: &[u8], recv_id: u8, state: &mut [u8]) -> u64
+    ensures { λ r. ⌜ leaves r (now (state .exit)) ≡ askExport (tablesOf (now (keys .entry)) (now (md5 .entry)))
+        «recv_id» (now (state .entry)) ⌝ }
 {
     if !is_state(state) {
         return word(WRONG_STATE, 0);
     }
     let held = decode(state);
-    let r = tcpao::operator::ask(table, recv_id, held);
+    let r = tcpao::operator::ask(keys, md5, recv_id, held);
     let answer = r.answer;
     let asked = r.state;
     put(state, asked);

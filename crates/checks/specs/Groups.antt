@@ -25,14 +25,16 @@ intactTests a = lengthTests 20 (a .segment) ++ sumTests a
 
 -- 22 by its two numbers: so many TCP-AO, so many MD5
 abbrev pub countTests : ℕ → ℕ → List (Test Outcome)
-countTests ao md5 = test (refuse 22) (ltb 1 ao) ∷ test (refuse 22) (ltb 0 ao && ltb 0 md5) ∷ []
+countTests ao md5 =
+    test (refuse 22) (ltb 1 ao) ∷ test (refuse 22) (ltb 0 ao && ltb 0 md5) ∷ test (refuse 22) (ltb 1 md5) ∷ []
 
 -- The tests by a header that was read: of `headerOf n s` they are the crate `rules`' tests of s, by computation.
 abbrev pub optionTests : Options → List (Test Outcome)
 optionTests x =
     test (refuse 21) (isMalformed x)
     ∷ test (refuse 22) (ltb 1 (aoIn x .count))
-    ∷ test (refuse 22) (ltb 0 (aoIn x .count) && ltb 0 (md5In x .count)) ∷ []
+    ∷ test (refuse 22) (ltb 0 (aoIn x .count) && ltb 0 (md5In x .count))
+    ∷ test (refuse 22) (ltb 1 (md5In x .count)) ∷ []
 
 abbrev pub headerPairTests : Pair → List ℕ → List ℕ → Header → List (Test Outcome)
 headerPairTests p source destination h =
@@ -73,7 +75,3 @@ arrivingOn p sourceIsn destinationIsn =
       sourceIsn = sourceIsn;
       destinationIsn = destinationIsn;
     }
-
--- what is given where no test applies
-abbrev pub goodAt : Place → List ℕ → Outcome
-goodAt x s = Good (value x) (rnextKeyId s)

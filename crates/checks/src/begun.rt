@@ -2,22 +2,23 @@
 // go into it from where they lie, in as many pieces as they come; end compares: 29. Between them a value holds all that is needed, and no
 // reference.
 ghost use mathlib.Core.Path.{_≡_};
-ghost use mathlib.Core.Bool.{true};
+ghost use mathlib.Core.Bool.{true, false};
 ghost use Prim.Native.Nat.{_+_, _≤_, min};
 ghost use lib.ListN.{length, take, drop};
 ghost use Rattle.wire.specs.Header.{headerEnd, wellSized};
 ghost use Rattle.octets.specs.Tests.{first};
-ghost use Rattle.rules.specs.Segment.{ao};
-ghost use Rattle.rules.specs.Calls.{keyTests};
+ghost use Rattle.rules.specs.Segment.{ao, ao as aoOf, md5 as md5Of};
+ghost use Rattle.rules.specs.Calls.{keyTests, md5Tests, goodBy};
 ghost use Rattle.rules.specs.declared.Outcome.the-variants.{Good};
+ghost use Rattle.rules.specs.declared.Place.the-variants.{At};
 ghost use Rattle.traffic.specs.Flow.{flowOf};
 ghost use Rattle.traffic.specs.MacContext.{macView, macAbsorb};
-ghost use Rattle.checks.specs.Groups.{goodAt};
 ghost use Rattle.checks.specs.GroupLaws.{isFinal};
-ghost use Rattle.checks.specs.Begin.{Begins, Fed, macLength, agrees, ended};
+ghost use Rattle.checks.specs.Begin.{Begins, byAo, byMd5, Fed, macLength, agrees, ended};
 use keys::entry::Entry;
 use keys::entry::Ids;
 use keys::table::Found;
+use rules::NO_INDEX;
 use rules::Outcome;
 use rules::Place;
 use states::position::extension_of;
@@ -28,10 +29,11 @@ use wire::bytes::byte_at;
 use wire::bytes::same_throughout;
 use wire::options::Occurrence;
 
-// The outcome of every test but 29. Where it is Good, with position and RNextKeyID: the entry's IDs, the MAC after its front, and the MAC
-// carried, of so many bytes; else these mean nothing.
+// The outcome of every test but 29. Where it is Good, with position and RNextKeyID: the way (1 is MD5), the entry's IDs, the MAC after its
+// front, and the MAC carried, of so many bytes; else these mean nothing.
 pub struct Begun {
     pub outcome: Outcome,
+    pub way: u8,
     pub ids: Ids,
     pub mac: MacContext,
     pub carried: [u8; 16],
@@ -44,6 +46,7 @@ pub(crate) fn nothing(outcome: Outcome) -> Begun
 {
     Begun {
         outcome,
+        way: 0,
         ids: Ids { send: 0, recv: 0 },
         mac: unused(),
         carried: [0u8; 16],
@@ -65,7 +68,7 @@ fn carried_mac(mac: &[u8]) -> [u8; 16]
 fn ready(x: u64, rnext: u8, entry: Entry, flow: Flow, option: Occurrence, segment: &[u8]) -> Begun
     requires { ⌜ (option ≡ ao (now segment)) × (wellSized (now segment) ≡ true) × (option .len ≡ 4 + entry .secret .«mac_bytes»)
         × (entry .secret .«mac_bytes» ≤ 16) ⌝ }
-    ensures { λ r. ⌜ Begins (Good x rnext) entry (flowOf flow) (now (segment .entry)) r ⌝ }
+    ensures { λ r. ⌜ Begins (Good x rnext) (byAo entry (flowOf flow) (now (segment .entry))) r ⌝ }
 {
     let ids = entry.ids;
     let secret = entry.secret;
@@ -87,6 +90,7 @@ fn ready(x: u64, rnext: u8, entry: Entry, flow: Flow, option: Occurrence, segmen
     );
     Begun {
         outcome: Outcome::Good(x, rnext),
+        way: 0,
         ids,
         mac,
         carried,
@@ -106,8 +110,9 @@ pub(crate) fn by_key(
 ) -> Begun
     requires { ⌜ (option ≡ ao (now segment)) × (wellSized (now segment) ≡ true) × (found .entry .secret .«mac_bytes» ≤ 16)
         × (isFinal missing ≡ true) × (isFinal unknown ≡ true) ⌝ }
-    ensures { λ r. ⌜ Begins (first (keyTests missing unknown found place (now (segment .entry))) (goodAt place (now (segment .entry))))
-        (found .entry) (flowOf flow) (now (segment .entry)) r ⌝ }
+    ensures { λ r. ⌜ Begins
+        (first (keyTests missing unknown found place (now (segment .entry))) (goodBy false place (now (segment .entry))))
+        (byAo (found .entry) (flowOf flow) (now (segment .entry))) r ⌝ }
 {
     let entry = found.entry;
     let secret = entry.secret;
@@ -119,13 +124,63 @@ pub(crate) fn by_key(
         return nothing(unknown);
     }
     if option.len != size {
-        return nothing(Outcome::Bad(27, 0));
+        return nothing(Outcome::Bad(27, NO_INDEX));
     }
     let Place::At(x) = place else {
-        return nothing(Outcome::Bad(28, 0));
+        return nothing(Outcome::Bad(28, NO_INDEX));
     };
     let rnext = byte_at(segment, 20 + option.at + 3);
     ready(x, rnext, entry, flow, option, segment)
+}
+
+// Behind 27, on the MD5 way: the digest that the option carries, and the digest after its front.
+fn ready_md5(number: u32, entry: Entry, flow: Flow, option: Occurrence, segment: &[u8]) -> Begun
+    requires { ⌜ (option ≡ md5Of (now segment)) × (wellSized (now segment) ≡ true) × (option .len ≡ 18) ⌝ }
+    ensures { λ r. ⌜ Begins (Good number 0) (byMd5 entry (flowOf flow) (now (segment .entry))) r ⌝ }
+{
+    let secret = entry.secret;
+    let end = wire::header::header_end(segment);
+    let from = 20 + option.at + 2;
+    let carried = carried_mac(&segment[from..from + 16]);
+    let mac = traffic::digest::begin(secret, flow, segment.len(), &segment[..end]);
+    Begun {
+        outcome: Outcome::Good(number as u64, 0),
+        way: 1,
+        ids: Ids { send: 0, recv: 0 },
+        mac,
+        carried,
+        mac_bytes: 16,
+    }
+}
+
+// Ticket 9, the MD5 way: 46, 47, 26, 27. `ao` says how many TCP-AO options there are, `option` is the segment's MD5 option, `found` the
+// MD5 entry that matches the pair.
+pub(crate) fn by_md5(
+    found: Found,
+    flow: Flow,
+    number: u32,
+    ao: usize,
+    option: Occurrence,
+    segment: &[u8],
+) -> Begun
+    requires { ⌜ (option ≡ md5Of (now segment)) × (ao ≡ aoOf (now segment) .count) × (wellSized (now segment) ≡ true) ⌝ }
+    ensures { λ r. ⌜ Begins (first (md5Tests found (now (segment .entry))) (goodBy true (At number) (now (segment .entry))))
+        (byMd5 (found .entry) (flowOf flow) (now (segment .entry))) r ⌝ }
+{
+    let entry = found.entry;
+    if 0 < ao {
+        return nothing(Outcome::Bad(46, NO_INDEX));
+    }
+    if option.count == 0 {
+        return nothing(Outcome::Bad(47, NO_INDEX));
+    }
+    if !found.there {
+        return nothing(Outcome::Bad(26, NO_INDEX));
+    }
+    if option.len != 18 {
+        return nothing(Outcome::Bad(27, NO_INDEX));
+    }
+    ready_md5(number, entry, flow, option, segment)
 }
 
 // How many bytes a MAC has: what its length says, but never more than there is room for.
@@ -146,6 +201,7 @@ impl Begun {
         let carried = self.carried;
         Begun {
             outcome,
+            way: self.way,
             ids,
             mac: mac.update(data),
             carried,
@@ -166,7 +222,7 @@ impl Begun {
         let n = mac_length(self.mac_bytes);
         let tag = mac.finish();
         if !same_throughout(&carried[..n], &tag[..n]) {
-            return Outcome::Bad(29, 0);
+            return Outcome::Bad(29, NO_INDEX);
         }
         outcome
     }

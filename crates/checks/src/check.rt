@@ -4,15 +4,18 @@ ghost use mathlib.Core.Path.{_≡_};
 ghost use mathlib.Core.Bool.{true, false, cond, _||_};
 ghost use Rattle.wire.specs.Header.{sequence as sequenceOf, wellSized, headerOf};
 ghost use lib.ListN.{length};
-ghost use Rattle.keys.specs.Table.{checked, recvEntry};
+ghost use Rattle.tables.specs.Tables.{tablesOf, recvEntry};
 ghost use Rattle.rules.specs.Segment.{ao, keyId};
 ghost use Rattle.rules.specs.Connection.{sized, arrivalOf, arrivalPair, isOpen};
-ghost use Rattle.rules.specs.Calls.{isRefused, refuse, check as checkOf, checkSyn};
+ghost use Rattle.octets.specs.Tests.{first};
+ghost use Rattle.rules.specs.Calls.{isRefused, refuse, md5Tests, goodBy, check as checkOf, checkSyn};
+ghost use Rattle.rules.specs.declared.Place.the-variants.{At};
 ghost use Rattle.traffic.specs.Flow.{flowOf};
 ghost use Rattle.checks.specs.Groups.{arrivingOn};
-ghost use Rattle.checks.specs.Begin.{Judges, JudgesSyn, Keyed, KeyedSyn};
+ghost use Rattle.checks.specs.Begin.{Begins, byMd5, Judges, JudgesSyn, Keyed, KeyedByWay, KeyedSyn, KeyedSynByWay};
 use crate::begun::Begun;
 use crate::begun::by_key;
+use crate::begun::by_md5;
 use crate::begun::finished;
 use crate::begun::nothing;
 use crate::faults::early_faults;
@@ -20,13 +23,16 @@ use crate::faults::early_syn_faults;
 use crate::faults::formed_faults;
 use crate::faults::formed_syn_faults;
 use crate::verify::carried;
+use crate::verify::carried_md5;
 use crate::verify::key_id;
 use keys::entry::Pair;
 use keys::table::Found;
 use rules::Connection;
+use rules::NO_INDEX;
 use rules::Outcome;
 use rules::Place;
 use states::position::place_on;
+use states::writers::is_md5;
 use states::writers::is_open;
 use states::writers::pair_of;
 use traffic::flow::Flow;
@@ -62,29 +68,36 @@ fn peer_isn(conn: Connection, number: u32) -> u32
 }
 
 // How the table is looked up: the entry that matches the pair and has the segment's KeyID as its RecvID.
-fn entry_for(table: &[u8], pair: Pair, option: Occurrence, segment: &[u8]) -> Found
+fn entry_for(keys: &[u8], md5: &[u8], pair: Pair, option: Occurrence, segment: &[u8]) -> Found
     requires { ⌜ (option ≡ ao (now segment)) × (wellSized (now segment) ≡ true) ⌝ }
-    ensures { λ r. ⌜ r ≡ recvEntry (now (table .entry)) pair (keyId (now (segment .entry))) ⌝ }
+    ensures { λ r. ⌜ r ≡ recvEntry (tablesOf (now (keys .entry)) (now (md5 .entry))) pair (keyId (now (segment .entry))) ⌝ }
 {
-    keys::table::find_recv(table, pair, key_id(option, segment))
+    tables::find_recv(keys, md5, pair, key_id(option, segment))
 }
 
-// 25 to 28 with a state, on a table that is not refused.
-fn keyed(table: &[u8], segment: &[u8], header: Header, conn: Connection, reference: u64) -> Begun
-    requires { ⌜ (isRefused (checked (now table)) ≡ false) × (wellSized (now segment) ≡ true)
+// 25 to 28 with a state, on tables that are not refused, by TCP-AO.
+fn keyed(
+    keys: &[u8],
+    md5: &[u8],
+    segment: &[u8],
+    header: Header,
+    conn: Connection,
+    reference: u64,
+) -> Begun
+    requires { ⌜ (isRefused (tablesOf (now keys) (now md5) .answer) ≡ false) × (wellSized (now segment) ≡ true)
         × (header ≡ headerOf (length (now segment)) (now segment)) ⌝ }
-    ensures { λ r. ⌜ Keyed (now (table .entry)) conn reference (now (segment .entry)) r ⌝ }
+    ensures { λ r. ⌜ Keyed (tablesOf (now (keys .entry)) (now (md5 .entry))) conn reference (now (segment .entry)) r ⌝ }
 {
     let pair = conn.pair;
     let options = header.options;
     let option = carried(options);
-    let found = entry_for(table, pair, option, segment);
+    let found = entry_for(keys, md5, pair, option, segment);
     let number = header.sequence;
     let flow = arriving_flow(pair, peer_isn(conn, number), conn.isn);
     let place = place_on(conn, reference, number);
     by_key(
-        Outcome::Bad(25, 0),
-        Outcome::Bad(26, 0),
+        Outcome::Bad(25, NO_INDEX),
+        Outcome::Bad(26, NO_INDEX),
         found,
         flow,
         place,
@@ -93,19 +106,60 @@ fn keyed(table: &[u8], segment: &[u8], header: Header, conn: Connection, referen
     )
 }
 
+// Ticket 9: 46, 47, 26 and 27, by MD5, under the entry that matches the pair.
+fn keyed_md5(found: Found, segment: &[u8], header: Header, flow: Flow) -> Begun
+    requires { ⌜ (wellSized (now segment) ≡ true) × (header ≡ headerOf (length (now segment)) (now segment)) ⌝ }
+    ensures { λ r. ⌜ Begins
+        (first (md5Tests found (now (segment .entry))) (goodBy true (At (sequenceOf (now (segment .entry)))) (now (segment .entry))))
+        (byMd5 (found .entry) (flowOf flow) (now (segment .entry))) r ⌝ }
+{
+    let options = header.options;
+    by_md5(
+        found,
+        flow,
+        header.sequence,
+        carried(options).count,
+        carried_md5(options),
+        segment,
+    )
+}
+
+// "A connection goes by the way it was opened and never accepts the other".
+fn keyed_by_way(
+    keys: &[u8],
+    md5: &[u8],
+    segment: &[u8],
+    header: Header,
+    conn: Connection,
+    reference: u64,
+) -> Begun
+    requires { ⌜ (isRefused (tablesOf (now keys) (now md5) .answer) ≡ false) × (wellSized (now segment) ≡ true)
+        × (header ≡ headerOf (length (now segment)) (now segment)) ⌝ }
+    ensures { λ r. ⌜ KeyedByWay (tablesOf (now (keys .entry)) (now (md5 .entry))) conn reference (now (segment .entry)) r ⌝ }
+{
+    if !is_md5(conn) {
+        return keyed(keys, md5, segment, header, conn, reference);
+    }
+    let pair = conn.pair;
+    let found = tables::find_md5(keys, md5, pair);
+    let flow = arriving_flow(pair, peer_isn(conn, header.sequence), conn.isn);
+    keyed_md5(found, segment, header, flow)
+}
+
 // With a state, opening or open: every test but 29.
 pub fn begin(
-    table: &[u8],
+    keys: &[u8],
+    md5: &[u8],
     source: &[u8],
     destination: &[u8],
     segment: &[u8],
     conn: Connection,
     reference: u64,
 ) -> Begun
-    ensures { λ r. ⌜ Judges (now (table .entry)) conn reference
+    ensures { λ r. ⌜ Judges (tablesOf (now (keys .entry)) (now (md5 .entry))) conn reference
         (arrivalOf (now (source .entry)) (now (destination .entry)) (now (segment .entry))) r ⌝ }
 {
-    let early = early_faults(table, source, destination, segment, conn);
+    let early = early_faults(keys, md5, source, destination, segment, conn);
     let Outcome::Good(_, _) = early else {
         return nothing(early);
     };
@@ -114,12 +168,13 @@ pub fn begin(
     let Outcome::Good(_, _) = formed else {
         return nothing(formed);
     };
-    keyed(table, segment, header, conn, reference)
+    keyed_by_way(keys, md5, segment, header, conn, reference)
 }
 
 // The whole of it.
 pub fn check(
-    table: &[u8],
+    keys: &[u8],
+    md5: &[u8],
     source: &[u8],
     destination: &[u8],
     segment: &[u8],
@@ -127,10 +182,10 @@ pub fn check(
     reference: u64,
 ) -> Outcome
     ensures { λ r. ⌜ r
-        ≡ checkOf (now (table .entry)) conn reference
+        ≡ checkOf (tablesOf (now (keys .entry)) (now (md5 .entry))) conn reference
         (arrivalOf (now (source .entry)) (now (destination .entry)) (now (segment .entry))) ⌝ }
 {
-    let begun = begin(table, source, destination, segment, conn, reference);
+    let begun = begin(keys, md5, source, destination, segment, conn, reference);
     finished(begun, segment)
 }
 
@@ -139,7 +194,7 @@ fn syn_missing(matched: bool) -> Outcome
     ensures { λ r. ⌜ r ≡ cond matched (refuse 25) Outcome.Passed ⌝ }
 {
     if matched {
-        return Outcome::Bad(25, 0);
+        return Outcome::Bad(25, NO_INDEX);
     }
     Outcome::Passed
 }
@@ -150,7 +205,7 @@ fn syn_unknown(matched: bool, strict: bool) -> Outcome
     ensures { λ r. ⌜ r ≡ cond (matched || strict) (refuse 26) Outcome.Passed ⌝ }
 {
     if matched || strict {
-        return Outcome::Bad(26, 0);
+        return Outcome::Bad(26, NO_INDEX);
     }
     Outcome::Passed
 }
@@ -176,18 +231,26 @@ fn own_place(number: u32) -> Place
 }
 
 // 25 to 28 of a bare SYN without a state. "For a bare SYN .. the destination ISN is zero."
-fn keyed_syn(table: &[u8], segment: &[u8], header: Header, pair: Pair, strict: bool) -> Begun
-    requires { ⌜ (isRefused (checked (now table)) ≡ false) × (wellSized (now segment) ≡ true)
+fn keyed_syn(
+    keys: &[u8],
+    md5: &[u8],
+    segment: &[u8],
+    header: Header,
+    pair: Pair,
+    strict: bool,
+) -> Begun
+    requires { ⌜ (isRefused (tablesOf (now keys) (now md5) .answer) ≡ false) × (wellSized (now segment) ≡ true)
         × (header ≡ headerOf (length (now segment)) (now segment)) ⌝ }
-    ensures { λ r. ⌜ KeyedSyn (now (table .entry)) pair strict (arrivingOn pair (sequenceOf (now (segment .entry))) 0)
+    ensures { λ r. ⌜ KeyedSyn (tablesOf (now (keys .entry)) (now (md5 .entry)))
+        pair strict (arrivingOn pair (sequenceOf (now (segment .entry))) 0)
         (now (segment .entry)) r ⌝ }
 {
     let options = header.options;
     let option = carried(options);
-    let found = entry_for(table, pair, option, segment);
+    let found = entry_for(keys, md5, pair, option, segment);
     let number = header.sequence;
     let flow = arriving_flow(pair, number, 0);
-    let matched = keys::table::any_match(table, pair);
+    let matched = tables::any_match(keys, md5, pair);
     by_key(
         syn_missing(matched),
         syn_unknown(matched, strict),
@@ -199,18 +262,41 @@ fn keyed_syn(table: &[u8], segment: &[u8], header: Header, pair: Pair, strict: b
     )
 }
 
-// A bare SYN, without a state: every test but 29, with the IDs of the entry that was found.
+// Ticket 9: "a bare SYN without one by the table that matches, else as before".
+fn keyed_syn_by_way(
+    keys: &[u8],
+    md5: &[u8],
+    segment: &[u8],
+    header: Header,
+    pair: Pair,
+    strict: bool,
+) -> Begun
+    requires { ⌜ (isRefused (tablesOf (now keys) (now md5) .answer) ≡ false) × (wellSized (now segment) ≡ true)
+        × (header ≡ headerOf (length (now segment)) (now segment)) ⌝ }
+    ensures { λ r. ⌜ KeyedSynByWay (tablesOf (now (keys .entry)) (now (md5 .entry))) pair strict
+        (arrivingOn pair (sequenceOf (now (segment .entry))) 0) (now (segment .entry)) r ⌝ }
+{
+    let found = tables::find_md5(keys, md5, pair);
+    if !found.there {
+        return keyed_syn(keys, md5, segment, header, pair, strict);
+    }
+    let flow = arriving_flow(pair, header.sequence, 0);
+    keyed_md5(found, segment, header, flow)
+}
+
+// A bare SYN, without a state: every test but 29, with the way and the IDs of the entry that was found.
 pub fn begin_syn(
-    table: &[u8],
+    keys: &[u8],
+    md5: &[u8],
     source: &[u8],
     destination: &[u8],
     segment: &[u8],
     strict: bool,
 ) -> Begun
-    ensures { λ r. ⌜ JudgesSyn (now (table .entry))
+    ensures { λ r. ⌜ JudgesSyn (tablesOf (now (keys .entry)) (now (md5 .entry)))
         (arrivalOf (now (source .entry)) (now (destination .entry)) (now (segment .entry))) strict r ⌝ }
 {
-    let early = early_syn_faults(table, source, destination, segment);
+    let early = early_syn_faults(keys, md5, source, destination, segment);
     let Outcome::Good(_, _) = early else {
         return nothing(early);
     };
@@ -220,20 +306,22 @@ pub fn begin_syn(
         return nothing(formed);
     };
     let pair = arrival_pair(source, destination, segment);
-    keyed_syn(table, segment, header, pair, strict)
+    keyed_syn_by_way(keys, md5, segment, header, pair, strict)
 }
 
 // The whole of it.
 pub fn check_syn(
-    table: &[u8],
+    keys: &[u8],
+    md5: &[u8],
     source: &[u8],
     destination: &[u8],
     segment: &[u8],
     strict: bool,
 ) -> Outcome
     ensures { λ r. ⌜ r
-        ≡ checkSyn (now (table .entry)) (arrivalOf (now (source .entry)) (now (destination .entry)) (now (segment .entry))) strict ⌝ }
+        ≡ checkSyn (tablesOf (now (keys .entry)) (now (md5 .entry)))
+        (arrivalOf (now (source .entry)) (now (destination .entry)) (now (segment .entry))) strict ⌝ }
 {
-    let begun = begin_syn(table, source, destination, segment, strict);
+    let begun = begin_syn(keys, md5, source, destination, segment, strict);
     finished(begun, segment)
 }

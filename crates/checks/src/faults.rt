@@ -4,26 +4,28 @@ ghost use mathlib.Core.Path.{_≡_};
 ghost use mathlib.Core.Bool.{not, _&&_};
 ghost use mathlib.Core.List.{_++_};
 ghost use Rattle.octets.specs.Tests.{first};
+ghost use Rattle.tables.specs.Tables.{tablesOf};
 ghost use Rattle.rules.specs.Connection.{arrivalOf};
 ghost use Rattle.rules.specs.Calls.{unrefused, familyTests, addressTests, tableTests, inputTests, stateTests, lengthTests, sumTests};
 ghost use Rattle.checks.specs.Groups.{intactTests, countTests, optionTests, headerPairTests, headerStageTests, headerSynTests};
 ghost use Rattle.checks.specs.Groups.{headerArrivalTests};
 use keys::entry::Pair;
-use keys::table::Loaded;
 use rules::Connection;
+use rules::NO_INDEX;
 use rules::Outcome;
 use states::writers::is_address;
 use states::writers::is_open;
+use tables::Admitted;
 use wire::header::Header;
 use wire::options::Options;
 
-// 10 to 17, with the entry's index.
-pub fn table_faults(table: &[u8]) -> Outcome
-    ensures { λ r. ⌜ r ≡ first (tableTests (now (table .entry))) unrefused ⌝ }
+// 10 to 17 and 45, with the entry's table and index.
+pub fn table_faults(keys: &[u8], md5: &[u8]) -> Outcome
+    ensures { λ r. ⌜ r ≡ first (tableTests (tablesOf (now (keys .entry)) (now (md5 .entry)))) unrefused ⌝ }
 {
-    match keys::table::check(table) {
-        Loaded::Valid(_) => Outcome::Good(0, 0),
-        Loaded::Refused(n, i) => Outcome::Bad(n, i),
+    match tables::check(keys, md5) {
+        Admitted::Valid(_) => Outcome::Good(0, 0),
+        Admitted::Refused(n, i) => Outcome::Bad(n, i),
     }
 }
 
@@ -38,7 +40,7 @@ pub fn family_faults(conn: Connection) -> Outcome
     if pair.family == 6 {
         return Outcome::Good(0, 0);
     }
-    Outcome::Bad(18, 0)
+    Outcome::Bad(18, NO_INDEX)
 }
 
 // 19: "addresses not both 4 or both 16 bytes".
@@ -49,23 +51,24 @@ pub fn address_faults(a: &[u8], b: &[u8]) -> Outcome
         if b.len() == 4 {
             return Outcome::Good(0, 0);
         }
-        return Outcome::Bad(19, 0);
+        return Outcome::Bad(19, NO_INDEX);
     }
     if a.len() == 16 {
         if b.len() == 16 {
             return Outcome::Good(0, 0);
         }
-        return Outcome::Bad(19, 0);
+        return Outcome::Bad(19, NO_INDEX);
     }
-    Outcome::Bad(19, 0)
+    Outcome::Bad(19, NO_INDEX)
 }
 
 // Without a state: 19, then the table's number.
-fn input_faults(table: &[u8], a: &[u8], b: &[u8]) -> Outcome
-    ensures { λ r. ⌜ r ≡ first (inputTests (now (table .entry)) (now (a .entry)) (now (b .entry))) unrefused ⌝ }
+fn input_faults(keys: &[u8], md5: &[u8], a: &[u8], b: &[u8]) -> Outcome
+    ensures { λ r. ⌜ r ≡ first (inputTests (tablesOf (now (keys .entry)) (now (md5 .entry)))
+        (now (a .entry)) (now (b .entry))) unrefused ⌝ }
 {
     let sizes = address_faults(a, b);
-    let loaded = table_faults(table);
+    let loaded = table_faults(keys, md5);
     let Outcome::Good(_, _) = sizes else {
         return sizes;
     };
@@ -73,30 +76,40 @@ fn input_faults(table: &[u8], a: &[u8], b: &[u8]) -> Outcome
 }
 
 // With a state: 18 before 19.
-fn state_faults(table: &[u8], source: &[u8], destination: &[u8], conn: Connection) -> Outcome
-    ensures { λ r. ⌜ r ≡ first (stateTests (now (table .entry)) (now (source .entry)) (now (destination .entry)) conn) unrefused ⌝ }
+fn state_faults(
+    keys: &[u8],
+    md5: &[u8],
+    source: &[u8],
+    destination: &[u8],
+    conn: Connection,
+) -> Outcome
+    ensures { λ r. ⌜ r ≡ first (stateTests (tablesOf (now (keys .entry)) (now (md5 .entry)))
+        (now (source .entry)) (now (destination .entry)) conn) unrefused ⌝ }
 {
     let family = family_faults(conn);
     let Outcome::Good(_, _) = family else {
         return family;
     };
-    input_faults(table, source, destination)
+    input_faults(keys, md5, source, destination)
 }
 
-// 22: "two TCP-AO, or TCP-AO and MD5 together".
+// 22: "two TCP-AO, or TCP-AO and MD5 together"; Ticket 9: "Two kind 19 give 22".
 fn option_faults(ao: usize, md5: usize) -> Outcome
     ensures { λ r. ⌜ r ≡ first (countTests ao md5) unrefused ⌝ }
 {
     if 1 < ao {
-        return Outcome::Bad(22, 0);
+        return Outcome::Bad(22, NO_INDEX);
     }
     if ao == 0 {
+        if 1 < md5 {
+            return Outcome::Bad(22, NO_INDEX);
+        }
         return Outcome::Good(0, 0);
     }
     if md5 == 0 {
         return Outcome::Good(0, 0);
     }
-    Outcome::Bad(22, 0)
+    Outcome::Bad(22, NO_INDEX)
 }
 
 // 20: "bad length or offset".
@@ -104,7 +117,7 @@ fn length_faults(segment: &[u8]) -> Outcome
     ensures { λ r. ⌜ r ≡ first (lengthTests 20 (now (segment .entry))) unrefused ⌝ }
 {
     if !wire::header::well_sized(segment) {
-        return Outcome::Bad(20, 0);
+        return Outcome::Bad(20, NO_INDEX);
     }
     Outcome::Good(0, 0)
 }
@@ -115,7 +128,7 @@ fn sum_faults(source: &[u8], destination: &[u8], segment: &[u8]) -> Outcome
         ≡ first (sumTests (arrivalOf (now (source .entry)) (now (destination .entry)) (now (segment .entry)))) unrefused ⌝ }
 {
     if traffic::sums::segment_sum(source, destination, segment) != 65535 {
-        return Outcome::Bad(40, 0);
+        return Outcome::Bad(40, NO_INDEX);
     }
     Outcome::Good(0, 0)
 }
@@ -137,7 +150,7 @@ fn form_faults(options: Options) -> Outcome
     ensures { λ r. ⌜ r ≡ first (optionTests options) unrefused ⌝ }
 {
     match options {
-        Options::Malformed => Outcome::Bad(21, 0),
+        Options::Malformed => Outcome::Bad(21, NO_INDEX),
         Options::Found(seen) => option_faults(seen.ao.count, seen.md5.count),
     }
 }
@@ -149,16 +162,16 @@ fn pair_faults(pair: Pair, source: &[u8], destination: &[u8], header: Header) ->
     let remote = pair.remote;
     let local = pair.local;
     if !is_address(source, pair.family, remote) {
-        return Outcome::Bad(23, 0);
+        return Outcome::Bad(23, NO_INDEX);
     }
     if !is_address(destination, pair.family, local) {
-        return Outcome::Bad(23, 0);
+        return Outcome::Bad(23, NO_INDEX);
     }
     if header.source_port != pair.remote_port {
-        return Outcome::Bad(23, 0);
+        return Outcome::Bad(23, NO_INDEX);
     }
     if header.destination_port != pair.local_port {
-        return Outcome::Bad(23, 0);
+        return Outcome::Bad(23, NO_INDEX);
     }
     Outcome::Good(0, 0)
 }
@@ -188,14 +201,14 @@ fn stage_faults(conn: Connection, header: Header) -> Outcome
 {
     if is_open(conn) {
         if bare_syn(header) {
-            return Outcome::Bad(24, 0);
+            return Outcome::Bad(24, NO_INDEX);
         }
         return Outcome::Good(0, 0);
     }
     if syn_ack(header) {
         return Outcome::Good(0, 0);
     }
-    Outcome::Bad(24, 0)
+    Outcome::Bad(24, NO_INDEX)
 }
 
 // 24 without a state: anything but a bare SYN.
@@ -205,7 +218,7 @@ fn syn_faults(header: Header) -> Outcome
     if bare_syn(header) {
         return Outcome::Good(0, 0);
     }
-    Outcome::Bad(24, 0)
+    Outcome::Bad(24, NO_INDEX)
 }
 
 // 23, then 24.
@@ -221,17 +234,18 @@ fn arrival_faults(conn: Connection, source: &[u8], destination: &[u8], header: H
 
 // With a state, up to 40: the input, and the segment's size and sum.
 pub fn early_faults(
-    table: &[u8],
+    keys: &[u8],
+    md5: &[u8],
     source: &[u8],
     destination: &[u8],
     segment: &[u8],
     conn: Connection,
 ) -> Outcome
     ensures { λ r. ⌜ r
-        ≡ first (stateTests (now (table .entry)) (now (source .entry)) (now (destination .entry)) conn
+        ≡ first (stateTests (tablesOf (now (keys .entry)) (now (md5 .entry))) (now (source .entry)) (now (destination .entry)) conn
         ++ intactTests (arrivalOf (now (source .entry)) (now (destination .entry)) (now (segment .entry)))) unrefused ⌝ }
 {
-    let state = state_faults(table, source, destination, conn);
+    let state = state_faults(keys, md5, source, destination, conn);
     let Outcome::Good(_, _) = state else {
         return state;
     };
@@ -252,12 +266,18 @@ pub fn formed_faults(conn: Connection, source: &[u8], destination: &[u8], header
 }
 
 // The same without a state.
-pub fn early_syn_faults(table: &[u8], source: &[u8], destination: &[u8], segment: &[u8]) -> Outcome
+pub fn early_syn_faults(
+    keys: &[u8],
+    md5: &[u8],
+    source: &[u8],
+    destination: &[u8],
+    segment: &[u8],
+) -> Outcome
     ensures { λ r. ⌜ r
-        ≡ first (inputTests (now (table .entry)) (now (source .entry)) (now (destination .entry))
+        ≡ first (inputTests (tablesOf (now (keys .entry)) (now (md5 .entry))) (now (source .entry)) (now (destination .entry))
         ++ intactTests (arrivalOf (now (source .entry)) (now (destination .entry)) (now (segment .entry)))) unrefused ⌝ }
 {
-    let input = input_faults(table, source, destination);
+    let input = input_faults(keys, md5, source, destination);
     let Outcome::Good(_, _) = input else {
         return input;
     };

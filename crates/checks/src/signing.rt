@@ -6,7 +6,10 @@ ghost use mathlib.Core.Path.{_≡_};
 ghost use mathlib.Core.List.{[], _∷_, _++_};
 ghost use lib.Dec.{ltb};
 ghost use Rattle.octets.specs.Tests.{tests, first};
-ghost use Rattle.rules.specs.Segment.{optionBytes};
+ghost use mathlib.Core.Bool.{cond};
+ghost use Rattle.rules.specs.Segment.{optionBytes, md5OptionBytes};
+ghost use Rattle.rules.specs.Connection.{isMd5};
+ghost use Rattle.tables.specs.Tables.{tablesOf};
 ghost use Rattle.rules.specs.Calls.{refuse, unrefused, lengthTests};
 ghost use Rattle.checks.specs.SignGroups.{inputTests, freshLines, growthLines, portLines, stageLines};
 ghost use Rattle.checks.specs.SignGroups.{segmentLines, placeLines, outputLines, signed};
@@ -15,11 +18,13 @@ use crate::faults::family_faults;
 use crate::faults::table_faults;
 use keys::entry::Pair;
 use rules::Connection;
+use rules::NO_INDEX;
 use rules::Outcome;
 use rules::Place;
 use rules::State;
 use states::position::place_on;
 use states::position::value_of;
+use states::writers::is_md5;
 use states::writers::is_open;
 use wire::header::Header;
 use wire::options::Options;
@@ -31,15 +36,25 @@ pub fn added_bytes(n: u8) -> u16
     (4 + n as u16 + 3) / 4 * 4
 }
 
+// Ticket 9: by MD5 its option and two kind 1 bytes.
+pub fn added_on(conn: Connection, n: u8) -> u16
+    ensures { λ r. ⌜ r ≡ cond (isMd5 conn) md5OptionBytes (optionBytes n) ⌝ }
+{
+    if is_md5(conn) {
+        return 20;
+    }
+    added_bytes(n)
+}
+
 // 31: "TCP-AO or MD5 present".
 fn count_faults(ao: usize, md5: usize) -> Outcome
     ensures { λ r. ⌜ r ≡ first (tests (refuse 31) (ltb 0 ao ∷ ltb 0 md5 ∷ [])) unrefused ⌝ }
 {
     if 0 < ao {
-        return Outcome::Bad(31, 0);
+        return Outcome::Bad(31, NO_INDEX);
     }
     if 0 < md5 {
-        return Outcome::Bad(31, 0);
+        return Outcome::Bad(31, NO_INDEX);
     }
     Outcome::Good(0, 0)
 }
@@ -49,20 +64,20 @@ fn length_faults(segment: &[u8]) -> Outcome
     ensures { λ r. ⌜ r ≡ first (lengthTests 30 (now (segment .entry))) unrefused ⌝ }
 {
     if !wire::header::well_sized(segment) {
-        return Outcome::Bad(30, 0);
+        return Outcome::Bad(30, NO_INDEX);
     }
     Outcome::Good(0, 0)
 }
 
 // 18, the table and 30.
-pub fn input_faults(table: &[u8], segment: &[u8], conn: Connection) -> Outcome
-    ensures { λ r. ⌜ r ≡ first (inputTests (now (table .entry)) (now (segment .entry)) conn) unrefused ⌝ }
+pub fn input_faults(keys: &[u8], md5: &[u8], segment: &[u8], conn: Connection) -> Outcome
+    ensures { λ r. ⌜ r ≡ first (inputTests (tablesOf (now (keys .entry)) (now (md5 .entry))) (now (segment .entry)) conn) unrefused ⌝ }
 {
     let family = family_faults(conn);
     let Outcome::Good(_, _) = family else {
         return family;
     };
-    let loaded = table_faults(table);
+    let loaded = table_faults(keys, md5);
     let Outcome::Good(_, _) = loaded else {
         return loaded;
     };
@@ -74,7 +89,7 @@ fn fresh_faults(options: Options) -> Outcome
     ensures { λ r. ⌜ r ≡ first (freshLines options) unrefused ⌝ }
 {
     match options {
-        Options::Malformed => Outcome::Bad(31, 0),
+        Options::Malformed => Outcome::Bad(31, NO_INDEX),
         Options::Found(seen) => count_faults(seen.ao.count, seen.md5.count),
     }
 }
@@ -86,13 +101,13 @@ fn growth_faults(added: u16, end: usize, len: usize) -> Outcome
 {
     let more = added as usize;
     if 60 < more {
-        return Outcome::Bad(32, 0);
+        return Outcome::Bad(32, NO_INDEX);
     }
     if 60 - more < end {
-        return Outcome::Bad(32, 0);
+        return Outcome::Bad(32, NO_INDEX);
     }
     if 65535 - more < len {
-        return Outcome::Bad(32, 0);
+        return Outcome::Bad(32, NO_INDEX);
     }
     Outcome::Good(0, 0)
 }
@@ -102,10 +117,10 @@ fn port_faults(pair: Pair, header: Header) -> Outcome
     ensures { λ r. ⌜ r ≡ first (portLines pair header) unrefused ⌝ }
 {
     if header.source_port != pair.local_port {
-        return Outcome::Bad(33, 0);
+        return Outcome::Bad(33, NO_INDEX);
     }
     if header.destination_port != pair.remote_port {
-        return Outcome::Bad(33, 0);
+        return Outcome::Bad(33, NO_INDEX);
     }
     Outcome::Good(0, 0)
 }
@@ -116,14 +131,14 @@ fn stage_faults(conn: Connection, header: Header) -> Outcome
 {
     if is_open(conn) {
         if bare_syn(header) {
-            return Outcome::Bad(34, 0);
+            return Outcome::Bad(34, NO_INDEX);
         }
         return Outcome::Good(0, 0);
     }
     if bare_syn(header) {
         return Outcome::Good(0, 0);
     }
-    Outcome::Bad(34, 0)
+    Outcome::Bad(34, NO_INDEX)
 }
 
 // 33 and 34.
@@ -142,13 +157,13 @@ fn place_faults(conn: Connection, place: Place, syn: bool) -> Outcome
     ensures { λ r. ⌜ r ≡ first (placeLines conn place syn) unrefused ⌝ }
 {
     let Place::At(x) = place else {
-        return Outcome::Bad(36, 0);
+        return Outcome::Bad(36, NO_INDEX);
     };
     if syn {
         if x == conn.isn as u64 {
             return Outcome::Good(0, 0);
         }
-        return Outcome::Bad(36, 0);
+        return Outcome::Bad(36, NO_INDEX);
     }
     Outcome::Good(0, 0)
 }
@@ -159,10 +174,10 @@ fn room_faults(room: usize, added: u16, len: usize) -> Outcome
 {
     let more = added as usize;
     if room < more {
-        return Outcome::Bad(37, 0);
+        return Outcome::Bad(37, NO_INDEX);
     }
     if room - more < len {
-        return Outcome::Bad(37, 0);
+        return Outcome::Bad(37, NO_INDEX);
     }
     Outcome::Good(0, 0)
 }
@@ -179,7 +194,7 @@ fn output_faults(
     ensures { λ r. ⌜ r ≡ first (outputLines room added there conn place header) unrefused ⌝ }
 {
     if !there {
-        return Outcome::Bad(35, 0);
+        return Outcome::Bad(35, NO_INDEX);
     }
     let growth = growth_faults(added, header.end, header.len);
     let Outcome::Good(_, _) = growth else {

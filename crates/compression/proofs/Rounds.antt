@@ -39,7 +39,7 @@ module _ (R : ℕ → ℕ → List ℕ → List ℕ) where
   served-all at i w s₀ j s h p = let n : j - i ≡ 4 = omega arith in rw n at (p .2)
 
   -- Rounds behind rounds.
-  rounds-on : (t m n : ℕ) (W s : List ℕ) → rounds R (t + m) n W (rounds R t m W s) ≡ rounds R t (m + n) W s
+  pub rounds-on : (t m n : ℕ) (W s : List ℕ) → rounds R (t + m) n W (rounds R t m W s) ≡ rounds R t (m + n) W s
   unfolding rounds
   rounds-on t m zero W s = rw add-zero refl
   rounds-on t m (suc n) W s =

@@ -1,4 +1,5 @@
--- The message schedule and the rounds of FIPS 180-4 §6.1.2 and §6.2.2, over a hash's own rule for the next word and its own round.
+-- The message schedule and the rounds of FIPS 180-4 §6.1.2 and §6.2.2, over a hash's own rule for the next word and its own round. MD5's
+-- operations (RFC 1321 §3.4) are rounds too, of the words in the order in which they take them.
 -- Assumes nothing.
 use Prim.Native.Nat.{ℕ, zero, suc, _+_}
 use mathlib.Core.List.{List, [], _∷_, _++_}

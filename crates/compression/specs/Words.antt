@@ -1,4 +1,4 @@
--- Words of 32 bits, FIPS 180-4 in the standard's names: what SHA-1 and SHA-256 do with them, and those of a block.
+-- Words of 32 bits, FIPS 180-4 in the standard's names: what SHA-1 and SHA-256 do with them, and those of a block. MD5 cites some of them.
 -- A word is a number below 2 ^ 32, a block a list of bytes. Assumes nothing.
 use Prim.Native.Nat.{ℕ, zero, suc, _+_, _-_, _*_, _/_, _%_, _^_}
 use mathlib.Core.List.{List, [], _∷_, _++_}
@@ -32,7 +32,11 @@ Parity x y z = bitXor (bitXor x y) z
 abbrev pub Maj : ℕ → ℕ → ℕ → ℕ
 Maj x y z = bitXor (bitXor (bitAnd x y) (bitAnd x z)) (bitAnd y z)
 
--- §5.2.1: the first t of the sixteen words of the block m
-unfoldable pub words : ℕ → List ℕ → List ℕ
-words zero m = []
-words (suc t) m = words t m ++ (get32 m (4 * t) ∷ [])
+-- §5.2.1: the first t of the sixteen words of the block m, where `word m i` is the word in its bytes from i on; FIPS 180-4 has the highest
+-- byte first
+unfoldable pub wordsBy : (List ℕ → ℕ → ℕ) → ℕ → List ℕ → List ℕ
+wordsBy word zero m = []
+wordsBy word (suc t) m = wordsBy word t m ++ (word m (4 * t) ∷ [])
+
+abbrev pub words : ℕ → List ℕ → List ℕ
+words = wordsBy get32

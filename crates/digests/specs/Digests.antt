@@ -7,6 +7,7 @@ use lib.ListN.{length, drop}
 use lib.Dec.{leb, eqb}
 use Rattle.mac.specs.Sha1.{sha1}
 use Rattle.mac.specs.Sha256.{sha256}
+use Rattle.mac.specs.Md5.{md5}
 use Rattle.mac.specs.Hmac.{hmacSha1, hmacSha256}
 use Rattle.mac.specs.Aes.{keyExpansion, cipher}
 use Rattle.mac.specs.Cmac.{cmac}
@@ -57,3 +58,6 @@ aes128Into key block out = into (canEncrypt key block out) 16 (cipher (keyExpans
 
 unfoldable pub cmacInto : (key message out : List ℕ) → Given
 cmacInto key message out = into (canTag key out) 16 (cmac key message) out
+
+unfoldable pub md5Into : (message out : List ℕ) → Given
+md5Into message out = into (room 16 out) 16 (md5 message) out

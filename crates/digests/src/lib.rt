@@ -1,11 +1,11 @@
 // The MAC library on lent bytes: docs/BOUNDARY.md, "The calls on one connection", its end. Each call gives how many bytes it wrote at the
-// front of out: 20, 20, 32, 32, 16, 16. Where out is shorter, or an AES key or block has not 16 bytes, it gives 0 and writes nothing.
+// front of out: 20, 20, 32, 32, 16, 16, 16. Where out is shorter, or an AES key or block has not 16 bytes, it gives 0 and writes nothing.
 // Assumes nothing.
 ghost use mathlib.Core.Path.{_≡_};
 ghost use Prim.Native.Nat.{_≤_};
 ghost use mathlib.Core.List.{_++_};
 ghost use lib.ListN.{length, drop};
-ghost use Rattle.digests.specs.Digests.{gives, sha1Into, hmacSha1Into, sha256Into, hmacSha256Into, aes128Into, cmacInto};
+ghost use Rattle.digests.specs.Digests.{gives, sha1Into, hmacSha1Into, sha256Into, hmacSha256Into, aes128Into, cmacInto, md5Into};
 
 // SHA-1 of the message.
 pub fn sha1(message: &[u8], out: &mut [u8]) -> u64
@@ -85,6 +85,18 @@ pub fn aes128_cmac(key: &[u8], message: &[u8], out: &mut [u8]) -> u64
         return 0;
     }
     let d = mac::cmac::cmac(whole(key), message);
+    front(out, &d);
+    16
+}
+
+// MD5 of the message.
+pub fn md5(message: &[u8], out: &mut [u8]) -> u64
+    ensures { λ r. ⌜ gives r (now (out .exit)) ≡ md5Into (now (message .entry)) (now (out .entry)) ⌝ }
+{
+    if out.len() < 16 {
+        return 0;
+    }
+    let d = mac::md5::md5(message);
     front(out, &d);
     16
 }

@@ -1,21 +1,23 @@
-// The calls on a key table and on a connection for C: docs/BOUNDARY.md, "Tables", "The calls on one connection" and "The
+// The calls on both tables and on a connection for C: docs/BOUNDARY.md, "Tables", "The calls on one connection" and "The
 // state". They are those of the crate `boundary`. Assumes nothing.
 ghost use mathlib.Core.Path.{_≡_};
-ghost use Rattle.boundary.specs.Exports.{answers, leaves, writes, checkTableExport, openActiveExport, judgeSynExport};
+ghost use Rattle.tables.specs.Tables.{tablesOf};
+ghost use Rattle.boundary.specs.Exports.{answers, leaves, writes, checkTableExport, openActiveExport, openActiveMd5Export, judgeSynExport};
 ghost use Rattle.boundary.specs.Exports.{openPassiveExport, judgeExport, signExport, askExport};
 
-// How many entries, or 10 to 17 with the entry's index.
+// How many key entries, or 10 to 17 and 45 with the entry's table and index.
 #[no_mangle]
-pub extern "C" fn tcpao_check_table(table: &[u8]) -> u64
-    ensures { λ r. ⌜ answers r ≡ checkTableExport (now (table .entry)) ⌝ }
+pub extern "C" fn tcpao_check_table(keys: &[u8], md5: &[u8]) -> u64
+    ensures { λ r. ⌜ answers r ≡ checkTableExport (tablesOf (now (keys .entry)) (now (md5 .entry))) ⌝ }
 {
-    boundary::calls::check_table(table)
+    boundary::calls::check_table(keys, md5)
 }
 
 // Opens actively; the state is written only where that is done.
 #[no_mangle]
 pub extern "C" fn tcpao_open_active(
-    table: &[u8],
+    keys: &[u8],
+    md5: &[u8],
     local: &[u8],
     remote: &[u8],
     local_port: u16,
@@ -25,11 +27,13 @@ pub extern "C" fn tcpao_open_active(
     state: &mut [u8],
 ) -> u64
     ensures { λ r. ⌜ leaves r (now (state .exit))
-        ≡ openActiveExport (now (table .entry)) (now (local .entry)) (now (remote .entry)) «local_port» «remote_port» isn «send_id»
+        ≡ openActiveExport (tablesOf (now (keys .entry)) (now (md5 .entry))) (now (local .entry)) (now (remote .entry)) «local_port»
+        «remote_port» isn «send_id»
         (now (state .entry)) ⌝ }
 {
     boundary::calls::open_active(
-        table,
+        keys,
+        md5,
         local,
         remote,
         local_port,
@@ -40,25 +44,57 @@ pub extern "C" fn tcpao_open_active(
     )
 }
 
+// Opens actively by MD5; the state is written only where that is done.
+#[no_mangle]
+pub extern "C" fn tcpmd5_open_active(
+    keys: &[u8],
+    md5: &[u8],
+    local: &[u8],
+    remote: &[u8],
+    local_port: u16,
+    remote_port: u16,
+    isn: u32,
+    state: &mut [u8],
+) -> u64
+    ensures { λ r. ⌜ leaves r (now (state .exit))
+        ≡ openActiveMd5Export (tablesOf (now (keys .entry)) (now (md5 .entry))) (now (local .entry)) (now (remote .entry)) «local_port»
+        «remote_port» isn
+        (now (state .entry)) ⌝ }
+{
+    boundary::calls::open_active_md5(
+        keys,
+        md5,
+        local,
+        remote,
+        local_port,
+        remote_port,
+        isn,
+        state,
+    )
+}
+
 // A bare SYN, without a state.
 #[no_mangle]
 pub extern "C" fn tcpao_judge_syn(
-    table: &[u8],
+    keys: &[u8],
+    md5: &[u8],
     source: &[u8],
     destination: &[u8],
     segment: &[u8],
     setting: u8,
 ) -> u64
     ensures { λ r. ⌜ answers r
-        ≡ judgeSynExport (now (table .entry)) (now (source .entry)) (now (destination .entry)) (now (segment .entry)) setting ⌝ }
+        ≡ judgeSynExport (tablesOf (now (keys .entry)) (now (md5 .entry)))
+        (now (source .entry)) (now (destination .entry)) (now (segment .entry)) setting ⌝ }
 {
-    boundary::calls::judge_syn(table, source, destination, segment, setting)
+    boundary::calls::judge_syn(keys, md5, source, destination, segment, setting)
 }
 
 // Judges the bare SYN again and, only on accept, opens. Writes the state that it opened, or the empty one where the SYN is only passed.
 #[no_mangle]
 pub extern "C" fn tcpao_open_passive(
-    table: &[u8],
+    keys: &[u8],
+    md5: &[u8],
     source: &[u8],
     destination: &[u8],
     segment: &[u8],
@@ -67,40 +103,50 @@ pub extern "C" fn tcpao_open_passive(
     state: &mut [u8],
 ) -> u64
     ensures { λ r. ⌜ leaves r (now (state .exit))
-        ≡ openPassiveExport (now (table .entry)) (now (source .entry)) (now (destination .entry)) (now (segment .entry)) isn setting
+        ≡ openPassiveExport (tablesOf (now (keys .entry)) (now (md5 .entry)))
+        (now (source .entry)) (now (destination .entry)) (now (segment .entry)) isn setting
         (now (state .entry)) ⌝ }
 {
-    boundary::calls::open_passive(table, source, destination, segment, isn, setting, state)
+    boundary::calls::open_passive(keys, md5, source, destination, segment, isn, setting, state)
 }
 
 // Judges an arriving segment on a connection, opening or open.
 #[no_mangle]
 pub extern "C" fn tcpao_judge(
-    table: &[u8],
+    keys: &[u8],
+    md5: &[u8],
     source: &[u8],
     destination: &[u8],
     segment: &[u8],
     state: &mut [u8],
 ) -> u64
     ensures { λ r. ⌜ leaves r (now (state .exit))
-        ≡ judgeExport (now (table .entry)) (now (source .entry)) (now (destination .entry)) (now (segment .entry)) (now (state .entry)) ⌝ }
+        ≡ judgeExport (tablesOf (now (keys .entry)) (now (md5 .entry)))
+        (now (source .entry)) (now (destination .entry)) (now (segment .entry)) (now (state .entry)) ⌝ }
 {
-    boundary::calls::judge(table, source, destination, segment, state)
+    boundary::calls::judge(keys, md5, source, destination, segment, state)
 }
 
 // Signs a segment into `out`; only the signed length's bytes of it are written.
 #[no_mangle]
-pub extern "C" fn tcpao_sign(table: &[u8], segment: &[u8], out: &mut [u8], state: &mut [u8]) -> u64
+pub extern "C" fn tcpao_sign(
+    keys: &[u8],
+    md5: &[u8],
+    segment: &[u8],
+    out: &mut [u8],
+    state: &mut [u8],
+) -> u64
     ensures { λ r. ⌜ writes r (now (state .exit)) (now (out .exit))
-        ≡ signExport (now (table .entry)) (now (segment .entry)) (now (out .entry)) (now (state .entry)) ⌝ }
+        ≡ signExport (tablesOf (now (keys .entry)) (now (md5 .entry))) (now (segment .entry)) (now (out .entry)) (now (state .entry)) ⌝ }
 {
-    boundary::calls::sign(table, segment, out, state)
+    boundary::calls::sign(keys, md5, segment, out, state)
 }
 
 // Sets the RecvID asked of the peer.
 #[no_mangle]
-pub extern "C" fn tcpao_ask(table: &[u8], recv_id: u8, state: &mut [u8]) -> u64
-    ensures { λ r. ⌜ leaves r (now (state .exit)) ≡ askExport (now (table .entry)) «recv_id» (now (state .entry)) ⌝ }
+pub extern "C" fn tcpao_ask(keys: &[u8], md5: &[u8], recv_id: u8, state: &mut [u8]) -> u64
+    ensures { λ r. ⌜ leaves r (now (state .exit)) ≡ askExport (tablesOf (now (keys .entry)) (now (md5 .entry)))
+        «recv_id» (now (state .entry)) ⌝ }
 {
-    boundary::calls::ask(table, recv_id, state)
+    boundary::calls::ask(keys, md5, recv_id, state)
 }

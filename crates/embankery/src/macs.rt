@@ -1,7 +1,7 @@
 // The MAC library for C: docs/BOUNDARY.md, "The calls on one connection", its end. The calls are those of the crate `digests`. Assumes
 // nothing.
 ghost use mathlib.Core.Path.{_≡_};
-ghost use Rattle.digests.specs.Digests.{gives, sha1Into, hmacSha1Into, sha256Into, hmacSha256Into, aes128Into, cmacInto};
+ghost use Rattle.digests.specs.Digests.{gives, sha1Into, hmacSha1Into, sha256Into, hmacSha256Into, aes128Into, cmacInto, md5Into};
 
 // SHA-1 of the message.
 #[no_mangle]
@@ -49,4 +49,12 @@ pub extern "C" fn mac_aes128_cmac(key: &[u8], message: &[u8], out: &mut [u8]) ->
     ensures { λ r. ⌜ gives r (now (out .exit)) ≡ cmacInto (now (key .entry)) (now (message .entry)) (now (out .entry)) ⌝ }
 {
     digests::aes128_cmac(key, message, out)
+}
+
+// MD5 of the message.
+#[no_mangle]
+pub extern "C" fn mac_md5(message: &[u8], out: &mut [u8]) -> u64
+    ensures { λ r. ⌜ gives r (now (out .exit)) ≡ md5Into (now (message .entry)) (now (out .entry)) ⌝ }
+{
+    digests::md5(message, out)
 }

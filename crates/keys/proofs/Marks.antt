@@ -16,6 +16,7 @@ use Rattle.keys.specs.Table.{numberOf, ownTests, itemTests, clashing, lo
 use Rattle.keys.proofs.Walk.{sizeAt, Walking, walk-start, walk-refused, walk-step, walk-more, walk-next}
 use Rattle.keys.specs.declared.entry.Ids.{Ids}
 use Rattle.keys.specs.declared.entry.Entry.{Entry}
+use Rattle.keys.specs.declared.table.TableKind.{TableKind}
 use Rattle.keys.specs.declared.table.Loaded.the-variants.{Refused}
 
 -- both IDs of an entry are marked
@@ -67,33 +68,33 @@ enough sends recvs l e i m = go (eqb (getD sends (e .ids .send) 0) 0) (eqb (getD
     go true true p q = sym (unmarked sends recvs (take i l) e m (eqb-true _ 0 p) (eqb-true _ 0 q))
 
 -- the loader's loop: how far the walk is, and that the IDs of the entries passed are marked
-pub record Loading (t : List ℕ) (limit : ℕ) (sends recvs : List ℕ) (at i : ℕ) : Type 0 where
-  pub walking : Walking t limit at i
+pub record Loading (t : List ℕ) (kind : TableKind) (limit : ℕ) (sends recvs : List ℕ) (at i : ℕ) : Type 0 where
+  pub walking : Walking t kind limit at i
   pub sends-long : length sends ≡ 256
   pub recvs-long : length recvs ≡ 256
   pub marked : Each (Marked sends recvs) (take i (entries t))
 
-pub load-start : (t : List ℕ) (limit : ℕ) → Loading t limit (replicate 256 0) (replicate 256 0) 0 0
-load-start t limit = record { walking = walk-start t limit; sends-long = refl; recvs-long = refl; marked = tt }
+pub load-start : (t : List ℕ) (kind : TableKind) (limit : ℕ) → Loading t kind limit (replicate 256 0) (replicate 256 0) 0 0
+load-start t kind limit = record { walking = walk-start t kind limit; sends-long = refl; recvs-long = refl; marked = tt }
 
 -- what begins at `at` has these IDs, and so many entries before it were compared
-module _ {t : List ℕ} {limit : ℕ} {sends recvs : List ℕ} {at i : ℕ} (w : Loading t limit sends recvs at i) (ids : Ids) (de : ids ≡ itemAt t at .entry .ids) (k : ℕ) (ke : k ≡ compared sends recvs ids i)
-    (n : ℕ) (ne : n ≡ numberOf (itemTests (take k (entries t)) (itemAt t at))) where
+module _ {t : List ℕ} {kind : TableKind} {limit : ℕ} {sends recvs : List ℕ} {at i : ℕ} (w : Loading t kind limit sends recvs at i) (ids : Ids) (de : ids ≡ itemAt t at .entry .ids) (k : ℕ) (ke : k ≡ compared sends recvs ids i)
+    (n : ℕ) (ne : n ≡ numberOf (itemTests kind (take k (entries t)) (itemAt t at))) where
   -- the number is as if all had been
-  number : n ≡ numberOf (itemTests (take i (entries t)) (itemAt t at))
+  number : n ≡ numberOf (itemTests kind (take i (entries t)) (itemAt t at))
   number =
       ne
-      ∙ ap (λ (j : ℕ). numberOf (itemTests (take j (entries t)) (itemAt t at))) (ke ∙ ap (λ (y : Ids). compared sends recvs y i) de)
-      ∙ ap (λ (b : Bool). numberOf (ownTests (itemAt t at) ++ (test 17 b ∷ []))) (enough sends recvs (entries t) (itemAt t at .entry) i (w .marked))
+      ∙ ap (λ (j : ℕ). numberOf (itemTests kind (take j (entries t)) (itemAt t at))) (ke ∙ ap (λ (y : Ids). compared sends recvs y i) de)
+      ∙ ap (λ (b : Bool). numberOf (ownTests kind (itemAt t at) ++ (test 17 b ∷ []))) (enough sends recvs (entries t) (itemAt t at .entry) i (w .marked))
 
-  pub load-refused : at < length t → (i ≡ limit → ⊥) → (n ≡ 0 → ⊥) → Refused n i ≡ loaded limit t
+  pub load-refused : at < length t → (i ≡ limit → ⊥) → (n ≡ 0 → ⊥) → Refused n i ≡ loaded kind limit t
   load-refused h e z = walk-refused (w .walking) n h e number z
 
   pub load-step : (s : ℕ) → n ≡ 0 → s ≡ sizeAt t at → (1 ≤ s) × (at + s ≤ length t)
   load-step s z y = walk-step (w .walking) n s number z y
 
   pub load-next : (s : ℕ) → at < length t → (i ≡ limit → ⊥) → n ≡ 0 → s ≡ sizeAt t at → ids .send < 256 → ids .recv < 256
-      → Loading t limit (set sends (ids .send) 1) (set recvs (ids .recv) 1) (at + s) (i + 1)
+      → Loading t kind limit (set sends (ids .send) 1) (set recvs (ids .recv) 1) (at + s) (i + 1)
   load-next s h e z y a b =
       let p = w .sends-long in
       let q = w .recvs-long in

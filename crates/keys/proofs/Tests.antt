@@ -9,7 +9,7 @@ use lib.ListN.{length, getD, take, drop, drop-of-length-le}
 use lib.Seq.{drop-cons}
 use lib.Bits.{bitOr, and-le-l, and-le-r, or-add-and}
 use lib.Dec.{eqb, leb}
-use borrow.Author.Tests.{eq-eqb, ne-eqb, eqb-true, eqb-false, lt-ltb, le-ltb}
+use borrow.Author.Tests.{eq-eqb, ne-eqb, eqb-true, eqb-false, lt-ltb, le-ltb, le-leb, lt-leb}
 use Rattle.octets.specs.Octets.{get16}
 use Rattle.octets.specs.Tests.{Test}
 use Rattle.wire.specs.Prefix.{agree, clearPast}
@@ -43,6 +43,22 @@ passing a b n m l e z q = q ∙ sym (number-past a b (number-none a l (sym e ∙
 -- two addresses agree in so many bits, by a number that the code computed
 pub agree-by : (a b : List ℕ) (n m : ℕ) (r : Bool) → r ≡ agree n a b → n ≡ m → r ≡ agree m a b
 agree-by a b n m r e q = e ∙ ap (λ (k : ℕ). agree k a b) q
+
+-- one side against another, by the numbers that the code computed
+
+module _ (f : ℕ) (a b : Side) (l h : ℕ) (le : l ≡ max (a .low) (b .low)) (he : h ≡ min (a .high) (b .high)) where
+  ports-are : leb (max (a .low) (b .low)) (min (a .high) (b .high)) ≡ leb l h
+  ports-are = λ i. leb (sym le i) (sym he i)
+
+  pub meet-no : h < l → false ≡ meet f a b
+  unfolding meet
+  meet-no k = rw (ports-are ∙ lt-leb l h k)
+
+  pub meet-is : (p q n : ℕ) (r : Bool) → l ≤ h → p ≡ fixed f (a .bits) → q ≡ fixed f (b .bits) → n ≡ min p q → r ≡ agree n (a .address) (b .address) → r ≡ meet f a b
+  unfolding meet
+  meet-is p q n r k pe qe ne re =
+      rw (ports-are ∙ le-leb l h k, and-last)
+      (agree-by (a .address) (b .address) n (min (fixed f (a .bits)) (fixed f (b .bits))) r re (ne ∙ (λ i. min (pe i) (qe i))))
 
 -- an entry's bytes against a selector
 

@@ -8,22 +8,27 @@ use native.Mathlib.Omega.{arith}
 use native.Mathlib.Nat.{sub-zero}
 use lib.ListN.{length, getD, take, drop, drop-of-length-le, length-drop, length-append}
 use lib.Seq.{take-nil, take-append-add, append-snoc}
-use lib.Dec.{leb}
+use lib.Dec.{leb, eqb}
 use borrow.Author.Tests.{eq-eqb, ne-eqb, le-leb, lt-leb}
 use Rattle.octets.specs.Tests.{Test, test}
-use Rattle.keys.specs.Entry.{knownKind, body, size, idsOf, selectorOf, entryOf, Item, item, itemAt, sound, items, entries}
+use Rattle.keys.specs.Entry.{knownKind, extra, body, size, idsOf, selectorOf, entryOf, Item, item, itemAt, sound, items, entries}
 use Rattle.keys.specs.EntryLaws.{kind-is, items-at, items-end, sound-inside, entries-next, entries-stop}
 use Rattle.keys.specs.Match.{overlap, share, clash}
-use Rattle.keys.specs.Table.{numberOf, entryTests, clashing, itemTests, loadTests, refusing, loadedFrom, loaded, nobody, found}
-use Rattle.keys.specs.FaultLaws.{number-past, item-good}
+use Rattle.keys.specs.Table.{numberOf, kindListed, entryTests, clashing, itemTests, loadTests, refusing, loadedFrom, loaded}
+use Rattle.keys.specs.Table.{nobody, found, anyOf, meets, meetsAny, placeOf}
+use Rattle.keys.specs.FoundLaws.{any-found}
+use Rattle.keys.specs.FaultLaws.{number-past, entry-lacks, listed-known, item-good}
 use Rattle.keys.proofs.Bytes.{tail, tail-is}
 use Rattle.keys.proofs.Tests.{given, passing}
 use Rattle.keys.specs.declared.entry.Ids.{Ids}
 use Rattle.keys.specs.declared.entry.Selector.{Selector}
 use Rattle.keys.specs.declared.entry.Entry.{Entry}
+use Rattle.keys.specs.declared.table.TableKind.{TableKind}
+use Rattle.keys.specs.declared.table.TableKind.the-variants.{Keys, Md5}
 use Rattle.keys.specs.declared.table.Loaded.{Loaded}
 use Rattle.keys.specs.declared.table.Loaded.the-variants.{Valid, Refused}
 use Rattle.keys.specs.declared.table.Found.{Found}
+use Rattle.keys.specs.declared.table.Meeting.{Meeting}
 
 -- what begins at `at`
 
@@ -35,10 +40,19 @@ size-some : (b : Bool) (s n : ℕ) → n ≡ cond b s 0 → (n ≡ 0 → ⊥) �
 size-some true s n e z = refl
 size-some false s n e z = absurd (z e)
 
+pub first-known : (kind : TableKind) (k : ℕ) (r : Bool) → r ≡ kindListed kind (item (k ∷ [])) → r ≡ true → knownKind k ≡ true
+unfolding item
+first-known kind k r e h = listed-known kind (item (k ∷ [])) (sym e ∙ h)
+
 module _ (t : List ℕ) (at : ℕ) where
   pub known-is : (r b : Bool) → r ≡ knownKind (getD t at 0) → r ≡ b → itemAt t at .kind-known ≡ b
   unfolding item
   known-is r b e h = ap knownKind (kind-is t at) ∙ sym e ∙ h
+
+  pub listed-is : (kind : TableKind) (r b : Bool) → r ≡ kindListed kind (item (getD t at 0 ∷ [])) → r ≡ b → kindListed kind (itemAt t at) ≡ b
+  unfolding item
+  listed-is Keys r b e h = ap knownKind (kind-is t at) ∙ sym e ∙ h
+  listed-is Md5 r b e h = ap (λ (k : ℕ). knownKind k && not (eqb (extra k) 1)) (kind-is t at) ∙ sym e ∙ h
 
   pub whole-is : (n : ℕ) → n ≡ size (getD t at 0) → at ≤ length t → leb n (length t - at) ≡ itemAt t at .whole
   unfolding item
@@ -203,6 +217,27 @@ module _ {t : List ℕ} {test : Entry → Bool} {i at : ℕ} (w : Seeking t test
             let k = w .counted in
             record { counted = omega arith; within = h .1; rest = cond-miss (test (itemAt t at .entry)) _ _ _ (sym re ∙ g) seek-turn }
 
+-- the two searches by another table's entries, with the loop of a search
+
+pub place-by : (t : List ℕ) (test : Entry → Bool) → nobody ≡ found test 0 (entries t) → _≡_ {A = Meeting} (record { there = false; index = 0 }) (placeOf (found test 0 (entries t)))
+unfolding nobody
+place-by t test e = ap placeOf e
+
+pub any-by : (t : List ℕ) (test : Entry → Bool) (r : Found) → r ≡ found test 0 (entries t) → r .there ≡ anyOf test (entries t)
+any-by t test r e = ap (λ (x : Found). x .there) e ∙ sym (any-found test (entries t) 0)
+
+pub none-by : (t : List ℕ) (test : Entry → Bool) → nobody ≡ found test 0 (entries t) → false ≡ anyOf test (entries t)
+unfolding nobody
+none-by t test e = any-by t test nobody e
+
+module _ (t : List ℕ) (at : ℕ) where
+  pub meets-at : (s x : Selector) (r : Bool) → x ≡ selectorOf (getD (tail t at) 0 0) (tail t at) → r ≡ overlap x s → r ≡ meets s (itemAt t at .entry)
+  meets-at s x r q e = e ∙ ap (λ (y : Selector). overlap y s) (selector-at t at x q)
+
+  pub meets-any-at : (o : List Entry) (s : Selector) (r : Bool) → s ≡ selectorOf (getD (tail t at) 0 0) (tail t at) → r ≡ anyOf (meets s) o → r ≡ meetsAny o (itemAt t at .entry)
+  unfolding meetsAny
+  meets-any-at o s r q e = e ∙ ap (λ (x : Selector). anyOf (meets x) o) (selector-at t at s q)
+
 -- the loader's loop
 
 -- one more entry of a list is taken
@@ -216,49 +251,49 @@ refused-by (suc n) i o r k h = h
 passed-by : (n i : ℕ) (o r : Loaded) → n ≡ 0 → refusing n i o ≡ r → o ≡ r
 passed-by n i o r k h = rw k at h
 
-pub record Walking (t : List ℕ) (limit at i : ℕ) : Type 0 where
+pub record Walking (t : List ℕ) (kind : TableKind) (limit at i : ℕ) : Type 0 where
   pub within : at ≤ length t
   pub counted : i ≤ at
   pub taken : length (take i (entries t)) ≡ i
   pub split : entries t ≡ take i (entries t) ++ entries (drop at t)
-  pub rest : loadedFrom limit i (take i (entries t)) (items 0 (drop at t)) ≡ loaded limit t
+  pub rest : loadedFrom kind limit i (take i (entries t)) (items 0 (drop at t)) ≡ loaded kind limit t
 
-pub walk-start : (t : List ℕ) (limit : ℕ) → Walking t limit 0 0
+pub walk-start : (t : List ℕ) (kind : TableKind) (limit : ℕ) → Walking t kind limit 0 0
 unfolding loaded
-walk-start t limit = record { within = omega arith; counted = omega arith; taken = refl; split = refl; rest = refl }
+walk-start t kind limit = record { within = omega arith; counted = omega arith; taken = refl; split = refl; rest = refl }
 
-module _ {t : List ℕ} {limit at i : ℕ} (w : Walking t limit at i) where
+module _ {t : List ℕ} {kind : TableKind} {limit at i : ℕ} (w : Walking t kind limit at i) where
   begin : at < length t
-      → refusing (numberOf (loadTests limit i (take i (entries t)) (itemAt t at))) i
-      (loadedFrom limit (i + 1) (take i (entries t) ++ (itemAt t at .entry ∷ [])) (cond (sound (itemAt t at)) (items 0 (drop (at + size (getD t at 0)) t)) []))
-      ≡ loaded limit t
+      → refusing (numberOf (loadTests kind limit i (take i (entries t)) (itemAt t at))) i
+      (loadedFrom kind limit (i + 1) (take i (entries t) ++ (itemAt t at .entry ∷ [])) (cond (sound (itemAt t at)) (items 0 (drop (at + size (getD t at 0)) t)) []))
+      ≡ loaded kind limit t
   unfolding loadedFrom
-  begin h = sym (ap (loadedFrom limit i (take i (entries t))) (items-at t at h)) ∙ w .rest
+  begin h = sym (ap (loadedFrom kind limit i (take i (entries t))) (items-at t at h)) ∙ w .rest
 
-  pub walk-full : at < length t → i ≡ limit → Refused 12 i ≡ loaded limit t
+  pub walk-full : at < length t → i ≡ limit → Refused 12 i ≡ loaded kind limit t
   unfolding numberOf
   walk-full h e = rw (eq-eqb i limit e) at (begin h)
 
-  pub walk-refused : (n : ℕ) → at < length t → (i ≡ limit → ⊥) → n ≡ numberOf (itemTests (take i (entries t)) (itemAt t at)) → (n ≡ 0 → ⊥) → Refused n i ≡ loaded limit t
+  pub walk-refused : (n : ℕ) → at < length t → (i ≡ limit → ⊥) → n ≡ numberOf (itemTests kind (take i (entries t)) (itemAt t at)) → (n ≡ 0 → ⊥) → Refused n i ≡ loaded kind limit t
   unfolding numberOf
-  walk-refused n h e q k = refused-by n i _ (loaded limit t) k (rw (ne-eqb i limit e, sym q) at (begin h))
+  walk-refused n h e q k = refused-by n i _ (loaded kind limit t) k (rw (ne-eqb i limit e, sym q) at (begin h))
 
-  pub walk-step : (n s : ℕ) → n ≡ numberOf (itemTests (take i (entries t)) (itemAt t at)) → n ≡ 0 → s ≡ sizeAt t at → (1 ≤ s) × (at + s ≤ length t)
-  walk-step n s q z y = size-inside t at s y (item-good (take i (entries t)) (itemAt t at) (sym q ∙ z))
+  pub walk-step : (n s : ℕ) → n ≡ numberOf (itemTests kind (take i (entries t)) (itemAt t at)) → n ≡ 0 → s ≡ sizeAt t at → (1 ≤ s) × (at + s ≤ length t)
+  walk-step n s q z y = size-inside t at s y (item-good kind (take i (entries t)) (itemAt t at) (sym q ∙ z))
 
   -- the entry that begins here is one more of those taken
-  pub walk-more : (n : ℕ) → n ≡ numberOf (itemTests (take i (entries t)) (itemAt t at)) → n ≡ 0 → take (i + 1) (entries t) ≡ take i (entries t) ++ (itemAt t at .entry ∷ [])
+  pub walk-more : (n : ℕ) → n ≡ numberOf (itemTests kind (take i (entries t)) (itemAt t at)) → n ≡ 0 → take (i + 1) (entries t) ≡ take i (entries t) ++ (itemAt t at .entry ∷ [])
   walk-more n q z =
       let b = take i (entries t) in
       let x = itemAt t at in
-      taken-more (entries t) b (entries (drop (at + size (getD t at 0)) t)) (x .entry) i (w .taken) (w .split ∙ ap (λ (m : List Entry). b ++ m) (entries-next t at (item-good b x (sym q ∙ z))))
+      taken-more (entries t) b (entries (drop (at + size (getD t at 0)) t)) (x .entry) i (w .taken) (w .split ∙ ap (λ (m : List Entry). b ++ m) (entries-next t at (item-good kind b x (sym q ∙ z))))
 
-  pub walk-next : (n s : ℕ) → at < length t → (i ≡ limit → ⊥) → n ≡ numberOf (itemTests (take i (entries t)) (itemAt t at)) → n ≡ 0 → s ≡ sizeAt t at → Walking t limit (at + s) (i + 1)
+  pub walk-next : (n s : ℕ) → at < length t → (i ≡ limit → ⊥) → n ≡ numberOf (itemTests kind (take i (entries t)) (itemAt t at)) → n ≡ 0 → s ≡ sizeAt t at → Walking t kind limit (at + s) (i + 1)
   unfolding numberOf
   walk-next n s h e q z y =
       let b = take i (entries t) in
       let x = itemAt t at in
-      let g = item-good b x (sym q ∙ z) in
+      let g = item-good kind b x (sym q ∙ z) in
       let l = walk-step n s q z y in
       let k = w .counted in
       let v : drop (at + size (getD t at 0)) t ≡ drop (at + s) t = ap (λ (m : ℕ). drop (at + m) t) (sym (size-sound t at s y g)) in
@@ -270,62 +305,62 @@ module _ {t : List ℕ} {limit at i : ℕ} (w : Walking t limit at i) where
         taken = ap length d ∙ length-append b (x .entry ∷ []) ∙ ap (λ (m : ℕ). m + 1) (w .taken);
         split = c ∙ sym (append-snoc b (x .entry) (entries (drop (at + s) t))) ∙ ap (λ (m : List Entry). m ++ entries (drop (at + s) t)) (sym d);
         rest =
-            (λ m. loadedFrom limit (i + 1) (d m) (cond (sym g m) (items 0 (sym v m)) []))
-            ∙ passed-by (numberOf (itemTests b x)) i _ (loaded limit t) (sym q ∙ z) (rw (ne-eqb i limit e) at (begin h));
+            (λ m. loadedFrom kind limit (i + 1) (d m) (cond (sym g m) (items 0 (sym v m)) []))
+            ∙ passed-by (numberOf (itemTests kind b x)) i _ (loaded kind limit t) (sym q ∙ z) (rw (ne-eqb i limit e) at (begin h));
       }
 
-  pub walk-done : length t ≤ at → Valid i ≡ loaded limit t
+  pub walk-done : length t ≤ at → Valid i ≡ loaded kind limit t
   unfolding loadedFrom
-  walk-done h = sym (ap (loadedFrom limit i (take i (entries t))) (items-end t at h)) ∙ w .rest
+  walk-done h = sym (ap (loadedFrom kind limit i (take i (entries t))) (items-end t at h)) ∙ w .rest
 
 -- the tests of one item
 
-module _ (before : List Entry) (x : Item) where
+module _ (kind : TableKind) (before : List Entry) (x : Item) where
   abbrev begins : List (Test ℕ)
-  begins = test 11 (not (x .kind-known)) ∷ test 10 (not (x .whole)) ∷ []
+  begins = test 11 (not (kindListed kind x)) ∷ test 10 (not (x .whole)) ∷ []
 
   abbrev goes-on : List (Test ℕ)
-  goes-on = entryTests (x .entry) ++ (test 17 (clashing (x .entry) before) ∷ [])
+  goes-on = entryTests kind (x .entry) ++ (test 17 (clashing (x .entry) before) ∷ [])
 
-  item-unknown : x .kind-known ≡ false → 11 ≡ numberOf (itemTests before x)
+  item-unknown : kindListed kind x ≡ false → 11 ≡ numberOf (itemTests kind before x)
   unfolding numberOf
   item-unknown h = rw h
 
-  item-cut : x .kind-known ≡ true → x .whole ≡ false → 10 ≡ numberOf (itemTests before x)
+  item-cut : kindListed kind x ≡ true → x .whole ≡ false → 10 ≡ numberOf (itemTests kind before x)
   unfolding numberOf
   item-cut h w = rw (h, w)
 
-  past-begin : x .kind-known ≡ true → x .whole ≡ true → numberOf goes-on ≡ numberOf (itemTests before x)
+  past-begin : kindListed kind x ≡ true → x .whole ≡ true → numberOf goes-on ≡ numberOf (itemTests kind before x)
   past-begin h w = sym (number-past begins goes-on (ap not h, (ap not w, tt)))
 
-  item-wrong : (e : Entry) (n : ℕ) → x .kind-known ≡ true → x .whole ≡ true → e ≡ x .entry → n ≡ numberOf (entryTests e) → (n ≡ 0 → ⊥) → n ≡ numberOf (itemTests before x)
+  item-wrong : (e : Entry) (n : ℕ) → kindListed kind x ≡ true → x .whole ≡ true → e ≡ x .entry → n ≡ numberOf (entryTests kind e) → (n ≡ 0 → ⊥) → n ≡ numberOf (itemTests kind before x)
   item-wrong e n h w q f k =
-      given (entryTests (x .entry)) (test 17 (clashing (x .entry) before) ∷ []) n (f ∙ ap (λ (y : Entry). numberOf (entryTests y)) q) k ∙ past-begin h w
+      given (entryTests kind (x .entry)) (test 17 (clashing (x .entry) before) ∷ []) n (f ∙ ap (λ (y : Entry). numberOf (entryTests kind y)) q) k ∙ past-begin h w
 
-  item-last : (e : Entry) (n : ℕ) (r b : Bool) → x .kind-known ≡ true → x .whole ≡ true → e ≡ x .entry → n ≡ numberOf (entryTests e) → n ≡ 0
-      → r ≡ clashing e before → r ≡ b → cond b 17 0 ≡ numberOf (itemTests before x)
+  item-last : (e : Entry) (n : ℕ) (r b : Bool) → kindListed kind x ≡ true → x .whole ≡ true → e ≡ x .entry → n ≡ numberOf (entryTests kind e) → n ≡ 0
+      → r ≡ clashing e before → r ≡ b → cond b 17 0 ≡ numberOf (itemTests kind before x)
   unfolding numberOf
   item-last e n r b h w q f z c d =
-      passing (entryTests (x .entry)) (test 17 (clashing (x .entry) before) ∷ []) n (cond b 17 0) refl (f ∙ ap (λ (y : Entry). numberOf (entryTests y)) q) z
+      passing (entryTests kind (x .entry)) (test 17 (clashing (x .entry) before) ∷ []) n (cond b 17 0) (entry-lacks kind (x .entry)) (f ∙ ap (λ (y : Entry). numberOf (entryTests kind y)) q) z
       (ap (λ (y : Bool). cond y 17 0) (sym d ∙ c ∙ ap (λ (y : Entry). clashing y before) q))
       ∙ past-begin h w
 
-module _ (t : List ℕ) (at : ℕ) (before : List Entry) where
-  pub number-unknown : (r : Bool) → r ≡ knownKind (getD t at 0) → r ≡ false → 11 ≡ numberOf (itemTests before (itemAt t at))
-  number-unknown r e h = item-unknown before (itemAt t at) (known-is t at r false e h)
+module _ (t : List ℕ) (at : ℕ) (kind : TableKind) (before : List Entry) where
+  pub number-unknown : (r : Bool) → r ≡ kindListed kind (item (getD t at 0 ∷ [])) → r ≡ false → 11 ≡ numberOf (itemTests kind before (itemAt t at))
+  number-unknown r e h = item-unknown kind before (itemAt t at) (listed-is t at kind r false e h)
 
-  pub number-cut : (r : Bool) (n : ℕ) → r ≡ knownKind (getD t at 0) → r ≡ true → n ≡ size (getD t at 0) → at < length t → length t - at < n → 10 ≡ numberOf (itemTests before (itemAt t at))
-  number-cut r n e h q k l = item-cut before (itemAt t at) (known-is t at r true e h) (sym (whole-is t at n q (omega arith)) ∙ lt-leb n (length t - at) l)
+  pub number-cut : (r : Bool) (n : ℕ) → r ≡ kindListed kind (item (getD t at 0 ∷ [])) → r ≡ true → n ≡ size (getD t at 0) → at < length t → length t - at < n → 10 ≡ numberOf (itemTests kind before (itemAt t at))
+  number-cut r n e h q k l = item-cut kind before (itemAt t at) (listed-is t at kind r true e h) (sym (whole-is t at n q (omega arith)) ∙ lt-leb n (length t - at) l)
 
 -- an entry e that is there whole, of a known kind
 
-module _ (t : List ℕ) (at : ℕ) (before : List Entry) (k : Bool) (s : ℕ) (e : Entry)
-    (ke : k ≡ knownKind (getD t at 0)) (kt : k ≡ true) (se : s ≡ size (getD t at 0)) (i : at < length t) (w : s ≤ length t - at) (ee : e ≡ entryOf (tail t at)) (n : ℕ) (ne : n ≡ numberOf (entryTests e)) where
+module _ (t : List ℕ) (at : ℕ) (kind : TableKind) (before : List Entry) (k : Bool) (s : ℕ) (e : Entry)
+    (ke : k ≡ kindListed kind (item (getD t at 0 ∷ []))) (kt : k ≡ true) (se : s ≡ size (getD t at 0)) (i : at < length t) (w : s ≤ length t - at) (ee : e ≡ entryOf (tail t at)) (n : ℕ) (ne : n ≡ numberOf (entryTests kind e)) where
   there-whole : itemAt t at .whole ≡ true
   there-whole = sym (whole-is t at s se (omega arith)) ∙ le-leb s (length t - at) w
 
-  pub number-wrong : (n ≡ 0 → ⊥) → n ≡ numberOf (itemTests before (itemAt t at))
-  number-wrong z = item-wrong before (itemAt t at) e n (known-is t at k true ke kt) there-whole (entry-at t at e ee) ne z
+  pub number-wrong : (n ≡ 0 → ⊥) → n ≡ numberOf (itemTests kind before (itemAt t at))
+  number-wrong z = item-wrong kind before (itemAt t at) e n (listed-is t at kind k true ke kt) there-whole (entry-at t at e ee) ne z
 
-  pub number-last : (r b : Bool) → n ≡ 0 → r ≡ clashing e before → r ≡ b → cond b 17 0 ≡ numberOf (itemTests before (itemAt t at))
-  number-last r b z c d = item-last before (itemAt t at) e n r b (known-is t at k true ke kt) there-whole (entry-at t at e ee) ne z c d
+  pub number-last : (r b : Bool) → n ≡ 0 → r ≡ clashing e before → r ≡ b → cond b 17 0 ≡ numberOf (itemTests kind before (itemAt t at))
+  number-last r b z c d = item-last kind before (itemAt t at) e n r b (listed-is t at kind k true ke kt) there-whole (entry-at t at e ee) ne z c d

@@ -1,19 +1,21 @@
 -- 17 exactly, as statements: document 01, "Key table (house bytes)" ("a table otherwise well formed is refused with 17 exactly if ..") and
 -- "Numbers given back" ("ID clash, at the later entry"); RFC 5925, section 3.1. LoadLaws proves them.
-use Prim.Native.Nat.{ℕ, _≤_, _<_}
+use Prim.Native.Nat.{ℕ, suc, _≤_, _<_}
 use mathlib.Core.Bool.{true, false}
 use mathlib.Core.Path.{_≡_}
 use mathlib.Core.List.{List, [], _∷_, _++_}
 use mathlib.Core.Logic.{_⊎_}
-use lib.ListN.{length}
+use lib.ListN.{length, take}
 use Rattle.octets.specs.Each.{Each, Octets}
 use Rattle.octets.specs.Tests.{Test}
-use Rattle.keys.specs.Entry.{Item, sound, items, entries}
+use Rattle.keys.specs.Entry.{Item, items, entries}
 use Rattle.keys.specs.Match.{matches}
 use Rattle.keys.specs.Places.{At}
-use Rattle.keys.specs.Table.{entryTests, loaded}
+use Rattle.keys.specs.Table.{kindListed, entryTests, loaded}
 use Rattle.keys.specs.declared.entry.Entry.{Entry}
 use Rattle.keys.specs.declared.entry.Pair.{Pair}
+use Rattle.keys.specs.declared.table.TableKind.{TableKind}
+use Rattle.keys.specs.declared.table.TableKind.the-variants.{Md5}
 use Rattle.keys.specs.declared.table.Loaded.the-variants.{Refused}
 
 abbrev pub Family : ℕ → Type 0
@@ -56,32 +58,37 @@ abbrev pub Passed : List (Test ℕ) → Type 0
 Passed [] = Unit {0}
 Passed (x ∷ l) = (x .applies ≡ false) × Passed l
 
--- an entry that by itself is given none of 13 to 16
-abbrev pub Formed : Entry → Type 0
-Formed e = Passed (entryTests e)
+-- an entry that by itself is given none of 13 to 16 in a table of the kind
+abbrev pub Formed : TableKind → Entry → Type 0
+Formed kind e = Passed (entryTests kind e)
 
--- every entry is whole and of a known kind
-abbrev pub Sound : List Item → Type 0
-Sound [] = Unit {0}
-Sound (x ∷ l) = (sound x ≡ true) × Sound l
+-- of an entry kind that the table has
+abbrev pub Listed : TableKind → Item → Type 0
+Listed kind x = kindListed kind x ≡ true
+
+-- every entry is whole and of a kind that the table has
+abbrev pub Sound : TableKind → List Item → Type 0
+Sound kind [] = Unit {0}
+Sound kind (x ∷ l) = Listed kind x × (x .whole ≡ true) × Sound kind l
 
 -- "a table otherwise well formed": none of 10 to 16 applies to any entry
-pub record WellFormed (limit : ℕ) (t : List ℕ) : Type 0 where
-  pub sound : Sound (items 0 t)
+pub record WellFormed (kind : TableKind) (limit : ℕ) (t : List ℕ) : Type 0 where
+  pub sound : Sound kind (items 0 t)
   pub few : length (entries t) ≤ limit
-  pub formed : Each Formed (entries t)
+  pub formed : Each (Formed kind) (entries t)
 
 -- 17 at the entry i: it and those before it are well formed, none of those before it are in conflict, and one of them is in conflict with
 -- it
-pub record ClashAt (limit : ℕ) (t : List ℕ) (i : ℕ) : Type 0 where
+pub record ClashAt (kind : TableKind) (limit : ℕ) (t : List ℕ) (i : ℕ) : Type 0 where
   pub before : List Entry
   pub entry : Entry
   pub after : List Entry
   pub split : entries t ≡ before ++ (entry ∷ after)
   pub index : length before ≡ i
   pub few : i < limit
-  pub formed : Each Formed before
-  pub itself : Formed entry
+  pub listed : Each (Listed kind) (take (suc i) (items 0 t))
+  pub formed : Each (Formed kind) before
+  pub itself : Formed kind entry
   pub apart : NoConflict before
   pub place : ℕ
   pub other : Entry
@@ -90,15 +97,36 @@ pub record ClashAt (limit : ℕ) (t : List ℕ) (i : ℕ) : Type 0 where
 
 -- "ID clash, at the later entry", exactly
 abbrev pub RefusedClash : Type 0
-RefusedClash = (limit i : ℕ) (t : List ℕ) → Octets t → loaded limit t ≡ Refused 17 i → ClashAt limit t i
+RefusedClash = (kind : TableKind) (limit i : ℕ) (t : List ℕ) → Octets t → loaded kind limit t ≡ Refused 17 i → ClashAt kind limit t i
 
 abbrev pub ClashRefused : Type 0
-ClashRefused = (limit i : ℕ) (t : List ℕ) → Octets t → ClashAt limit t i → loaded limit t ≡ Refused 17 i
+ClashRefused = (kind : TableKind) (limit i : ℕ) (t : List ℕ) → Octets t → ClashAt kind limit t i → loaded kind limit t ≡ Refused 17 i
 
 -- "a table otherwise well formed is refused with 17 exactly if a socket pair exists that two entries both match while they share SendID or
 -- share RecvID"
 abbrev pub RefusedConflicting : Type 0
-RefusedConflicting = (limit i : ℕ) (t : List ℕ) → Octets t → loaded limit t ≡ Refused 17 i → Conflicting (entries t)
+RefusedConflicting = (kind : TableKind) (limit i : ℕ) (t : List ℕ) → Octets t → loaded kind limit t ≡ Refused 17 i → Conflicting (entries t)
 
 abbrev pub ConflictingRefused : Type 0
-ConflictingRefused = (limit : ℕ) (t : List ℕ) → WellFormed limit t → Conflicting (entries t) → (i : ℕ) × (loaded limit t ≡ Refused 17 i)
+ConflictingRefused = (kind : TableKind) (limit : ℕ) (t : List ℕ) → WellFormed kind limit t → Conflicting (entries t)
+    → (i : ℕ) × (loaded kind limit t ≡ Refused 17 i)
+
+-- document 02, Ticket 9, of the MD5 table: "17 if two entries match one pair"
+pub record BothMatch (l : List Entry) : Type 0 where
+  pub earlier : ℕ
+  pub later : ℕ
+  pub one : Entry
+  pub two : Entry
+  pub at-earlier : At l earlier one
+  pub at-later : At l later two
+  pub order : earlier < later
+  pub pair : Pair
+  pub is-pair : IsPair pair
+  pub first : matches (one .selector) pair ≡ true
+  pub second : matches (two .selector) pair ≡ true
+
+abbrev pub Md5RefusedBoth : Type 0
+Md5RefusedBoth = (limit i : ℕ) (t : List ℕ) → Octets t → loaded Md5 limit t ≡ Refused 17 i → BothMatch (entries t)
+
+abbrev pub Md5BothRefused : Type 0
+Md5BothRefused = (limit : ℕ) (t : List ℕ) → WellFormed Md5 limit t → BothMatch (entries t) → (i : ℕ) × (loaded Md5 limit t ≡ Refused 17 i)

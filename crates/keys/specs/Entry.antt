@@ -1,5 +1,5 @@
--- What the table's bytes mean: document 01, "Key table (house bytes)", and document 02, Tickets 4 and 10. A later kind of entry moves
--- this file.
+-- What a table's bytes mean, the key table's or the MD5 table's: document 01, "Key table (house bytes)", and document 02, Tickets 4, 9
+-- and 10. A later kind of entry moves this file.
 -- Any list of bytes has a meaning: a byte that is not there counts as 0, and the numbers 10 to 17 (specs/Table.antt) say what is refused.
 use Prim.Native.Nat.{ℕ, zero, suc, _+_, _*_, _-_, _/_, _%_}
 use mathlib.Core.Bool.{Bool, cond, _&&_, _||_}
@@ -103,10 +103,11 @@ remoteHidden s = eqb (s .flags / 4 % 2) 1
 abbrev pub keyOf : Secret → List ℕ
 keyOf s = take (s .«key_len») (s .key)
 
--- what begins at some byte of the table, whose bytes from there on are s: whether its kind is known, whether it is there whole, and the
--- entry that it then is
+-- what begins at some byte of the table, whose bytes from there on are s: whether its kind is known, whether it is 5 or 7, whether it is
+-- there whole, and the entry that it then is
 pub record Item : Type 0 where
   pub kind-known : Bool
+  pub extended : Bool
   pub whole : Bool
   pub entry : Entry
 
@@ -114,6 +115,7 @@ unfoldable pub item : List ℕ → Item
 item s =
     record {
       kind-known = knownKind (getD s 0 0);
+      extended = eqb (extra (getD s 0 0)) 1;
       whole = leb (size (getD s 0 0)) (length s);
       entry = entryOf s;
     }

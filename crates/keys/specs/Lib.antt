@@ -6,10 +6,10 @@ pub mod MatchLaws
 pub mod Table
 pub mod Places
 pub mod Clash
-pub mod Search
 pub mod FaultLaws
 pub mod PlaceLaws
 pub mod LoadLaws
-pub mod SearchLaws
+pub mod FormedLaws
+pub mod FoundLaws
 pub mod Mirror
 pub mod MirrorLaws

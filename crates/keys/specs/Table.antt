@@ -1,27 +1,30 @@
--- What the list of entries answers: the numbers 10 to 17 with the entry's index, and the searches. Document 01, "Key table (house bytes)"
--- and "Numbers given back".
+-- What a list of entries answers, of the key table or of the MD5 table: the numbers 10 to 17 with the entry's index, and the searches.
+-- Document 01, "Key table (house bytes)" and "Numbers given back"; document 02, Ticket 9: "with a table of its own in a form that you
+-- document, under refusals 10 to 17". The MD5 table has the key table's entry bytes.
 -- Nothing here reads bytes: specs/Entry.antt says what they mean.
 use Prim.Native.Nat.{ℕ, zero, suc, _+_, _*_}
 use mathlib.Core.Bool.{Bool, true, false, cond, not, _&&_, _||_}
-use mathlib.Core.Path.{_≡_}
 use mathlib.Core.List.{List, [], _∷_, _++_}
 use lib.ListN.{drop, replicate}
 use lib.Dec.{ltb, eqb}
 use Rattle.octets.specs.Tests.{Test, test, first}
 use Rattle.wire.specs.Prefix.{clearPast}
-use Rattle.keys.specs.Entry.{width, Item, items, entries}
-use Rattle.keys.specs.Match.{matches, clash}
+use Rattle.keys.specs.Entry.{width, Item, items}
+use Rattle.keys.specs.Match.{matches, overlap, clash}
 use Rattle.keys.specs.declared.entry.Side.{Side}
 use Rattle.keys.specs.declared.entry.Selector.{Selector}
 use Rattle.keys.specs.declared.entry.Ids.{Ids}
 use Rattle.keys.specs.declared.entry.Secret.{Secret}
 use Rattle.keys.specs.declared.entry.Entry.{Entry}
 use Rattle.keys.specs.declared.entry.Pair.{Pair}
+use Rattle.keys.specs.declared.table.TableKind.{TableKind}
+use Rattle.keys.specs.declared.table.TableKind.the-variants.{Keys, Md5}
 use Rattle.keys.specs.declared.table.Loaded.{Loaded}
 use Rattle.keys.specs.declared.table.Loaded.the-variants.{Valid, Refused}
 use Rattle.keys.specs.declared.table.By.{By}
 use Rattle.keys.specs.declared.table.By.the-variants.{Any, Send, Recv}
 use Rattle.keys.specs.declared.table.Found.{Found}
+use Rattle.keys.specs.declared.table.Meeting.{Meeting}
 
 -- "The first that applies, in this order, is given"; 0 if none does
 unfoldable pub numberOf : List (Test ℕ) → ℕ
@@ -54,10 +57,21 @@ abbrev pub masterKeyTests : Secret → List (Test ℕ)
 masterKeyTests s =
     test 16 (ltb (s .«key_len») 1) ∷ test 16 (ltb 80 (s .«key_len»)) ∷ test 16 (not (zeros (drop (s .«key_len») (s .key)))) ∷ []
 
+-- 13 of the MD5 table: flags 0, algorithm 19, SendID 0 and RecvID 0 are listed. So two of its entries share their IDs, and 17 is what
+-- document 02 says: "17 if two entries match one pair".
+abbrev pub md5Tests : Secret → Ids → List (Test ℕ)
+md5Tests s i =
+    test 13 (ltb 0 (s .flags)) ∷ test 13 (not (eqb (s .algorithm) 19)) ∷ test 13 (ltb 0 (i .send)) ∷ test 13 (ltb 0 (i .recv)) ∷ []
+
+-- 13, by the kind of table
+abbrev pub listedTests : TableKind → Entry → List (Test ℕ)
+listedTests Keys e = secretTests (e .secret)
+listedTests Md5 e = md5Tests (e .secret) (e .ids)
+
 -- what is wrong with an entry by itself
-abbrev pub entryTests : Entry → List (Test ℕ)
-entryTests e =
-    secretTests (e .secret)
+abbrev pub entryTests : TableKind → Entry → List (Test ℕ)
+entryTests kind e =
+    listedTests kind e
     ++ (portRangeTests (e .selector)
     ++ (sideTests (e .selector .family) (e .selector .local)
     ++ (sideTests (e .selector .family) (e .selector .remote)
@@ -68,17 +82,22 @@ unfoldable pub clashing : Entry → List Entry → Bool
 clashing e [] = false
 clashing e (f ∷ l) = clash f e || clashing e l
 
+-- the kinds of entries that a kind of table has: the MD5 table 4 and 6 alone
+abbrev pub kindListed : TableKind → Item → Bool
+kindListed Keys x = x .kind-known
+kindListed Md5 x = x .kind-known && not (x .extended)
+
 -- 11, 10: "unknown kind; entry cut"; then the entry by itself
-abbrev pub ownTests : Item → List (Test ℕ)
-ownTests x = test 11 (not (x .kind-known)) ∷ test 10 (not (x .whole)) ∷ entryTests (x .entry)
+abbrev pub ownTests : TableKind → Item → List (Test ℕ)
+ownTests kind x = test 11 (not (kindListed kind x)) ∷ test 10 (not (x .whole)) ∷ entryTests kind (x .entry)
 
 -- 17: "ID clash, at the later entry"
-abbrev pub itemTests : List Entry → Item → List (Test ℕ)
-itemTests before x = ownTests x ++ (test 17 (clashing (x .entry) before) ∷ [])
+abbrev pub itemTests : TableKind → List Entry → Item → List (Test ℕ)
+itemTests kind before x = ownTests kind x ++ (test 17 (clashing (x .entry) before) ∷ [])
 
 -- 12 before all: "a 65th entry begins"
-abbrev pub loadTests : ℕ → ℕ → List Entry → Item → List (Test ℕ)
-loadTests limit i before x = test 12 (eqb i limit) ∷ itemTests before x
+abbrev pub loadTests : TableKind → ℕ → ℕ → List Entry → Item → List (Test ℕ)
+loadTests kind limit i before x = test 12 (eqb i limit) ∷ itemTests kind before x
 
 -- a number that is given refuses the table at the index; where it is 0, what follows decides
 abbrev pub refusing : ℕ → ℕ → Loaded → Loaded
@@ -86,28 +105,13 @@ refusing zero i o = o
 refusing (suc n) i o = Refused (suc n) i
 
 -- "table entries are taken one after another, each through to 17 against those before it, with the entry's index from 0"
-unfoldable pub loadedFrom : ℕ → ℕ → List Entry → List Item → Loaded
-loadedFrom limit i before [] = Valid i
-loadedFrom limit i before (x ∷ l) =
-    refusing (numberOf (loadTests limit i before x)) i (loadedFrom limit (i + 1) (before ++ (x .entry ∷ [])) l)
+unfoldable pub loadedFrom : TableKind → ℕ → ℕ → List Entry → List Item → Loaded
+loadedFrom kind limit i before [] = Valid i
+loadedFrom kind limit i before (x ∷ l) =
+    refusing (numberOf (loadTests kind limit i before x)) i (loadedFrom kind limit (i + 1) (before ++ (x .entry ∷ [])) l)
 
-unfoldable pub loaded : ℕ → List ℕ → Loaded
-loaded limit t = loadedFrom limit 0 [] (items 0 t)
-
--- "At most 64 entries; none is allowed."
-abbrev pub maxEntries : ℕ
-maxEntries = 64
-
--- what the calls take of keys, and ask by the names below alone: today a table's bytes
-abbrev pub Tables : Type 0
-Tables = List ℕ
-
-abbrev pub checked : Tables → Loaded
-checked t = loaded maxEntries t
-
--- "A table is valid if it gives none of 10 to 17."
-abbrev pub ValidTable : Tables → Type 0
-ValidTable t = (n : ℕ) × (checked t ≡ Valid n)
+unfoldable pub loaded : TableKind → ℕ → List ℕ → Loaded
+loaded kind limit t = loadedFrom kind limit 0 [] (items 0 t)
 
 -- nothing found: every field is zero
 abbrev pub noSide : Side
@@ -126,10 +130,14 @@ nobody =
           };
     }
 
+-- the entry e, found at the place i
+abbrev pub hit : ℕ → Entry → Found
+hit i e = record { there = true; index = i; entry = e }
+
 -- the first entry that passes a test; the list's first has the index i
 unfoldable pub found : (Entry → Bool) → ℕ → List Entry → Found
 found passes i [] = nobody
-found passes i (e ∷ l) = cond (passes e) (record { there = true; index = i; entry = e }) (found passes (i + 1) l)
+found passes i (e ∷ l) = cond (passes e) (hit i e) (found passes (i + 1) l)
 
 unfoldable pub anyOf : (Entry → Bool) → List Entry → Bool
 anyOf passes [] = false
@@ -144,12 +152,14 @@ hasId (Recv id) i = eqb (i .recv) id
 unfoldable pub answers : By → Pair → Entry → Bool
 answers by p e = hasId by (e .ids) && matches (e .selector) p
 
-abbrev pub sendEntry : Tables → Pair → ℕ → Found
-sendEntry t p id = found (answers (Send id) p) 0 (entries t)
+-- an entry matches some pair that a selector matches too
+abbrev pub meets : Selector → Entry → Bool
+meets s e = overlap (e .selector) s
 
-abbrev pub recvEntry : Tables → Pair → ℕ → Found
-recvEntry t p id = found (answers (Recv id) p) 0 (entries t)
+-- some entry of a list does, of an entry's selector
+unfoldable pub meetsAny : List Entry → Entry → Bool
+meetsAny l e = anyOf (meets (e .selector)) l
 
--- "if any entry matches the pair"
-abbrev pub anyEntry : Tables → Pair → Bool
-anyEntry t p = anyOf (answers Any p) (entries t)
+-- whether a search found anything, and where
+abbrev pub placeOf : Found → Meeting
+placeOf f = record { there = f .there; index = f .index }

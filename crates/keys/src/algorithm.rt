@@ -37,6 +37,13 @@ impl HmacSha256 {
     pub const OUTPUT_BITS: u16 = 256;
 }
 
+// Algorithm 19, of the MD5 table alone: TCP MD5, which has no traffic keys.
+pub struct TcpMd5;
+
+impl TcpMd5 {
+    pub const MAC_BYTES: usize = 16;
+}
+
 pub fn traffic_key_bytes(algorithm: u8) -> usize
     ensures number { λ r. ⌜ r ≡ trafficKeyBytes algorithm ⌝ }
     ensures first { λ _. do ⌜ (← ⟦HmacSha1_96::TRAFFIC_KEY_BYTES⟧ .entry) ≡ trafficKeyBytes 1 ⌝ }
@@ -57,11 +64,13 @@ pub fn mac_bytes(algorithm: u8) -> u8
     ensures first { λ _. do ⌜ (← ⟦HmacSha1_96::MAC_BYTES⟧ .entry) ≡ macBytes 1 ⌝ }
     ensures second { λ _. do ⌜ (← ⟦Aes128Cmac96::MAC_BYTES⟧ .entry) ≡ macBytes 2 ⌝ }
     ensures third { λ _. do ⌜ (← ⟦HmacSha256::MAC_BYTES⟧ .entry) ≡ macBytes 3 ⌝ }
+    ensures md5 { λ _. do ⌜ (← ⟦TcpMd5::MAC_BYTES⟧ .entry) ≡ macBytes 19 ⌝ }
 {
     match algorithm {
         1 => HmacSha1_96::MAC_BYTES as u8,
         2 => Aes128Cmac96::MAC_BYTES as u8,
         3 => HmacSha256::MAC_BYTES as u8,
+        19 => TcpMd5::MAC_BYTES as u8,
         _ => 0,
     }
 }

@@ -1,10 +1,11 @@
-// One entry of the key table (an MKT of RFC 5925, section 3.1), by value and read from its bytes: document 01, "Key table (house bytes)",
-// and document 02, Tickets 4 and 10.
+// One entry of either table (of the key table, an MKT of RFC 5925, section 3.1), by value and read from its bytes: document 01, "Key table
+// (house bytes)", and document 02, Tickets 4, 9 and 10.
 // The functions here ask that the entry is there whole; the walks of table.rt see to it.
-ghost use mathlib.Core.Bool.{true};
+ghost use mathlib.Core.Bool.{true, not, _&&_};
 ghost use mathlib.Core.Path.{_≡_};
 ghost use Prim.Native.Nat.{_+_, _*_, _≤_};
 ghost use lib.ListN.{length, take, drop, getD};
+ghost use lib.Dec.{eqb};
 ghost use Rattle.keys.specs.Entry.{knownKind, familyOf, extra, size, width, padded, sideOf, selectorOf, idsOf};
 ghost use Rattle.keys.specs.Entry.{sidesEnd, macLength, secretOf, entryOf};
 
@@ -69,6 +70,16 @@ fn extra_of(kind: u8) -> u8
     ensures { λ r. ⌜ r ≡ extra kind ⌝ }
 {
     kind % 2
+}
+
+// Kinds 4 and 6.
+pub(crate) fn plain_kind(kind: u8) -> bool
+    ensures { λ r. ⌜ r ≡ (knownKind kind && not (eqb (extra kind) 1)) ⌝ }
+{
+    if !known_kind(kind) {
+        return false;
+    }
+    extra_of(kind) != 1
 }
 
 // Kinds 4 and 5 are IPv4's, 6 and 7 IPv6's.

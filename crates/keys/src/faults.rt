@@ -3,11 +3,14 @@
 ghost use mathlib.Core.Path.{_≡_};
 ghost use mathlib.Core.List.{_++_};
 ghost use lib.ListN.{drop};
-ghost use Rattle.keys.specs.Table.{numberOf, zeros, secretTests, portRangeTests, sideTests, masterKeyTests, entryTests};
+ghost use Rattle.keys.specs.Table.{numberOf, zeros, secretTests, md5Tests, listedTests, portRangeTests, sideTests, masterKeyTests};
+ghost use Rattle.keys.specs.Table.{entryTests};
 use crate::entry::Entry;
+use crate::entry::Ids;
 use crate::entry::Secret;
 use crate::entry::Selector;
 use crate::entry::Side;
+use crate::table::TableKind;
 
 fn secret_number(s: Secret) -> u8
     ensures { λ r. ⌜ r ≡ numberOf (secretTests s) ⌝ }
@@ -96,10 +99,38 @@ fn sides_number(s: Selector) -> u8
     side_number(s.family, s.remote)
 }
 
-pub(crate) fn entry_number(e: Entry) -> u8
-    ensures { λ r. ⌜ r ≡ numberOf (entryTests e) ⌝ }
+// 13 of an entry of the MD5 table.
+fn md5_number(s: Secret, ids: Ids) -> u8
+    ensures { λ r. ⌜ r ≡ numberOf (md5Tests s ids) ⌝ }
 {
-    let a = secret_number(e.secret);
+    if 0 < s.flags {
+        return 13;
+    }
+    if s.algorithm != 19 {
+        return 13;
+    }
+    if 0 < ids.send {
+        return 13;
+    }
+    if 0 < ids.recv {
+        return 13;
+    }
+    0
+}
+
+fn listed_number(kind: TableKind, e: Entry) -> u8
+    ensures { λ r. ⌜ r ≡ numberOf (listedTests kind e) ⌝ }
+{
+    match kind {
+        TableKind::Keys => secret_number(e.secret),
+        TableKind::Md5 => md5_number(e.secret, e.ids),
+    }
+}
+
+pub(crate) fn entry_number(kind: TableKind, e: Entry) -> u8
+    ensures { λ r. ⌜ r ≡ numberOf (entryTests kind e) ⌝ }
+{
+    let a = listed_number(kind, e);
     if a != 0 {
         return a;
     }

@@ -7,7 +7,7 @@ ghost use lib.Dec.{leb};
 ghost use Rattle.octets.specs.Octets.{get16};
 ghost use Rattle.wire.specs.Prefix.{agree};
 ghost use Rattle.keys.specs.Entry.{size, width, padded, selectorOf};
-ghost use Rattle.keys.specs.Match.{fixed, holds, matches as matchesOf, overlap, share};
+ghost use Rattle.keys.specs.Match.{fixed, holds, matches as matchesOf, meet, overlap, share};
 use crate::entry::Ids;
 use crate::entry::Pair;
 use crate::entry::Selector;
@@ -116,6 +116,36 @@ pub(crate) fn overlaps(e: &[u8], b: Selector) -> bool
         return false;
     }
     addresses_meet(e, family, 13, b.local)
+}
+
+// Whether two sides have a port and an address in common.
+fn sides_meet(family: u8, a: Side, b: Side) -> bool
+    ensures { λ r. ⌜ r ≡ meet family a b ⌝ }
+{
+    let low = larger(a.low, b.low);
+    let high = smaller(a.high, b.high);
+    if high < low {
+        return false;
+    }
+    let x = a.address;
+    let y = b.address;
+    let p = fixed_bits(family, a.bits);
+    let n = shorter(p, fixed_bits(family, b.bits));
+    wire::prefix::agrees(&x, &y, n)
+}
+
+// `overlaps` of two selectors by value, for entries of two tables. The loader has `overlaps` to itself: with a second caller the compiler
+// no longer takes it into the loader's loop, which then is half as fast again.
+pub(crate) fn selectors_overlap(a: Selector, b: Selector) -> bool
+    ensures { λ r. ⌜ r ≡ overlap a b ⌝ }
+{
+    if a.family != b.family {
+        return false;
+    }
+    if !sides_meet(a.family, a.remote, b.remote) {
+        return false;
+    }
+    sides_meet(a.family, a.local, b.local)
 }
 
 pub(crate) fn shares(a: Ids, b: Ids) -> bool

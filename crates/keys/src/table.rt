@@ -1,15 +1,16 @@
-// The key table as a whole: the loader with its numbers 10 to 17, and the searches. Document 01, "Key table (house bytes)" and
-// "Numbers given back".
+// A table as a whole, the key table or the MD5 table: the loader with its numbers 10 to 17, and the searches. Document 01, "Key table
+// (house bytes)" and "Numbers given back"; document 02, Ticket 9.
 // Any bytes are a table. Entries before another are read again from their bytes, their IDs first, so that no array of them is kept.
 ghost use mathlib.Core.Path.{_≡_};
 ghost use mathlib.Core.Bool.{cond, _&&_};
+ghost use mathlib.Core.List.{[], _∷_};
 ghost use Prim.Native.Nat.{_+_, _≤_, _<_};
 ghost use lib.ListN.{length, take, getD};
 ghost use lib.Dec.{eqb};
-ghost use Rattle.keys.specs.Entry.{size, itemAt, sound, entries};
+ghost use Rattle.keys.specs.Entry.{size, item, itemAt, sound, entries};
 ghost use Rattle.keys.specs.Match.{share, overlap};
-ghost use Rattle.keys.specs.Table.{numberOf, itemTests, clashing, loaded, checked};
-ghost use Rattle.keys.specs.Table.{nobody, found, hasId, answers, sendEntry, recvEntry, anyEntry};
+ghost use Rattle.keys.specs.Table.{numberOf, kindListed, itemTests, clashing, loaded};
+ghost use Rattle.keys.specs.Table.{nobody, found, anyOf, hasId, answers, meets, meetsAny, placeOf};
 use crate::entry::Entry;
 use crate::entry::Ids;
 use crate::entry::Pair;
@@ -19,12 +20,16 @@ use crate::entry::Side;
 use crate::entry::entry_of;
 use crate::entry::ids_of;
 use crate::entry::known_kind;
+use crate::entry::plain_kind;
 use crate::entry::selector_of;
 use crate::entry::size_of;
 use wire::bytes::byte_at;
 
-// "At most 64 entries".
-pub const MAX_ENTRIES: usize = 64;
+// Which table: document 01's, or document 02's of RFC 2385, whose entries are of kinds 4 and 6, with flags 0, algorithm 19 and both IDs 0.
+pub enum TableKind {
+    Keys,
+    Md5,
+}
 
 // What the loader answers: the table is valid and has so many entries, or it is refused with a number at the entry of an index.
 pub enum Loaded {
@@ -44,6 +49,12 @@ pub struct Found {
     pub there: bool,
     pub index: usize,
     pub entry: Entry,
+}
+
+// What a search by another table's entries answers. Where nothing is there, the index is 0.
+pub struct Meeting {
+    pub there: bool,
+    pub index: usize,
 }
 
 // How many bytes the entry at `at` has; 0 where none of a known kind begins there or it is not there whole.
@@ -96,20 +107,30 @@ fn clashes_before(table: &[u8], i: usize, e: Entry) -> bool
     false
 }
 
-// The number, 11 or 10 and on to 17, of what begins at `at`, where the first i entries are compared with it; 0 if none applies.
-fn number_at(table: &[u8], at: usize, i: usize) -> u8
-    requires { ⌜ at < length (now table) ⌝ }
-    ensures { λ r. ⌜ r ≡ numberOf (itemTests (take i (entries (now (table .entry)))) (itemAt (now (table .entry)) at)) ⌝ }
+// Whether a table of the kind has entries that begin with this byte: an MD5 table has none of kinds 5 and 7.
+fn kind_listed(kind: TableKind, first: u8) -> bool
+    ensures { λ r. ⌜ r ≡ kindListed kind (item (first ∷ [])) ⌝ }
 {
-    let kind = table[at];
-    if !known_kind(kind) {
+    match kind {
+        TableKind::Keys => known_kind(first),
+        TableKind::Md5 => plain_kind(first),
+    }
+}
+
+// The number, 11 or 10 and on to 17, of what begins at `at`, where the first i entries are compared with it; 0 if none applies.
+fn number_at(table: &[u8], at: usize, i: usize, kind: TableKind) -> u8
+    requires { ⌜ at < length (now table) ⌝ }
+    ensures { λ r. ⌜ r ≡ numberOf (itemTests kind (take i (entries (now (table .entry)))) (itemAt (now (table .entry)) at)) ⌝ }
+{
+    let first = table[at];
+    if !kind_listed(kind, first) {
         return 11;
     }
-    if table.len() - at < size_of(kind) {
+    if table.len() - at < size_of(first) {
         return 10;
     }
     let e = entry_of(&table[at..]);
-    let n = crate::faults::entry_number(e);
+    let n = crate::faults::entry_number(kind, e);
     if n != 0 {
         return n;
     }
@@ -145,8 +166,8 @@ fn to_compare(sends: &[u8; 256], recvs: &[u8; 256], ids: Ids, i: usize) -> usize
 
 // The table's answer where so many entries are allowed. The SendIDs and RecvIDs of the entries passed are marked: an entry that
 // shares neither clashes with none of them.
-pub fn load(table: &[u8], limit: usize) -> Loaded
-    ensures { λ r. ⌜ r ≡ loaded limit (now (table .entry)) ⌝ }
+pub fn load(table: &[u8], limit: usize, kind: TableKind) -> Loaded
+    ensures { λ r. ⌜ r ≡ loaded kind limit (now (table .entry)) ⌝ }
 {
     let mut sends = [0u8; 256];
     let mut recvs = [0u8; 256];
@@ -157,7 +178,7 @@ pub fn load(table: &[u8], limit: usize) -> Loaded
             return Loaded::Refused(12, i);
         }
         let ids = ids_at(table, at);
-        let n = number_at(table, at, to_compare(&sends, &recvs, ids, i));
+        let n = number_at(table, at, to_compare(&sends, &recvs, ids, i), kind);
         if n != 0 {
             return Loaded::Refused(n, i);
         }
@@ -167,12 +188,6 @@ pub fn load(table: &[u8], limit: usize) -> Loaded
         i += 1;
     }
     Loaded::Valid(i)
-}
-
-pub fn check(table: &[u8]) -> Loaded
-    ensures { λ r. ⌜ r ≡ checked (now (table .entry)) ⌝ }
-{
-    load(table, MAX_ENTRIES)
 }
 
 fn has_id(by: By, ids: Ids) -> bool
@@ -233,7 +248,7 @@ fn nothing() -> Found
 }
 
 // The first entry that answers.
-fn find(table: &[u8], pair: Pair, by: By) -> Found
+pub fn find(table: &[u8], pair: Pair, by: By) -> Found
     ensures { λ r. ⌜ r ≡ found (answers by pair) 0 (entries (now (table .entry))) ⌝ }
 {
     let mut at: usize = 0;
@@ -256,20 +271,49 @@ fn find(table: &[u8], pair: Pair, by: By) -> Found
     nothing()
 }
 
-pub fn find_send(table: &[u8], pair: Pair, id: u8) -> Found
-    ensures { λ r. ⌜ r ≡ sendEntry (now (table .entry)) pair id ⌝ }
+// Whether some entry matches a pair that the selector matches too.
+fn meets_any(table: &[u8], s: Selector) -> bool
+    ensures { λ r. ⌜ r ≡ anyOf (meets s) (entries (now (table .entry))) ⌝ }
 {
-    find(table, pair, By::Send(id))
+    let mut at: usize = 0;
+    while at < table.len() {
+        let n = size_at(table, at);
+        if n == 0 {
+            return false;
+        }
+        if crate::matching::selectors_overlap(selector_of(&table[at..]), s) {
+            return true;
+        }
+        at = at + n;
+    }
+    false
 }
 
-pub fn find_recv(table: &[u8], pair: Pair, id: u8) -> Found
-    ensures { λ r. ⌜ r ≡ recvEntry (now (table .entry)) pair id ⌝ }
+// The first entry of `table` that matches a pair which some entry of `others` matches too.
+pub fn find_meeting(table: &[u8], others: &[u8]) -> Meeting
+    ensures { λ r. ⌜ r ≡ placeOf (found (meetsAny (entries (now (others .entry)))) 0 (entries (now (table .entry)))) ⌝ }
 {
-    find(table, pair, By::Recv(id))
-}
-
-pub fn any_match(table: &[u8], pair: Pair) -> bool
-    ensures { λ r. ⌜ r ≡ anyEntry (now (table .entry)) pair ⌝ }
-{
-    find(table, pair, By::Any).there
+    let mut at: usize = 0;
+    let mut i: usize = 0;
+    while at < table.len() {
+        let n = size_at(table, at);
+        if n == 0 {
+            return Meeting {
+                there: false,
+                index: 0,
+            };
+        }
+        if meets_any(others, selector_of(&table[at..])) {
+            return Meeting {
+                there: true,
+                index: i,
+            };
+        }
+        at = at + n;
+        i += 1;
+    }
+    Meeting {
+        there: false,
+        index: 0,
+    }
 }

@@ -8,8 +8,8 @@ use native.Mathlib.Omega.{arith}
 use lib.Dec.{T}
 use lib.Bits.{bitXor, xor-lt}
 use lib.ListN.{getD}
+use Rattle.compression.specs.TableLaws.{agree, each}
 use Rattle.mac.specs.Aes.{xtime, inverse, affineFrom, affine, sbox, mixed, mixColumn, addWord}
-use Rattle.mac.specs.AesLaws.{agree, each}
 use Rattle.mac.specs.AesWords.{bytes, multiples, rotated, Mixing}
 use Rattle.mac.proofs.Xor.{around}
 use Rattle.mac.proofs.WordBytes.{pack, pack-bytes, xor-of}

@@ -1,17 +1,12 @@
 -- The list of the values of f at 0, 1, 2 .., written out: its element i is f i. Assumes nothing.
-use mathlib.Core.Path.{_≡_, refl, sym, _∙_, ap}
-use mathlib.Core.List.{List, [], _∷_, map}
-use Prim.Native.Nat.{ℕ, zero, suc, _<_}
+use mathlib.Core.Path.{_≡_, sym, _∙_, ap}
+use mathlib.Core.List.{List, map}
+use Prim.Native.Nat.{ℕ, _<_}
 use native.Mathlib.Omega.{arith}
 use lib.Dec.{T}
 use lib.ListN.{length, getD, length-map}
 use lib.Seq.{ext-getD}
-use Rattle.mac.specs.AesLaws.{agree, each}
-
-getD-map : {A : Type 0} (d : A) (f : ℕ → A) (l : List ℕ) (i : ℕ) → i < length l → getD (map f l) i d ≡ f (getD l i 0)
-getD-map d f [] i h = absurd (omega arith)
-getD-map d f (x ∷ l) zero h = refl
-getD-map d f (x ∷ l) (suc i) h = getD-map d f l i (omega arith)
+use Rattle.compression.specs.TableLaws.{agree, each, getD-map}
 
 -- the test that l is 0, 1, 2 .. computes where l is written out
 abbrev pub Places : List ℕ → Type 0

@@ -10,20 +10,23 @@ use Rattle.mac.specs.Blocks.{hash, finished, View}
 use Rattle.mac.specs.BlocksLaws.{digest-all}
 use Rattle.mac.specs.Sha1Laws as sha1
 use Rattle.mac.specs.Sha256Laws as sha256
+use Rattle.mac.specs.Md5Laws as md5
 use Rattle.mac.specs.Hmac.{filled}
 use Rattle.mac.specs.HmacLaws.{Short}
 use Rattle.mac.specs.HashContexts.{partsOf, digestBytes, digestRoom}
 use Rattle.mac.specs.declared.hash_algorithm.HashAlgorithm.{HashAlgorithm}
-use Rattle.mac.specs.declared.hash_algorithm.HashAlgorithm.the-variants.{Sha1, Sha256}
+use Rattle.mac.specs.declared.hash_algorithm.HashAlgorithm.the-variants.{Sha1, Sha256, Md5}
 
 -- A digest has its bytes, so it fits in the room and in a block.
 pub length-digest : (a : HashAlgorithm) (h : List ℕ) → length (partsOf a .digest h) ≡ digestBytes a
 length-digest Sha1 h = sha1.length-digest h
 length-digest Sha256 h = sha256.length-digest h
+length-digest Md5 h = md5.length-digest h
 
 pub in-room : (a : HashAlgorithm) → digestBytes a ≤ digestRoom
 in-room Sha1 = omega arith
 in-room Sha256 = omega arith
+in-room Md5 = omega arith
 
 pub short : (a : HashAlgorithm) → Short (partsOf a)
 short a h = omega (arith, length-digest a h, in-room a)

@@ -1,4 +1,4 @@
-// A hash of FIPS 180-4 of a message that comes in pieces, and of a whole one. The definition is specs/Blocks, over the parts of the hash.
+// SHA-1, SHA-256 or MD5 of a message that comes in pieces, and of a whole one. The definition is specs/Blocks, over the parts of the hash.
 // The same code serves every HashAlgorithm; which it is, the caller names at each call, and a context holds no copy of it.
 // Assumes nothing: every value of the context may come.
 ghost use mathlib.Core.Path.{_≡_};

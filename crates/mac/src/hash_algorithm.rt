@@ -5,6 +5,7 @@ ghost use mathlib.Core.Path.{_≡_};
 ghost use mathlib.Core.List.{_++_};
 ghost use lib.ListN.{length, take, replicate};
 ghost use Rattle.mac.specs.Blocks.{chained};
+ghost use Rattle.mac.specs.Md5.{parts as md5Parts};
 ghost use Rattle.mac.specs.Hmac.{filled as filledOf};
 ghost use Rattle.mac.specs.HashContexts.{partsOf, wordsOf, digestBytes, digestRoom};
 ghost use Prim.Native.Nat.{_/_, _≤_};
@@ -12,6 +13,7 @@ ghost use Prim.Native.Nat.{_/_, _≤_};
 pub enum HashAlgorithm {
     Sha1,
     Sha256,
+    Md5,
 }
 
 // The room for a digest: the longest has so many bytes.
@@ -24,10 +26,23 @@ fn first_five(h: [u32; 8]) -> [u32; 5]
     [h[0], h[1], h[2], h[3], h[4]]
 }
 
-fn in_eight(h: [u32; 5]) -> [u32; 8]
+fn five_in_eight(h: [u32; 5]) -> [u32; 8]
     ensures { λ r. ⌜ take 5 r ≡ h ⌝ }
 {
     [h[0], h[1], h[2], h[3], h[4], 0, 0, 0]
+}
+
+// MD5's four.
+fn first_four(h: [u32; 8]) -> [u32; 4]
+    ensures { λ r. ⌜ r ≡ take 4 h ⌝ }
+{
+    [h[0], h[1], h[2], h[3]]
+}
+
+fn four_in_eight(h: [u32; 4]) -> [u32; 8]
+    ensures { λ r. ⌜ take 4 r ≡ h ⌝ }
+{
+    [h[0], h[1], h[2], h[3], 0, 0, 0, 0]
 }
 
 // Zeros behind a digest.
@@ -40,13 +55,37 @@ fn in_room(d: &[u8]) -> [u8; DIGEST_ROOM]
     out
 }
 
-// A digest of twenty bytes, out of the room.
+// A digest of twenty bytes, and one of sixteen, out of the room.
 pub(crate) fn first_twenty(d: [u8; DIGEST_ROOM]) -> [u8; 20]
     ensures { λ r. ⌜ r ≡ take 20 d ⌝ }
 {
     let mut out = [0u8; 20];
     octets::copy_at(&mut out, 0, &d[..20]);
     out
+}
+
+pub(crate) fn first_sixteen(d: [u8; DIGEST_ROOM]) -> [u8; 16]
+    ensures { λ r. ⌜ r ≡ take 16 d ⌝ }
+{
+    let mut out = [0u8; 16];
+    octets::copy_at(&mut out, 0, &d[..16]);
+    out
+}
+
+// MD5's registers after the whole blocks of data, each handled from where it lies.
+fn md5_blocks(h: [u32; 4], data: &[u8]) -> [u32; 4]
+    ensures { λ r. ⌜ r ≡ chained md5Parts h (length (now («data» .entry)) / 64) (now («data» .entry)) ⌝ }
+{
+    let mut chain = h;
+    let n = data.len() / 64;
+    for i in 0..n {
+        let at = 64 * i;
+        let end = at + 64;
+        let w = compression::md5::load(&data[at..end]);
+        let next = compression::md5::compress(chain, w);
+        chain = next;
+    }
+    chain
 }
 
 impl HashAlgorithm {
@@ -57,6 +96,7 @@ impl HashAlgorithm {
         match self {
             HashAlgorithm::Sha1 => 20,
             HashAlgorithm::Sha256 => 32,
+            HashAlgorithm::Md5 => 16,
         }
     }
 
@@ -65,20 +105,26 @@ impl HashAlgorithm {
         ensures { λ r. ⌜ take (wordsOf self) r ≡ partsOf self .initial ⌝ }
     {
         match self {
-            HashAlgorithm::Sha1 => in_eight(compression::sha1::initial()),
+            HashAlgorithm::Sha1 => five_in_eight(compression::sha1::initial()),
             HashAlgorithm::Sha256 => compression::sha256::initial(),
+            HashAlgorithm::Md5 => four_in_eight(compression::md5::initial()),
         }
     }
 
-    // The chaining value after the block m.
+    // The chaining value after the block m. The two SHAs read it in the same way: the text has one call for it, which the compiler then
+    // puts in place.
     pub(crate) fn compress(self, h: [u32; 8], m: &[u8]) -> [u32; 8]
         requires { ⌜ length (now m) ≡ 64 ⌝ }
         ensures { λ r. ⌜ take (wordsOf self) r ≡ partsOf self .compress (take (wordsOf self) h) (now (m .entry)) ⌝ }
     {
+        if let HashAlgorithm::Md5 = self {
+            let x = compression::md5::load(m);
+            return four_in_eight(compression::md5::compress(first_four(h), x));
+        }
         let w = compression::words::load(m);
         match self {
-            HashAlgorithm::Sha1 => in_eight(compression::sha1::compress(first_five(h), w)),
-            HashAlgorithm::Sha256 => compression::sha256::compress(h, w),
+            HashAlgorithm::Sha1 => five_in_eight(compression::sha1::compress(first_five(h), w)),
+            _ => compression::sha256::compress(h, w),
         }
     }
 
@@ -89,6 +135,7 @@ impl HashAlgorithm {
         match self {
             HashAlgorithm::Sha1 => octets::bytes64(bits),
             HashAlgorithm::Sha256 => octets::bytes64(bits),
+            HashAlgorithm::Md5 => compression::md5::count_bytes(bits),
         }
     }
 
@@ -102,14 +149,22 @@ impl HashAlgorithm {
                 in_room(&d)
             }
             HashAlgorithm::Sha256 => compression::sha256::digest(h),
+            HashAlgorithm::Md5 => {
+                let d = compression::md5::digest(first_four(h));
+                in_room(&d)
+            }
         }
     }
 
-    // The chaining value after the whole blocks of data, each compressed from where it lies.
+    // The chaining value after the whole blocks of data, each compressed from where it lies. MD5 has a loop of its own: a block takes it so
+    // little time that the room of eight words, written and read between two blocks, would cost a tenth of it.
     pub(crate) fn compress_all(self, h: [u32; 8], data: &[u8]) -> [u32; 8]
         ensures { λ r. ⌜ take (wordsOf self) r
             ≡ chained (partsOf self) (take (wordsOf self) h) (length (now («data» .entry)) / 64) (now («data» .entry)) ⌝ }
     {
+        if let HashAlgorithm::Md5 = self {
+            return four_in_eight(md5_blocks(first_four(h), data));
+        }
         let mut chain = h;
         let n = data.len() / 64;
         for i in 0..n {

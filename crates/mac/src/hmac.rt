@@ -1,4 +1,4 @@
-// HMAC, RFC 2104, over a hash of FIPS 180-4: of a message that comes in pieces, and of a whole one. The definition is specs/Hmac.
+// HMAC, RFC 2104, over SHA-1, SHA-256 or MD5: of a message that comes in pieces, and of a whole one. The definition is specs/Hmac.
 // The same code serves every HashAlgorithm, as in hash.rt. A key of any length works. Assumes nothing: every value of the context may come.
 ghost use mathlib.Core.Path.{_≡_};
 ghost use Prim.Native.Nat.{_≤_};

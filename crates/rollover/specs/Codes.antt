@@ -1,5 +1,6 @@
 -- A verdict as one number. Assumes nothing.
 use Prim.Native.Nat.{ℕ, _+_, _*_, _^_}
+use Rattle.tables.specs.Tables.{noIndex}
 use Rattle.rules.specs.declared.Verdict.{Verdict}
 use Rattle.rules.specs.Answers.{Answer, verdictAnswer}
 
@@ -8,4 +9,4 @@ coded a = a .number + a .value * 2 ^ 32
 
 -- document 01's number of a verdict, and its value in the upper 32 bits
 unfoldable pub code : Verdict → ℕ
-code v = coded (verdictAnswer v 0)
+code v = coded (verdictAnswer v noIndex)

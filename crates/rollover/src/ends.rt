@@ -1,11 +1,11 @@
 // The two ends and what goes between them: signing, asking, judging. Assumes nothing.
+use crate::key_tables;
 use crate::rows;
 use crate::script;
 use crate::segments;
 use crate::storage::lay;
 use crate::storage::put_word;
 use crate::storage::word;
-use crate::tables;
 use crate::verdicts::coded;
 use rules::Judged;
 use rules::State;
@@ -35,10 +35,11 @@ fn with_state(client: bool, state: State, ends: Ends) -> Ends {
 }
 
 fn signed(client: bool, wire: &mut [u8], no: u8, state: State) -> State {
-    let t = tables::table(client);
+    let t = key_tables::table(client);
+    let no_md5 = [0u8; 0];
     let segment = segments::unsigned(state, no);
     let mut out = [0u8; 60];
-    let s = tcpao::sign::sign(&t, &segment, &mut out, state);
+    let s = tcpao::sign::sign(&t, &no_md5, &segment, &mut out, state);
     lay(wire, segments::start(no), &out);
     s.state
 }
@@ -68,17 +69,19 @@ fn sent(wire: &mut [u8], places: &mut [u64], no: u8, ends: Ends) -> Ends {
 // The server's operator asks that the client sign under key 2.
 fn asked(ends: Ends) -> Ends {
     rows::asking();
-    let t = tables::table(false);
-    let s = tcpao::operator::ask(&t, tables::CLIENT_2, ends.server);
+    let t = key_tables::table(false);
+    let no_md5 = [0u8; 0];
+    let s = tcpao::operator::ask(&t, &no_md5, key_tables::CLIENT_2, ends.server);
     with_state(false, s.state, ends)
 }
 
 // Judges a segment that arrives at the client, or at the server.
 pub fn judged(client: bool, segment: &[u8], state: State) -> Judged {
-    let t = tables::table(client);
-    let source = tables::address(!client);
-    let destination = tables::address(client);
-    tcpao::judge::judge(&t, &source, &destination, segment, state)
+    let t = key_tables::table(client);
+    let no_md5 = [0u8; 0];
+    let source = key_tables::address(!client);
+    let destination = key_tables::address(client);
+    tcpao::judge::judge(&t, &no_md5, &source, &destination, segment, state)
 }
 
 // Judges one arrival, keeps its verdict, and prints it in the first run.

@@ -3,13 +3,13 @@
 // "Positions", "A connection's life"; demand 3). Nothing here is a theorem: the calls are run, and what they gave is printed and compared.
 mod alike;
 mod ends;
+mod key_tables;
 mod opening;
 mod report;
 mod rows;
 mod script;
 mod segments;
 mod storage;
-mod tables;
 mod verdicts;
 mod words;
 

@@ -1,9 +1,9 @@
 // The opening: an active one at the client, a passive one at the server. Assumes nothing.
 use crate::ends;
 use crate::ends::Ends;
+use crate::key_tables;
 use crate::rows;
 use crate::segments;
-use crate::tables;
 use crate::verdicts::coded;
 use rules::State;
 
@@ -13,44 +13,49 @@ const CLIENT_ISN: u32 = 0xffffffc0;
 const SERVER_ISN: u32 = 0xffffffd8;
 
 fn active() -> State {
-    let t = tables::table(true);
-    let local = tables::address(true);
-    let remote = tables::address(false);
+    let t = key_tables::table(true);
+    let no_md5 = [0u8; 0];
+    let local = key_tables::address(true);
+    let remote = key_tables::address(false);
     let opened = tcpao::open::open_active(
         &t,
+        &no_md5,
         &local,
         &remote,
-        tables::CLIENT_PORT,
-        tables::SERVER_PORT,
+        key_tables::CLIENT_PORT,
+        key_tables::SERVER_PORT,
         CLIENT_ISN,
-        tables::CLIENT_1,
+        key_tables::CLIENT_1,
     );
     opened.state
 }
 
 // Signs a segment without data: header 20, TCP-AO 16.
 fn signed(client: bool, number: u32, flags: u8, state: State, out: &mut [u8; 36]) -> State {
-    let t = tables::table(client);
+    let t = key_tables::table(client);
+    let no_md5 = [0u8; 0];
     let segment = segments::header(state, number, flags);
-    let s = tcpao::sign::sign(&t, &segment, out, state);
+    let s = tcpao::sign::sign(&t, &no_md5, &segment, out, state);
     s.state
 }
 
 // The SYN is first judged without a state.
 fn judge_syn(syn: &[u8; 36]) {
-    let t = tables::table(false);
-    let source = tables::address(true);
-    let destination = tables::address(false);
-    let c = tcpao::judge::judge_syn(&t, &source, &destination, syn, true);
+    let t = key_tables::table(false);
+    let no_md5 = [0u8; 0];
+    let source = key_tables::address(true);
+    let destination = key_tables::address(false);
+    let c = tcpao::judge::judge_syn(&t, &no_md5, &source, &destination, syn, true);
     let v = c.verdict;
     rows::opening(true, b"SYN, no state yet    ", syn, coded(v), 0);
 }
 
 fn passive(syn: &[u8; 36]) -> State {
-    let t = tables::table(false);
-    let source = tables::address(true);
-    let destination = tables::address(false);
-    let j = tcpao::judge::open_passive(&t, &source, &destination, syn, SERVER_ISN, true);
+    let t = key_tables::table(false);
+    let no_md5 = [0u8; 0];
+    let source = key_tables::address(true);
+    let destination = key_tables::address(false);
+    let j = tcpao::judge::open_passive(&t, &no_md5, &source, &destination, syn, SERVER_ISN, true);
     let v = j.verdict;
     let state = j.state;
     rows::opening(true, b"SYN, opens           ", syn, coded(v), state.send_id);

@@ -2,9 +2,9 @@
 use crate::alike::ended_alike;
 use crate::alike::same_number;
 use crate::ends::Ends;
+use crate::key_tables;
 use crate::script;
 use crate::storage::word;
-use crate::tables;
 use crate::words::decimal;
 use crate::words::four;
 use crate::words::key;
@@ -13,17 +13,18 @@ use crate::words::text;
 use crate::words::two;
 use crate::words::verdict;
 use crate::words::what;
-use keys::table::Loaded;
 use rules::SLOTS;
 use rules::State;
+use tables::Admitted;
 
 // How many entries a valid table has.
 fn entries(client: bool) {
-    let t = tables::table(client);
-    let answer = tcpao::operator::check_table(&t);
+    let t = key_tables::table(client);
+    let no_md5 = [0u8; 0];
+    let answer = tcpao::operator::check_table(&t, &no_md5);
     match answer {
-        Loaded::Valid(n) => decimal(n as u64),
-        Loaded::Refused(_, _) => text(b"no valid"),
+        Admitted::Valid(n) => decimal(n as u64),
+        Admitted::Refused(_, _) => text(b"no valid"),
     }
 }
 
@@ -63,7 +64,7 @@ fn row(name: &[u8], s: State) {
 
 fn columns() {
     text(
-        b"              accepted  drops  20  21  22  23  24  25  26  27  28  29  40  reference   signs\n",
+        b"              accepted  drops  20  21  22  23  24  25  26  27  28  29  40  46  47  reference   signs\n",
     );
 }
 

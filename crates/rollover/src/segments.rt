@@ -1,10 +1,10 @@
 // Segments: as TCP hands them over, and as they are kept on the way, 64 bytes to a number. Assumes nothing.
+use crate::key_tables;
 use crate::script;
 use crate::storage::byte;
 use crate::storage::lay;
 use crate::storage::part;
 use crate::storage::put_byte;
-use crate::tables;
 use rules::State;
 
 pub const SYN: u8 = 2;
@@ -82,8 +82,8 @@ fn repeat(wire: &mut [u8], no: u8) {
 // The right checksum for what was changed, as whoever forges a segment would write it.
 fn make_right(wire: &mut [u8], no: u8) {
     let client = script::from_client(no);
-    let source = tables::address(client);
-    let destination = tables::address(!client);
+    let source = key_tables::address(client);
+    let destination = key_tables::address(!client);
     let at = std::num::wrapping_add_usize(start(no), 16);
     lay(wire, at, &[0, 0]);
     let sum = traffic::sums::segment_sum(&source, &destination, kept(wire, no));

@@ -1,8 +1,8 @@
 // What is printed: bytes as they stand, numbers, and the words for a kind, a direction, a key and a verdict, each padded to its column's
 // width. Assumes nothing.
+use crate::key_tables;
 use crate::script;
 use crate::storage::part;
-use crate::tables;
 use libc::STDOUT_FILENO;
 
 pub fn text(s: &[u8]) {
@@ -70,7 +70,7 @@ pub fn what(no: u8) {
 }
 
 pub fn key(id: u8) {
-    match tables::key_of(id) {
+    match key_tables::key_of(id) {
         1 => text(b"key 1"),
         2 => text(b"key 2"),
         _ => text(b"none "),

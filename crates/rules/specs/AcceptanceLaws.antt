@@ -1,4 +1,4 @@
--- Demand 2, of the definitions: what one end signs, the other end accepts. First what the three ways share.
+-- Demand 2, of the definitions: what one end signs by TCP-AO, the other end accepts. First what the three ways that it can go share.
 use Prim.Native.Nat.{ℕ, _+_, _-_, _^_, _<_}
 use mathlib.Core.Path.{_≡_, refl, ap, sym, _∙_}
 use mathlib.Core.Bool.{true, false, not}
@@ -14,8 +14,9 @@ use Rattle.keys.specs.declared.entry.Pair.{Pair}
 use Rattle.keys.specs.declared.entry.Entry.{Entry}
 use Rattle.keys.specs.declared.table.Found.{Found}
 use Rattle.keys.specs.Mirror.{Mirror}
-use Rattle.keys.specs.Table.{Tables, ValidTable}
-use Rattle.keys.specs.Search.{hit}
+use Rattle.tables.specs.Tables.{Tables}
+use Rattle.tables.specs.Valid.{ValidTables}
+use Rattle.tables.specs.Search.{hit}
 use Rattle.rules.specs.declared.Place.the-variants.{At}
 use Rattle.rules.specs.declared.Outcome.{Outcome}
 use Rattle.rules.specs.declared.State.{State}
@@ -24,7 +25,7 @@ use Rattle.octets.specs.TestLaws.{NoneApplies}
 use Rattle.rules.specs.Mac.{Flow, leavingHidden, arrivingHidden, segmentMac}
 use Rattle.rules.specs.MacLaws.{Agree, Alike}
 use Rattle.rules.specs.Segment.{ao}
-use Rattle.rules.specs.Connection.{Arrival, leaving, value, extensionOf}
+use Rattle.rules.specs.Connection.{Arrival, isMd5, leaving, value, extensionOf}
 use Rattle.rules.specs.Calls.{keyTests, macTests, isRefused, macDiffers, formTests, lengthTests, tableTests}
 use Rattle.rules.specs.Ends.{SignedAt, Delivered}
 use Rattle.rules.specs.RoundTripLaws.{Reads}
@@ -50,16 +51,24 @@ module _ (q : State) (e : Entry) (x : ℕ) (b : List ℕ) (g : SignedAt q e x b)
   abbrev came : List ℕ
   came = a .segment
 
-  abbrev read : Reads came (q .«send_id») (q .«ask_id») (mac q e x b g)
-  read = reads q e x b g p a v .reads
-
-  -- 20, 21 and 22
+  -- 20
   pub none-20 : NoneApplies (lengthTests 20 came)
   none-20 = let z = sizes q e x b g p a v in (z .0, (z .1, (z .2, (z .3, tt))))
 
-  pub none-21 : NoneApplies (formTests came)
-  none-21 =
-      (read .formed, (ap (λ (o : Occurrence). ltb 1 (o .count)) (read .one), (rw (read .one) (ap (λ (n : ℕ). ltb 0 n) (read .no-md5)), tt)))
+module _ (q : State) (e : Entry) (x : ℕ) (b : List ℕ) (g : SignedAt q e x b) (way : isMd5 (q .conn) ≡ false) (p : Pair) (a : Arrival)
+    (v : Delivered p b a) where
+  abbrev read : Reads (a .segment) (q .«send_id») (q .«ask_id») (mac q e x b g way)
+  read = reads q e x b g way p a v .reads
+
+  -- 21 and 22
+  pub none-21 : NoneApplies (formTests (a .segment))
+  none-21 = (
+    read .formed,
+    (
+      ap (λ (o : Occurrence). ltb 1 (o .count)) (read .one),
+      (rw (read .one) (ap (λ (n : ℕ). ltb 0 n) (read .no-md5)), (rw (read .no-md5), tt)),
+    ),
+  )
 
   -- 25 to 29, under the entry that mirrors the sender's, for a flow like the one that it signed and a place with its extension
   module _ (missing unknown : Outcome) (i : ℕ) (ours : Entry) (f : Flow) (y : ℕ) (found : Found) (mirror : Mirror p (q .conn .pair) ours e)
@@ -68,25 +77,27 @@ module _ (q : State) (e : Entry) (x : ℕ) (b : List ℕ) (g : SignedAt q e x b)
     abbrev agree : Agree (ours .secret) (e .secret)
     agree = agree-of p (q .conn .pair) ours e mirror
 
-    right-length : not (eqb (ao came .len) (4 + found .entry .secret .«mac_bytes»)) ≡ false
+    right-length : not (eqb (ao (a .segment) .len) (4 + found .entry .secret .«mac_bytes»)) ≡ false
     right-length =
         (λ j. not (eqb (read .one j .len) (4 + held j .entry .secret .«mac_bytes»)))
-        ∙ ap not (eq-eqb _ _ (ap (λ (n : ℕ). 4 + n) (length-its-mac q e x b g ∙ sym (agree .mac))))
+        ∙ ap not (eq-eqb _ _ (ap (λ (n : ℕ). 4 + n) (length-its-mac q e x b g way ∙ sym (agree .mac))))
 
-    right-mac : macDiffers (found .entry) f (At y) came ≡ false
+    right-mac : macDiffers (found .entry) f (At y) (a .segment) ≡ false
     right-mac =
         ap not
         (same-of-eq _ _
         (read .mac
         ∙ sym
-        ((λ j. segmentMac (held j .entry .secret) (arrivingHidden (held j .entry .secret)) f (ext j) (20 + read .one j .at) came)
-        ∙ same-mac q e x b g p a v (ours .secret) (arrivingHidden (ours .secret)) f agree (hidden-of p (q .conn .pair) ours e mirror) alike
+        ((λ j. segmentMac (held j .entry .secret) (arrivingHidden (held j .entry .secret)) f (ext j) (20 + read .one j .at) (a .segment))
+        ∙ same-mac q e x b g way p a v (ours .secret) (arrivingHidden (ours .secret)) f agree (hidden-of p (q .conn .pair) ours e mirror) alike
         source destination)))
 
-    pub keyed : NoneApplies (keyTests missing unknown found (At y) came) × NoneApplies (macTests (found .entry) f (At y) came)
-    keyed =
-        ((ap (λ (o : Occurrence). eqb (o .count) 0) (read .one), (ap (λ (o : Found). not (o .there)) held, (right-length, (refl, tt)))), (right-mac, tt))
+    pub keyed : NoneApplies (keyTests missing unknown found (At y) (a .segment)) × NoneApplies (macTests (found .entry) f (At y) (a .segment))
+    keyed = (
+      (ap (λ (o : Occurrence). eqb (o .count) 0) (read .one), (ap (λ (o : Found). not (o .there)) held, (right-length, (refl, tt)))),
+      (right-mac, tt),
+    )
 
--- a table that is valid, addresses of one size
-pub none-10 : (t : Tables) → ValidTable t → NoneApplies (tableTests t)
-none-10 t v = (ap isRefused (v .1), tt)
+-- tables that are valid
+pub none-10 : (t : Tables) → ValidTables t → NoneApplies (tableTests t)
+none-10 t v = (ap isRefused (v .taken .1), tt)

@@ -10,12 +10,11 @@ use Rattle.wire.specs.declared.options.Options.{Options}
 use Rattle.wire.specs.declared.options.Options.the-variants as O
 use Rattle.wire.specs.Options.{optionsOf, isMalformed, aoIn}
 use Rattle.wire.specs.Header.{area}
-use Rattle.keys.specs.declared.entry.Pair.{Pair}
-use Rattle.keys.specs.declared.table.Loaded.{Loaded}
-use Rattle.keys.specs.declared.table.Loaded.the-variants.{Valid, Refused}
-use Rattle.keys.specs.Entry.{entries}
-use Rattle.keys.specs.Table.{Tables, checked, sendEntry}
-use Rattle.keys.specs.SearchLaws.{valid-count}
+use Rattle.keys.specs.declared.table.Found.{Found}
+use Rattle.tables.specs.declared.Admitted.{Admitted}
+use Rattle.tables.specs.declared.Admitted.the-variants.{Valid, Refused}
+use Rattle.tables.specs.Tables.{Tables, sendEntry, md5Entry}
+use Rattle.tables.specs.ValidLaws.{valid-count}
 use Rattle.rules.specs.declared.Outcome.{Outcome}
 use Rattle.rules.specs.declared.Outcome.the-variants.{Good, Passed, Bad}
 use Rattle.rules.specs.declared.State.{State}
@@ -23,12 +22,15 @@ use Rattle.rules.specs.declared.Settled.{Settled}
 use Rattle.octets.specs.Tests.{first}
 use Rattle.octets.specs.TestLaws.{first-passes}
 use Rattle.rules.specs.Segment.{malformed, ao}
-use Rattle.rules.specs.Connection.{Arrival, pairOf, extensionOf, empty, opening, withAsked}
-use Rattle.rules.specs.Calls.{refusal, verdictOf, indexOf, check, judged, checkSyn, judgedSyn, openedPassively, unrefused}
-use Rattle.rules.specs.Calls.{settledBy, openTests, openedWith, openedActively, askTests, asked, outgoing, addedBytes, signTests}
+use Rattle.rules.specs.Connection.{Arrival, pairOf, extensionOf, empty, withAsked}
+use Rattle.rules.specs.Calls.{verdictOf, indexOf, check, judged, checkSyn, judgedSyn, openedPassively, unrefused}
+use Rattle.rules.specs.Calls.{settledBy, openTests, openedActively, openedActivelyMd5, askTests, asked, outgoing, addedOn, signTests}
 use Rattle.rules.specs.Calls.{checkSign, signedBy, signed}
+use Rattle.rules.specs.Lent.{Lent, tables}
+use Rattle.rules.specs.JudgeLaws.{notPassed, refusal-not-passed}
 use Rattle.rules.specs.Answers.{Answer, answer, outcomeAnswer, verdictAnswer, signingAnswer, doneAnswer, tableAnswer}
-use Rattle.rules.specs.Answers.{optionsAnswer, tableNumber, judgedNumber, synNumber, openedNumber, askedNumber, signedNumber}
+use Rattle.rules.specs.Answers.{optionsAnswer, tableNumber, judgedNumber, synNumber, openedNumber, openedMd5Number, askedNumber}
+use Rattle.rules.specs.Answers.{signedNumber}
 
 -- Judging.
 
@@ -55,15 +57,6 @@ passively-number t a isn strict = verdict-number (checkSyn t a strict)
 
 -- The other calls: none of their tests gives pass.
 
-abbrev notPassed : Outcome → Bool
-notPassed (Good x r) = true
-notPassed Passed = false
-notPassed (Bad n i) = true
-
-refusal-not : (o : Loaded) → notPassed (refusal o) ≡ true
-refusal-not (Valid n) = refl
-refusal-not (Refused n i) = refl
-
 abbrev doneOf : Settled → Answer
 doneOf s = doneAnswer (s .answer) (s .index)
 
@@ -73,46 +66,52 @@ settled-number (Good x r) old new e = refl
 settled-number Passed old new e = let z : _≡_ {A = ℕ} 0 1 = cc in absurd (omega arith)
 settled-number (Bad n i) old new e = refl
 
+open-number : (t : Tables) (local remote : List ℕ) (found : Found) (new : State)
+    → doneOf (settledBy (first (openTests t local remote found) unrefused) empty new)
+    ≡ outcomeAnswer (λ x. 0) (first (openTests t local remote found) unrefused)
+open-number t local remote found new =
+    let l = openTests t local remote found in
+    settled-number (first l unrefused) empty new (first-passes notPassed l unrefused (rw (refusal-not-passed (t .answer))) refl)
+
 pub opened-number : (t : Tables) (local remote : List ℕ) (localPort remotePort isn sendId : ℕ)
     → doneOf (openedActively t local remote localPort remotePort isn sendId) ≡ openedNumber t local remote localPort remotePort sendId
 unfolding openedActively
-opened-number t local remote localPort remotePort isn sendId = go (pairOf local remote localPort remotePort)
-  where
-    go : (p : Pair)
-        → doneOf (openedWith t local remote p isn sendId)
-        ≡ outcomeAnswer (λ x. 0) (first (openTests t local remote (sendEntry t p sendId)) unrefused)
-    go p =
-        let l = openTests t local remote (sendEntry t p sendId) in
-        settled-number (first l unrefused) empty (opening p isn sendId (sendEntry t p sendId .entry .ids .recv))
-        (first-passes notPassed l unrefused (rw (refusal-not (checked t))) refl)
+opened-number t local remote localPort remotePort isn sendId =
+    open-number t local remote (sendEntry t (pairOf local remote localPort remotePort) sendId) _
+
+pub opened-md5-number : (t : Tables) (local remote : List ℕ) (localPort remotePort isn : ℕ)
+    → doneOf (openedActivelyMd5 t local remote localPort remotePort isn) ≡ openedMd5Number t local remote localPort remotePort
+unfolding openedActivelyMd5
+opened-md5-number t local remote localPort remotePort isn =
+    open-number t local remote (md5Entry t (pairOf local remote localPort remotePort)) _
 
 pub asked-number : (t : Tables) (id : ℕ) (q : State) → doneOf (asked t id q) ≡ askedNumber t id (q .conn)
 unfolding asked
 asked-number t id q =
     let l = askTests t id (q .conn) in
-    settled-number (first l unrefused) q (withAsked id q) (first-passes notPassed l unrefused (rw (refusal-not (checked t))) refl)
+    settled-number (first l unrefused) q (withAsked id q) (first-passes notPassed l unrefused (rw (refusal-not-passed (t .answer))) refl)
 
 pub signed-number : (t : Tables) (s out : List ℕ) (q : State)
     → signingAnswer (signed t s out q .answer) (signed t s out q .index) ≡ signedNumber t s out q
 unfolding signed checkSign signingAnswer outcomeAnswer
 signed-number t s out q =
     go (checkSign t s (length out) q)
-    (first-passes notPassed (signTests t s (length out) q (outgoing t q)) _ (rw (refusal-not (checked t))) refl)
+    (first-passes notPassed (signTests t s (length out) q (outgoing t q)) _ (rw (refusal-not-passed (t .answer))) refl)
   where
     go : (o : Outcome) → notPassed o ≡ true
         → signingAnswer (signedBy q s (outgoing t q .entry) o .answer) (signedBy q s (outgoing t q .entry) o .index)
-        ≡ outcomeAnswer (λ x. length s + addedBytes (outgoing t q .entry)) o
+        ≡ outcomeAnswer (λ x. length s + addedOn (q .conn) (outgoing t q .entry)) o
     go (Good x r) e = refl
     go Passed e = let z : _≡_ {A = ℕ} 0 1 = cc in absurd (omega arith)
     go (Bad n i) e = refl
 
--- A table.
-pub table-number : (t : Tables) → tableAnswer (checked t) ≡ tableNumber t
+-- The tables, lent as bytes: how many entries the key table has.
+pub table-number : (b : Lent) → tableAnswer (tables b .answer) ≡ tableNumber (tables b)
 unfolding tableAnswer outcomeAnswer
-table-number t = go (checked t) refl
+table-number b = go (tables b .answer) refl
   where
-    go : (o : Loaded) → checked t ≡ o → tableAnswer (checked t) ≡ tableNumber t
-    go (Valid n) e = rw e (ap (answer 0) (valid-count t (n, e) .0))
+    go : (o : Admitted) → tables b .answer ≡ o → tableAnswer (tables b .answer) ≡ tableNumber (tables b)
+    go (Valid n) e = rw e (ap (answer 0) (valid-count (b .keys) (b .md5) n e .0))
     go (Refused n i) e = rw e refl
 
 -- An option area: the number is given exactly where the test of 21 or 31 in Calls.antt, `malformed`, applies, and else the count that the

@@ -7,10 +7,10 @@ use mathlib.Core.List.{List}
 use lib.ListN.{length}
 use Rattle.wire.specs.declared.options.Options.{Options}
 use Rattle.wire.specs.declared.options.Options.the-variants as O
-use Rattle.keys.specs.Entry.{entries}
-use Rattle.keys.specs.Table.{Tables, sendEntry}
-use Rattle.keys.specs.declared.table.Loaded.{Loaded}
-use Rattle.keys.specs.declared.table.Loaded.the-variants.{Valid, Refused}
+use Rattle.tables.specs.declared.Index.{Index}
+use Rattle.tables.specs.declared.Admitted.{Admitted}
+use Rattle.tables.specs.declared.Admitted.the-variants.{Valid, Refused}
+use Rattle.tables.specs.Tables.{Tables, noIndex, sendEntry, md5Entry}
 use Rattle.rules.specs.declared.Place.{Place}
 use Rattle.rules.specs.declared.Place.the-variants.{At, Nowhere}
 use Rattle.rules.specs.declared.Outcome.{Outcome}
@@ -26,42 +26,48 @@ use Rattle.rules.specs.declared.State.{State}
 use Rattle.octets.specs.Tests.{first}
 use Rattle.rules.specs.Position.{position}
 use Rattle.rules.specs.Connection.{Arrival, pairOf, located, value, extensionOf}
-use Rattle.rules.specs.Calls.{unrefused, tableTests, check, checkSyn, openTests, askTests, outgoing, addedBytes, checkSign}
+use Rattle.rules.specs.Calls.{unrefused, tableTests, check, checkSyn, openTests, askTests, outgoing, addedOn, checkSign}
 
+-- the number; whose entry the value is the index of (0 the key table's, 1 the MD5 table's), where a table is refused; the value
 pub record Answer : Type 0 where
   pub number : ℕ
+  pub table : ℕ
   pub value : ℕ
 
 abbrev pub answer : ℕ → ℕ → Answer
-answer n v = record { number = n; value = v }
+answer n v = record { number = n; table = 0; value = v }
+
+-- a refusal: beside 10 to 17 and 45 the entry's table and index, beside every other number zeros
+abbrev pub refused : ℕ → Index → Answer
+refused n i = record { number = n; table = i .table; value = i .entry }
 
 -- what the tests of a call come to: no number applies, and the call gives the value that `of` makes of the position; pass; or the first
--- number that applies, with the entry's index beside 10 to 17
+-- number that applies, with the entry beside 10 to 17 and 45
 unfoldable pub outcomeAnswer : (of : ℕ → ℕ) → Outcome → Answer
 outcomeAnswer of (Good x r) = answer 0 (of x)
 outcomeAnswer of Passed = answer 1 0
-outcomeAnswer of (Bad n i) = answer n i
+outcomeAnswer of (Bad n i) = refused n i
 
 -- "accept with its extension, pass, or drop with a number", with the entry's index where a table is refused
-unfoldable pub verdictAnswer : Verdict → ℕ → Answer
+unfoldable pub verdictAnswer : Verdict → Index → Answer
 verdictAnswer (Accept e) i = answer 0 e
 verdictAnswer Pass i = answer 1 0
-verdictAnswer (Drop n) i = answer n i
+verdictAnswer (Drop n) i = refused n i
 
 -- how many bytes were signed, or the refusal
-unfoldable pub signingAnswer : Signing → ℕ → Answer
+unfoldable pub signingAnswer : Signing → Index → Answer
 signingAnswer (S.Signed n) i = answer 0 n
-signingAnswer (S.Refused n) i = answer n i
+signingAnswer (S.Refused n) i = refused n i
 
 -- an opening, or a RecvID to ask for
-unfoldable pub doneAnswer : Done → ℕ → Answer
+unfoldable pub doneAnswer : Done → Index → Answer
 doneAnswer D.Done i = answer 0 0
-doneAnswer (D.Refused n) i = answer n i
+doneAnswer (D.Refused n) i = refused n i
 
--- a table: how many entries, or "10 to 17 .. with the entry's index"
-unfoldable pub tableAnswer : Loaded → Answer
+-- the tables: how many entries the key table has, or "10 to 17 .. with the entry's index", or 45
+unfoldable pub tableAnswer : Admitted → Answer
 tableAnswer (Valid n) = answer 0 n
-tableAnswer (Refused n i) = answer n i
+tableAnswer (Refused n i) = refused n i
 
 -- a position, or 28 (when signing 36)
 unfoldable pub placeAnswer : ℕ → Place → Answer
@@ -77,12 +83,12 @@ unfoldable pub optionsAnswer : ℕ → Options → Answer
 optionsAnswer n O.Malformed = answer n 0
 optionsAnswer n (O.Found s) = answer 0 (s .ao .count)
 
--- The calls: the first number of their tests that applies, with the entry's index beside 10 to 17; else 0, or 1 on pass, and the call's
--- own value.
+-- The calls: the first number of their tests that applies, with the entry's table and index beside 10 to 17 and 45; else 0, or 1 on pass,
+-- and the call's own value.
 
--- how many entries the table has
+-- how many entries the key table has
 abbrev pub tableNumber : Tables → Answer
-tableNumber t = outcomeAnswer (λ x. length (entries t)) (first (tableTests t) unrefused)
+tableNumber t = outcomeAnswer (λ x. length (t .keys)) (first (tableTests t) unrefused)
 
 -- the extension of the segment's position
 abbrev pub judgedNumber : Tables → Arrival → State → Answer
@@ -97,9 +103,13 @@ abbrev pub openedNumber : Tables → (local remote : List ℕ) (localPort remote
 openedNumber t local remote localPort remotePort sendId =
     outcomeAnswer (λ x. 0) (first (openTests t local remote (sendEntry t (pairOf local remote localPort remotePort) sendId)) unrefused)
 
+abbrev pub openedMd5Number : Tables → (local remote : List ℕ) (localPort remotePort : ℕ) → Answer
+openedMd5Number t local remote localPort remotePort =
+    outcomeAnswer (λ x. 0) (first (openTests t local remote (md5Entry t (pairOf local remote localPort remotePort))) unrefused)
+
 abbrev pub askedNumber : Tables → ℕ → Connection → Answer
 askedNumber t id l = outcomeAnswer (λ x. 0) (first (askTests t id l) unrefused)
 
 -- how many bytes the signed segment has
 abbrev pub signedNumber : Tables → (segment out : List ℕ) → State → Answer
-signedNumber t s out q = outcomeAnswer (λ x. length s + addedBytes (outgoing t q .entry)) (checkSign t s (length out) q)
+signedNumber t s out q = outcomeAnswer (λ x. length s + addedOn (q .conn) (outgoing t q .entry)) (checkSign t s (length out) q)

@@ -10,14 +10,14 @@ use Rattle.wire.specs.Header.{headerEnd}
 use Rattle.keys.specs.declared.entry.Secret.{Secret}
 use Rattle.keys.specs.declared.entry.Entry.{Entry}
 use Rattle.keys.specs.Entry.{allOptions, localHidden, remoteHidden}
-use Rattle.keys.specs.Table.{Tables}
+use Rattle.tables.specs.Tables.{Tables}
 use Rattle.rules.specs.declared.Outcome.{Outcome}
 use Rattle.rules.specs.declared.Outcome.the-variants.{Good, Passed, Bad}
 use Rattle.rules.specs.declared.State.{State}
 use Rattle.rules.specs.Mac.{Flow, arrivingHidden, applied, trafficKey, pseudoHeader, coveredHeader, segmentMac}
 use Rattle.rules.specs.Checksum.{withChecksum}
 use Rattle.rules.specs.Segment.{signedWith}
-use Rattle.rules.specs.Connection.{localAddress, remoteAddress, leaving, extensionOf}
+use Rattle.rules.specs.Connection.{localAddress, remoteAddress, isMd5, leaving, extensionOf}
 use Rattle.rules.specs.Calls.{written, outgoing, checkSign, signedSegment, output}
 
 -- What the MAC covered, and the MAC.
@@ -56,9 +56,12 @@ pub record Clear (s : Secret) : Type 0 where
   pub local : localHidden s ≡ false
   pub remote : remoteHidden s ≡ false
 
--- The same is signed as before, the call writes the same, and the MAC that an arrival is compared with is the same.
+-- The same is signed as before, the call writes the same, and the MAC that an arrival is compared with is the same. Of connections opened
+-- by TCP-AO; what an MD5 connection signs knows no such bits.
 pub record SameAsBefore : Type 0 where
-  pub signs : (e : Entry) (q : State) (x : ℕ) (s : List ℕ) → Clear (e .secret) → signedSegment e q x s ≡ signedSegmentBefore e q x s
-  pub writes : (t : Tables) (s out : List ℕ) (q : State) → Clear (outgoing t q .entry .secret) → output t s out q ≡ outputBefore t s out q
+  pub signs : (e : Entry) (q : State) (x : ℕ) (s : List ℕ) → isMd5 (q .conn) ≡ false → Clear (e .secret)
+      → signedSegment e q x s ≡ signedSegmentBefore e q x s
+  pub writes : (t : Tables) (s out : List ℕ) (q : State) → isMd5 (q .conn) ≡ false → Clear (outgoing t q .entry .secret)
+      → output t s out q ≡ outputBefore t s out q
   pub compares : (s : Secret) (f : Flow) (extension at : ℕ) (segment : List ℕ) → Clear s
       → segmentMac s (arrivingHidden s) f extension at segment ≡ segmentMacBefore s f extension at segment

@@ -1,13 +1,14 @@
--- Document 01, "Positions", "A connection's life" and "Numbers given back": what a connection is, and who writes its state.
+-- Document 01, "Positions", "A connection's life" and "Numbers given back", and document 02, Tickets 5 and 9: what a connection is, and
+-- who writes its state.
 use Prim.Native.Nat.{ℕ, suc, _+_, _-_, _/_, _^_, max}
-use mathlib.Core.Bool.{Bool, true, false, cond, _&&_, _||_}
+use mathlib.Core.Bool.{Bool, true, false, cond, not, _&&_, _||_}
 use mathlib.Core.List.{List, [], _∷_}
 use lib.ListN.{length, getD, set, take, replicate}
 use lib.Dec.{eqb, ltb}
 use Rattle.wire.specs.Header.{sourcePort, destinationPort, sequence}
 use Rattle.keys.specs.declared.entry.Pair.{Pair}
 use Rattle.keys.specs.Entry.{width, padded}
-use Rattle.keys.specs.Table.{Tables, sendEntry}
+use Rattle.tables.specs.Tables.{Tables, sendEntry}
 use Rattle.rules.specs.declared.Place.{Place}
 use Rattle.rules.specs.declared.Place.the-variants.{At, Nowhere}
 use Rattle.rules.specs.declared.Connection.{Connection}
@@ -57,6 +58,17 @@ arrivalPair a = pairOf (a .destination) (a .source) (destinationPort (a .segment
 abbrev pub isOpen : Connection → Bool
 isOpen l = eqb (l .stage) 1
 
+-- Ways. Ticket 9: "A connection goes by the way it was opened": way 1 is MD5, every other value TCP-AO.
+
+abbrev pub isMd5 : Connection → Bool
+isMd5 l = eqb (l .way) 1
+
+abbrev pub aoWay : ℕ
+aoWay = 0
+
+abbrev pub md5Way : ℕ
+md5Way = 1
+
 -- Flows: "'source' is whoever sent the segment".
 
 -- "Open: each segment .. is judged and signed with both ISNs"; of the SYN+ACK that opens, "its sequence number is the peer's ISN"
@@ -98,9 +110,10 @@ arrivingSyn a =
 -- Positions.
 
 -- "A bare SYN and the SYN+ACK that opens have extension 0 and their own number as position; once open, every segment goes by its
--- position." (A position below 2^32 has extension 0.)
+-- position." (A position below 2^32 has extension 0.) Ticket 9: "An MD5 accept has extension 0", "28 is not given"; of an MD5 connection
+-- every segment has its own number.
 abbrev pub placeOn : Connection → ℕ → ℕ → Place
-placeOn l reference s = cond (isOpen l) (position reference s) (At s)
+placeOn l reference s = cond (isOpen l && not (isMd5 l)) (position reference s) (At s)
 
 abbrev pub located : Place → Bool
 located (At x) = true
@@ -123,9 +136,10 @@ stop = 2 ^ 64 - 1
 abbrev pub bump : ℕ → ℕ
 bump n = cond (ltb n stop) (n + 1) n
 
--- the drops that are counted, "20 to 29", each in a place of its own; Ticket 5: "the counted drops and their sum include" 40
+-- the drops that are counted, "20 to 29", each in a place of its own; Ticket 5: "the counted drops and their sum include" 40; Ticket 9: 46
+-- and 47, "counted and within the sum"
 abbrev pub countedNumbers : List ℕ
-countedNumbers = 20 ∷ 21 ∷ 22 ∷ 23 ∷ 24 ∷ 25 ∷ 26 ∷ 27 ∷ 28 ∷ 29 ∷ 40 ∷ []
+countedNumbers = 20 ∷ 21 ∷ 22 ∷ 23 ∷ 24 ∷ 25 ∷ 26 ∷ 27 ∷ 28 ∷ 29 ∷ 40 ∷ 46 ∷ 47 ∷ []
 
 abbrev pub slots : ℕ
 slots = length countedNumbers
@@ -167,10 +181,10 @@ nextKey t p rnext current = cond (eqb rnext current) current (cond (available t 
 -- Writers of the state.
 
 -- "Opening sets each reference to that side's ISN"; counts: "All are 0 at opening; the segment that opens is not counted."
-abbrev pub opened : Pair → ℕ → ℕ → ℕ → ℕ → State
-opened p isn peerIsn sendId askId =
+abbrev pub opened : (way : ℕ) → Pair → ℕ → ℕ → ℕ → ℕ → State
+opened way p isn peerIsn sendId askId =
     record {
-      conn = record { stage = 1; pair = p; isn = isn; «peer_isn» = peerIsn };
+      conn = record { stage = 1; way = way; pair = p; isn = isn; «peer_isn» = peerIsn };
       sent = isn;
       seen = peerIsn;
       «send_id» = sendId;
@@ -180,10 +194,10 @@ opened p isn peerIsn sendId askId =
     }
 
 -- "until the peer's ISN is known, it and its reference are 0"
-abbrev pub opening : Pair → ℕ → ℕ → ℕ → State
-opening p isn sendId askId =
+abbrev pub opening : (way : ℕ) → Pair → ℕ → ℕ → ℕ → State
+opening way p isn sendId askId =
     record {
-      conn = record { stage = 0; pair = p; isn = isn; «peer_isn» = 0 };
+      conn = record { stage = 0; way = way; pair = p; isn = isn; «peer_isn» = 0 };
       sent = isn;
       seen = 0;
       «send_id» = sendId;
@@ -199,6 +213,7 @@ empty =
       conn =
           record {
             stage = 0;
+            way = 0;
             pair = record { family = 0; «local_port» = 0; «remote_port» = 0; local = replicate 16 0; remote = replicate 16 0 };
             isn = 0;
             «peer_isn» = 0;
@@ -219,6 +234,19 @@ withAccepted x sendId q =
       sent = q .sent;
       seen = max (q .seen) x;
       «send_id» = sendId;
+      «ask_id» = q .«ask_id»;
+      accepted = bump (q .accepted);
+      drops = q .drops;
+    }
+
+-- Ticket 9, once open: "after opening neither it nor signing moves a reference"; an accepted MD5 segment is counted and no more
+abbrev pub withCounted : State → State
+withCounted q =
+    record {
+      conn = q .conn;
+      sent = q .sent;
+      seen = q .seen;
+      «send_id» = q .«send_id»;
       «ask_id» = q .«ask_id»;
       accepted = bump (q .accepted);
       drops = q .drops;

@@ -122,17 +122,30 @@ past-row (suc k) a n r h = go (eqb n a) refl (past-row k (a + 1) n r)
 
 pub slot-is : (n : ℕ) → 20 ≤ n → n < 30 → slot n ≡ At (n - 20)
 unfolding slot row
-slot-is n h l = in-row 10 20 n (40 ∷ []) h (omega arith)
+slot-is n h l = in-row 10 20 n (40 ∷ 46 ∷ 47 ∷ []) h (omega arith)
 
 pub slot-40 : slot 40 ≡ At 10
 unfolding slot
 slot-40 = refl
 
-pub slot-none : (n : ℕ) → (n < 20) ⊎ (30 ≤ n) → (n ≡ 40 → ⊥) → slot n ≡ Nowhere
+pub slot-46 : slot 46 ≡ At 11
+unfolding slot
+slot-46 = refl
+
+pub slot-47 : slot 47 ≡ At 12
+unfolding slot
+slot-47 = refl
+
+pub slot-45 : slot 45 ≡ Nowhere
+unfolding slot
+slot-45 = refl
+
+-- a number that is none of them
+pub slot-none : (n : ℕ) → (n < 20) ⊎ (30 ≤ n) → (n ≡ 40 → ⊥) → (n ≡ 46 → ⊥) → (n ≡ 47 → ⊥) → slot n ≡ Nowhere
 unfolding slot row laterBy
-slot-none n h d =
-    past-row 10 20 n (40 ∷ []) (⊎-elim (λ (l : n < 20). inl l) (λ (l : 30 ≤ n). inr (omega arith)) h)
-    ∙ ap (λ (b : Bool). laterBy 10 (cond b (At 0) Nowhere)) (ne-eqb n 40 d)
+slot-none n h a b c =
+    past-row 10 20 n (40 ∷ 46 ∷ 47 ∷ []) (⊎-elim (λ (l : n < 20). inl l) (λ (l : 30 ≤ n). inr (omega arith)) h)
+    ∙ (λ j. laterBy 10 (cond (ne-eqb n 40 a j) (At 0) (later (cond (ne-eqb n 46 b j) (At 0) (later (cond (ne-eqb n 47 c j) (At 0) Nowhere))))))
 
 pub length-count : (n : ℕ) (ds : List ℕ) → length (countDrop n ds) ≡ length ds
 unfolding countDrop

@@ -13,7 +13,7 @@ use Rattle.keys.specs.declared.entry.Entry.{Entry}
 use Rattle.keys.specs.declared.table.Found.{Found}
 use Rattle.keys.specs.Entry.{isFamily, width, padded}
 use Rattle.keys.specs.Mirror.{Mirror}
-use Rattle.keys.specs.Table.{Tables, recvEntry}
+use Rattle.tables.specs.Tables.{Tables, noIndex, recvEntry}
 use Rattle.rules.specs.declared.Outcome.{Outcome}
 use Rattle.rules.specs.declared.Outcome.the-variants.{Good}
 use Rattle.rules.specs.declared.Verdict.the-variants.{Accept}
@@ -21,16 +21,17 @@ use Rattle.rules.specs.declared.Connection.{Connection}
 use Rattle.rules.specs.declared.State.{State}
 use Rattle.rules.specs.declared.Judged.{Judged}
 use Rattle.rules.specs.Segment.{keyId}
-use Rattle.rules.specs.Connection.{Arrival, localAddress, remoteAddress, arrivalPair, isOpen, extensionOf, nextKey, opened}
-use Rattle.rules.specs.Connection.{withAccepted}
+use Rattle.rules.specs.Connection.{Arrival, localAddress, remoteAddress, arrivalPair, isOpen, isMd5, aoWay, md5Way, extensionOf}
+use Rattle.rules.specs.Connection.{nextKey, opened, withAccepted}
 use Rattle.rules.specs.Calls.{check, checkSyn, verdictOf, indexOf, judgedBy, judged, judgedSyn, openedBy, openedPassively}
+use Rattle.rules.specs.Calls.{synIsMd5}
 use Rattle.rules.specs.Ends.{Typed, FacingUnder, OtherEnd, rechecked, withPorts, Delivered, SignedAt, Holds}
 use Rattle.rules.specs.Demand2.{SignedRight, SentComes, SentFaces, FacesUnder, rewritten, RewrittenComes, FacesBack}
 use Rattle.rules.specs.Demand2.{OpenSegment, SynAck, BareSyn, BareSynOpens, OpenedTogether}
 use Rattle.rules.specs.PortLaws.{Ports, portsOf, written, read-again, Small, own-ports}
 use Rattle.rules.specs.ChecksumLaws.{rechecked-self, checked-is, checked-ports, checked-right}
 use Rattle.rules.specs.DeliveryLaws.{address-length, signs, wrote-right, wrote-long, wrote-ports}
-use Rattle.rules.specs.AcceptedLaws.{open-accepted, syn-ack-accepted, syn-found, syn-accepted}
+use Rattle.rules.specs.AcceptedLaws.{open-accepted, syn-ack-accepted, syn-found, syn-way, syn-accepted}
 
 -- the family of addresses is told by their size
 family-by : (f n : ℕ) → isFamily f ≡ true → n ≡ width f → cond (eqb n 4) 4 6 ≡ f
@@ -48,19 +49,29 @@ sourceOf u = u .b0 * 2 ^ 8 + u .b1
 abbrev destinationOf : Ports → ℕ
 destinationOf u = u .b2 * 2 ^ 8 + u .b3
 
-low-extension : (n : ℕ) → n < 2 ^ 32 → n / 2 ^ 32 ≡ 0
+pub low-extension : (n : ℕ) → n < 2 ^ 32 → n / 2 ^ 32 ≡ 0
 low-extension n h = omega arith
 
--- what the call returns where its tests come to Good, by the receiver's stage
-judged-open : (t : Tables) (p : State) (a : Arrival) (x r : ℕ) → isOpen (p .conn) ≡ true → check t (p .conn) (p .seen) a ≡ Good x r
-    → judged t a p ≡ record { verdict = Accept (extensionOf x); index = 0; state = withAccepted x (nextKey t (p .conn .pair) r (p .«send_id»)) p }
+-- what the call returns where its tests come to Good, by the receiver's stage, on the TCP-AO way
+judged-open : (t : Tables) (p : State) (a : Arrival) (x r : ℕ) → isOpen (p .conn) ≡ true → isMd5 (p .conn) ≡ false
+    → check t (p .conn) (p .seen) a ≡ Good x r
+    → judged t a p ≡ record {
+      verdict = Accept (extensionOf x);
+      index = noIndex;
+      state = withAccepted x (nextKey t (p .conn .pair) r (p .«send_id»)) p;
+    }
 unfolding judged
-judged-open t p a x r opens e = ap (judgedBy t p) e ∙ rw opens
+judged-open t p a x r opens way e = ap (judgedBy t p) e ∙ rw (opens, way)
 
-judged-opening : (t : Tables) (p : State) (a : Arrival) (x r : ℕ) → isOpen (p .conn) ≡ false → check t (p .conn) (p .seen) a ≡ Good x r
-    → judged t a p ≡ record { verdict = Accept (extensionOf x); index = 0; state = opened (p .conn .pair) (p .conn .isn) x (nextKey t (p .conn .pair) r (p .«send_id»)) (p .«ask_id») }
+judged-opening : (t : Tables) (p : State) (a : Arrival) (x r : ℕ) → isOpen (p .conn) ≡ false → isMd5 (p .conn) ≡ false
+    → check t (p .conn) (p .seen) a ≡ Good x r
+    → judged t a p ≡ record {
+      verdict = Accept (extensionOf x);
+      index = noIndex;
+      state = opened (p .conn .way) (p .conn .pair) (p .conn .isn) x (nextKey t (p .conn .pair) r (p .«send_id»)) (p .«ask_id»);
+    }
 unfolding judged
-judged-opening t p a x r opening e = ap (judgedBy t p) e ∙ rw opening
+judged-opening t p a x r opening way e = ap (judgedBy t p) e ∙ rw (opening, way)
 
 pub signed-right : SignedRight
 signed-right q e x b typed g = wrote-right q e x b g typed
@@ -170,44 +181,53 @@ sent-faces q e x b typed g =
         ∙ take-at (take (width (q .conn .pair .family)) a) _ (width (q .conn .pair .family)) (address-length (q .conn .pair .family) a h)
 
 pub open-segment : OpenSegment
-open-segment q e x b a t p tq tp allowed other g v h near =
-    judged-open t p a x (q .«ask_id») (other .here)
-    (open-accepted q tq e x b g (p .conn) a v (other .pair) t (h .valid) (h .place) (h .ours) (h .among) (h .mirror) allowed (tp .local)
-    (tp .remote) other (p .seen) near)
+open-segment q e x b a t p tq tp allowed there here other g v h near =
+    judged-open t p a x (q .«ask_id») (other .here) here
+    (open-accepted q tq there e x b g (p .conn) a v (other .pair) t (h .valid) (h .place) (h .ours) (h .among) (h .mirror) here allowed
+    (tp .local) (tp .remote) other (p .seen) near)
 
 pub syn-ack : SynAck
-syn-ack q e x b a t p tq tp allowed there here facing isn g its-syn v h =
-    judged-opening t p a (q .conn .isn) (q .«ask_id») here
-    (syn-ack-accepted q tq e x b g (p .conn) a v facing t (h .valid) (h .place) (h .ours) (h .among) (h .mirror) allowed (tp .local)
-    (tp .remote) there here isn its-syn (p .seen))
+syn-ack q e x b a t p tq tp allowed way-there way-here there here facing isn g its-syn v h =
+    judged-opening t p a (q .conn .isn) (q .«ask_id») here way-here
+    (syn-ack-accepted q tq way-there e x b g (p .conn) a v facing t (h .valid) (h .place) (h .ours) (h .among) (h .mirror) way-here allowed
+    (tp .local) (tp .remote) there here isn its-syn (p .seen))
     ∙ (λ j. record {
       verdict = Accept (low-extension (q .conn .isn) (tq .isn) j);
-      index = 0;
-      state = opened (p .conn .pair) (p .conn .isn) (q .conn .isn) (nextKey t (p .conn .pair) (q .«ask_id») (p .«send_id»)) (p .«ask_id»);
+      index = noIndex;
+      state =
+          opened (p .conn .way) (p .conn .pair) (p .conn .isn) (q .conn .isn) (nextKey t (p .conn .pair) (q .«ask_id») (p .«send_id»))
+          (p .«ask_id»);
     })
 
 -- The bare SYN of an opening end.
-module _ (q : State) (e : Entry) (x : ℕ) (b : List ℕ) (a : Arrival) (t : Tables) (typed : Typed q) (opening : isOpen (q .conn) ≡ false)
-    (facing : FacingUnder (e .secret) (arrivalPair a) (q .conn .pair)) (g : SignedAt q e x b) (v : Delivered (arrivalPair a) b a)
-    (h : Holds t (arrivalPair a) (q .conn .pair) e) (strict : Bool) where
+module _ (q : State) (e : Entry) (x : ℕ) (b : List ℕ) (a : Arrival) (t : Tables) (typed : Typed q) (way : isMd5 (q .conn) ≡ false)
+    (opening : isOpen (q .conn) ≡ false) (facing : FacingUnder (e .secret) (arrivalPair a) (q .conn .pair)) (g : SignedAt q e x b)
+    (v : Delivered (arrivalPair a) b a) (h : Holds t (arrivalPair a) (q .conn .pair) e) (strict : Bool) where
   syn-good : checkSyn t a strict ≡ Good (q .conn .isn) (q .«ask_id»)
   syn-good =
-      syn-accepted q typed opening e x b g a v facing t (h .valid) strict (h .place) (h .ours) (h .among) (h .mirror)
+      syn-accepted q typed way opening e x b g a v facing t (h .valid) strict (h .place) (h .ours) (h .among) (h .mirror)
 
   syn-entry : recvEntry t (arrivalPair a) (keyId (a .segment)) .entry ≡ h .ours
   syn-entry =
       ap (λ (f : Found). f .entry)
-      (syn-found q typed opening e x b g a v facing t (h .valid) strict (h .place) (h .ours) (h .among) (h .mirror))
+      (syn-found q typed way opening e x b g a v facing t (h .valid) strict (h .place) (h .ours) (h .among) (h .mirror))
 
-  syn-judged : judgedSyn t a strict ≡ record { verdict = Accept 0; index = 0 }
+  its-way : synIsMd5 t (arrivalPair a) ≡ false
+  its-way = syn-way q typed way opening e x b g a v facing t (h .valid) strict (h .place) (h .ours) (h .among) (h .mirror)
+
+  syn-judged : judgedSyn t a strict ≡ record { verdict = Accept 0; index = noIndex }
   unfolding judgedSyn
   syn-judged =
       ap (λ (o : Outcome). record { verdict = verdictOf o; index = indexOf o }) syn-good
-      ∙ ap (λ (n : ℕ). record { verdict = Accept n; index = 0 }) (low-extension (q .conn .isn) (typed .isn))
+      ∙ ap (λ (n : ℕ). record { verdict = Accept n; index = noIndex }) (low-extension (q .conn .isn) (typed .isn))
 
   syn-opens : (isn : ℕ)
-      → openedPassively t a isn strict ≡ record
-      { verdict = Accept 0; index = 0; state = opened (arrivalPair a) isn (q .conn .isn) (nextKey t (arrivalPair a) (q .«ask_id») (h .ours .ids .send)) (h .ours .ids .recv) }
+      → openedPassively t a isn strict ≡ record {
+        verdict = Accept 0;
+        index = noIndex;
+        state =
+            opened aoWay (arrivalPair a) isn (q .conn .isn) (nextKey t (arrivalPair a) (q .«ask_id») (h .ours .ids .send)) (h .ours .ids .recv);
+      }
   unfolding openedPassively
   syn-opens isn =
       (λ j. record {
@@ -217,9 +237,14 @@ module _ (q : State) (e : Entry) (x : ℕ) (b : List ℕ) (a : Arrival) (t : Tab
       })
       ∙ (λ j. record {
         verdict = Accept (low-extension (q .conn .isn) (typed .isn) j);
-        index = 0;
-        state = opened (arrivalPair a) isn (q .conn .isn) (nextKey t (arrivalPair a) (q .«ask_id») (h .ours .ids .send)) (h .ours .ids .recv);
+        index = noIndex;
+        state = opens (its-way j);
       })
+    where
+      opens : Bool → State
+      opens md5 =
+          cond md5 (opened md5Way (arrivalPair a) isn (q .conn .isn) 0 0)
+          (opened aoWay (arrivalPair a) isn (q .conn .isn) (nextKey t (arrivalPair a) (q .«ask_id») (h .ours .ids .send)) (h .ours .ids .recv))
 
 pub bare-syn : BareSyn
 bare-syn = syn-judged
@@ -229,15 +254,15 @@ bare-syn-opens = syn-opens
 
 -- The three steps of an opening.
 pub opened-together : OpenedTogether
-opened-together active e x b a t typed opening facing g v h strict isn passive f y c r u now tp tn at-passive at-now back k its-syn w j = (
+opened-together active e x b a t typed way opening facing g v h strict isn passive f y c r u now tp tn at-passive at-now back k its-syn w j = (
   subst⁻¹ (λ (z : Connection). OtherEnd (f .secret) z (passive .conn)) opens
       (record { here = refl; there = there; pair = back; isn = isns; peer = refl }),
   subst⁻¹ (λ (z : Connection). OtherEnd (e .secret) (passive .conn) z) opens
       (record { here = there; there = refl; pair = forth; isn = refl; peer = sym isns }),
 )
   where
-    conn : passive .conn ≡ record { stage = 1; pair = arrivalPair a; isn = isn; «peer_isn» = active .conn .isn }
-    conn = at-passive ∙ ap (λ (r : Judged). r .state .conn) (syn-opens active e x b a t typed opening facing g v h strict isn)
+    conn : passive .conn ≡ record { stage = 1; way = 0; pair = arrivalPair a; isn = isn; «peer_isn» = active .conn .isn }
+    conn = at-passive ∙ ap (λ (r : Judged). r .state .conn) (syn-opens active e x b a t typed way opening facing g v h strict isn)
 
     there : isOpen (passive .conn) ≡ true
     there = ap isOpen conn
@@ -249,8 +274,8 @@ opened-together active e x b a t typed opening facing g v h strict isn passive f
     forth = subst₂ (λ (l m : Connection). FacingUnder (e .secret) (l .pair) (m .pair)) (sym conn) (sym at-now) facing
 
     opens : judged u r now .state .conn
-        ≡ record { stage = 1; pair = now .conn .pair; isn = now .conn .isn; «peer_isn» = passive .conn .isn }
+        ≡ record { stage = 1; way = now .conn .way; pair = now .conn .pair; isn = now .conn .isn; «peer_isn» = passive .conn .isn }
     opens =
         ap (λ (z : Judged). z .state .conn)
-        (syn-ack passive f y c r u now tp tn (ap (λ (l : Connection). isFamily (l .pair .family)) at-now ∙ signs active e x b g .allowed) there
-        (ap isOpen at-now ∙ opening) back isns k its-syn w j)
+        (syn-ack passive f y c r u now tp tn (ap (λ (l : Connection). isFamily (l .pair .family)) at-now ∙ signs active e x b g .allowed)
+        (ap isMd5 conn) (ap isMd5 at-now ∙ way) there (ap isOpen at-now ∙ opening) back isns k its-syn w j)

@@ -1,16 +1,19 @@
 -- Demand 3, as a statement: document 01's last section and the demand's own words. `demand3` of OrderLaws proves it.
 use Prim.Native.Nat.{ℕ, _+_, _^_, _<_, max}
 use mathlib.Core.Path.{_≡_}
-use mathlib.Core.Bool.{Bool, true, cond}
+use mathlib.Core.Bool.{Bool, true, false, cond}
 use mathlib.Core.List.{List, [], _∷_, map, List·Permᴰ}
 use Rattle.octets.specs.Each.{Each}
 use Rattle.rules.specs.declared.Verdict.{Verdict}
 use Rattle.rules.specs.declared.Verdict.the-variants.{Accept}
 use Rattle.rules.specs.declared.Connection.{Connection}
 use Rattle.rules.specs.declared.State.{State}
-use Rattle.keys.specs.Table.{Tables, ValidTable}
-use Rattle.rules.specs.Connection.{Arrival, isOpen, sized, extensionOf, stop, available}
+use Rattle.tables.specs.declared.Admitted.the-variants.{Valid}
+use Rattle.tables.specs.Tables.{Tables}
+use Rattle.tables.specs.Valid.{ValidTables}
+use Rattle.rules.specs.Connection.{Arrival, isOpen, isMd5, sized, extensionOf, stop, available}
 use Rattle.rules.specs.Calls.{judged}
+use Rattle.rules.specs.Lent.{Lent, tables}
 use Rattle.rules.specs.Ends.{Typed, Allowed, TrueSegment, Verifies}
 
 -- A list of calls: "each call gets the state that the one before returned, and nothing else writes it meanwhile".
@@ -118,15 +121,17 @@ abbrev pub after : (t : Tables) (q : State) → List (Arriving t (q .conn)) → 
 after t q l = judgeAll t q (map arrival l) .state
 
 -- What the demand is given: "an open connection and a fixed valid key table", a state that 18 allows, and "The true positions lie less
--- than 2^31 from each other and from the starting reference."
+-- than 2^31 from each other and from the starting reference." Ticket 9: "the MD5 table given beside the key table is not refused (10 to 17,
+-- 45), and in demand 3 it is fixed too. Demand 3 .. not asked for MD5 lines, the connections opened by MD5"
 pub record Given (t : Tables) (q : State) (l : List (Arriving t (q .conn))) : Type 0 where
-  pub valid : ValidTable t
+  pub valid : ValidTables t
   pub typed : Typed q
   pub allowed : Allowed (q .conn)
   pub is-open : isOpen (q .conn) ≡ true
+  pub way : isMd5 (q .conn) ≡ false
   pub close : Close (q .seen ∷ positions l)
 
--- The demand, of one list of arrivals on the connection of q under the table t.
+-- The demand, of one list of arrivals on the connection of q under the tables t.
 pub record Demand3 (t : Tables) (q : State) (l : List (Arriving t (q .conn))) : Type 0 where
   pub verdicts : AllFit l (judgeAll t q (map arrival l) .verdicts)
   -- "After the list the reference is the largest of the starting one and the true positions."
@@ -146,3 +151,8 @@ pub record Demand3 (t : Tables) (q : State) (l : List (Arriving t (q .conn))) : 
 -- "one claim about the whole list of arrivals judged on a connection"
 abbrev pub Demand3Holds : Type 0
 Demand3Holds = (t : Tables) (q : State) (l : List (Arriving t (q .conn))) → Given t q l → Demand3 t q l
+
+-- of bytes that are not refused, the same
+abbrev pub Demand3Lent : Type 0
+Demand3Lent = (b : Lent) (n : ℕ) (q : State) (l : List (Arriving (tables b) (q .conn))) → tables b .answer ≡ Valid n → Typed q
+    → Allowed (q .conn) → isOpen (q .conn) ≡ true → isMd5 (q .conn) ≡ false → Close (q .seen ∷ positions l) → Demand3 (tables b) q l

@@ -11,10 +11,13 @@ use Rattle.wire.specs.Header.{sourcePort, destinationPort, sequence, wellSized}
 use Rattle.keys.specs.declared.entry.Pair.{Pair}
 use Rattle.keys.specs.declared.entry.Entry.{Entry}
 use Rattle.keys.specs.declared.entry.Secret.{Secret}
-use Rattle.keys.specs.Entry.{isFamily, localHidden, remoteHidden, entries}
-use Rattle.keys.specs.Table.{Tables, ValidTable, recvEntry}
+use Rattle.keys.specs.Entry.{isFamily, localHidden, remoteHidden, keyOf}
 use Rattle.keys.specs.Places.{At as EntryAt}
+use Rattle.keys.specs.Match.{matches}
 use Rattle.keys.specs.Mirror.{Mirror}
+use Rattle.tables.specs.declared.Admitted.the-variants.{Valid}
+use Rattle.tables.specs.Tables.{Tables, recvEntry}
+use Rattle.tables.specs.Valid.{ValidTables}
 use Rattle.rules.specs.declared.Place.the-variants.{At}
 use Rattle.rules.specs.declared.Connection.{Connection}
 use Rattle.rules.specs.declared.State.{State}
@@ -25,6 +28,7 @@ use Rattle.rules.specs.Checksum.{sumsRight}
 use Rattle.rules.specs.Segment.{malformed, ao, md5, aoAt, keyId, macIn, isBareSyn}
 use Rattle.rules.specs.Connection.{Arrival, localAddress, remoteAddress, isOpen, arriving, placeOn, slots}
 use Rattle.rules.specs.Calls.{outgoing, signed, output}
+use Rattle.rules.specs.Lent.{Lent, tables}
 
 -- What a value of a Rattle type is known to be, where it matters: references are below 2 ^ 64, ISNs below 2 ^ 32, arrays full.
 pub record Typed (q : State) : Type 0 where
@@ -86,37 +90,56 @@ pub record Delivered (p : Pair) (bytes : List ℕ) (a : Arrival) : Type 0 where
   pub segment : a .segment ≡ rechecked high low (withPorts (p .«remote_port») (p .«local_port») bytes)
   pub right : sumsRight (a .source) (a .destination) (a .segment) ≡ true
 
--- bytes that the signing call wrote, given the state q and some table, segment and output, under the entry e: "A signed segment's true
+-- bytes that the signing call wrote, given the state q and some tables, segment and output, under the entry e: "A signed segment's true
 -- position is the X it was signed by."
 pub record SignedAt (q : State) (e : Entry) (x : ℕ) (bytes : List ℕ) : Type 0 where
-  pub table : Tables
+  pub lent : Lent
   pub unsigned : List ℕ
   pub out : List ℕ
   pub octets : Octets unsigned
-  pub answer : signed table unsigned out q .answer ≡ S.Signed (length bytes)
-  pub wrote : bytes ≡ take (length bytes) (output table unsigned out q)
-  pub under : outgoing table q .entry ≡ e
+  pub answer : signed (tables lent) unsigned out q .answer ≡ S.Signed (length bytes)
+  pub wrote : bytes ≡ take (length bytes) (output (tables lent) unsigned out q)
+  pub under : outgoing (tables lent) q .entry ≡ e
   pub position : placeOn (q .conn) (q .sent) (sequence unsigned) ≡ At x
 
+-- Of bytes, valid is what is not refused: so of lent tables the demands ask no more than their answer.
+abbrev pub LentValid : Type 0
+LentValid = (b : Lent) (n : ℕ) → tables b .answer ≡ Valid n → ValidTables (tables b)
+
 -- "it holds the mirrored key in a valid table": of the other end's entry e, on the connection whose pair this end holds as p and that end
--- as q
+-- as q. Ticket 9: "the MD5 table given beside the key table is not refused (10 to 17, 45)"
 pub record Holds (t : Tables) (p q : Pair) (e : Entry) : Type 0 where
-  pub valid : ValidTable t
+  pub valid : ValidTables t
   pub ours : Entry
   pub place : ℕ
-  pub among : EntryAt (entries t) place ours
+  pub among : EntryAt (t .keys) place ours
   pub mirror : Mirror p q ours e
+
+-- MD5 entries that mirror each other: "each matches the pair as its own end holds it", and the keys agree
+pub record Md5Mirror (p q : Pair) (e f : Entry) : Type 0 where
+  pub here : matches (e .selector) p ≡ true
+  pub there : matches (f .selector) q ≡ true
+  pub key : keyOf (e .secret) ≡ keyOf (f .secret)
+
+-- the same of an MD5 entry
+pub record HoldsMd5 (t : Tables) (p q : Pair) (e : Entry) : Type 0 where
+  pub valid : ValidTables t
+  pub ours : Entry
+  pub place : ℕ
+  pub among : EntryAt (t .md5s) place ours
+  pub mirror : Md5Mirror p q ours e
 
 -- "A true segment was signed at the other end, in a state open on this connection .., under a mirror of one of the table's entries; it
 -- arrives with our state's pair and as signed, except perhaps for its checksum."; Ticket 10: "Demand 3's true segments come so too",
--- rewritten on a side whose bit is set. Its position is x, and it asks for the key r.
+-- rewritten on a side whose bit is set. Its position is x, and it asks for the key r. That it was signed by TCP-AO follows: in valid tables
+-- a key entry's algorithm is no MD5 entry's.
 pub record TrueSegment (t : Tables) (l : Connection) (a : Arrival) (x r : ℕ) : Type 0 where
   pub peer : State
   pub typed : Typed peer
   pub ours : Entry
   pub theirs : Entry
   pub place : ℕ
-  pub among : EntryAt (entries t) place ours
+  pub among : EntryAt (t .keys) place ours
   pub mirror : Mirror (l .pair) (peer .conn .pair) ours theirs
   pub other : OtherEnd (theirs .secret) l (peer .conn)
   pub bytes : List ℕ

@@ -11,11 +11,19 @@ use Rattle.keys.specs.declared.entry.Entry.{Entry}
 use Rattle.keys.specs.declared.entry.Pair.{Pair}
 use Rattle.keys.specs.declared.table.Found.{Found}
 use Rattle.keys.specs.declared.table.Loaded.{Loaded}
-use Rattle.keys.specs.declared.table.Loaded.the-variants.{Valid, Refused}
-use Rattle.keys.specs.Entry.{Item, items}
+use Rattle.keys.specs.declared.table.Loaded.the-variants.{Valid as LoadedValid, Refused as LoadedRefused}
+use Rattle.keys.specs.declared.table.TableKind.{TableKind}
+use Rattle.keys.specs.declared.table.TableKind.the-variants.{Keys, Md5}
+use Rattle.keys.specs.Entry.{Item, items, entries}
 use Rattle.keys.specs.Table as K
 use Rattle.keys.specs.FaultLaws.{number-none}
+use Rattle.keys.specs.FoundLaws.{found-there}
+use Rattle.keys.specs.LoadLaws.{valid-formed}
 use Rattle.keys.specs.MatchLaws.{and-true}
+use Rattle.keys.specs.PlaceLaws.{at-below}
+use Rattle.tables.specs.declared.Admitted.{Admitted}
+use Rattle.tables.specs.declared.Admitted.the-variants.{Valid, Refused}
+use Rattle.tables.specs.Tables.{Tables, maxEntries, crossing, besides, admitted, sendEntry, anyEntry, md5Entry}
 use Rattle.rules.specs.declared.Outcome.{Outcome}
 use Rattle.rules.specs.declared.Outcome.the-variants.{Good, Passed, Bad}
 use Rattle.rules.specs.declared.Connection.{Connection}
@@ -23,16 +31,18 @@ use Rattle.rules.specs.declared.State.{State}
 use Rattle.rules.specs.declared.Done.the-variants as D
 use Rattle.octets.specs.Tests.{Test, first}
 use Rattle.octets.specs.TestLaws.{eachGives, first-passes}
-use Rattle.rules.specs.Connection.{Arrival, arrivalPair, pairOf, empty}
-use Rattle.rules.specs.Calls.{refuse, isRefused, refusal, verdictOf, judgeTests, check, judged, judgeSynTests, checkSyn, judgedSyn}
-use Rattle.rules.specs.Calls.{openedPassively, unrefused, settledBy, openTests, openedWith, openedActively, askTests, asked, outgoing}
-use Rattle.rules.specs.Calls.{signTests, checkSign, signedBy, signed}
+use Rattle.rules.specs.Connection.{Arrival, arrivalPair, isMd5, pairOf, empty}
+use Rattle.rules.specs.Calls.{refuse, isRefused, refusal, verdictOf, judgeTests, check, judged, synIsMd5, judgeSynTests, checkSyn}
+use Rattle.rules.specs.Calls.{judgedSyn, openedPassively, unrefused, settledBy, openTests, openedActively, openedActivelyMd5, askTests}
+use Rattle.rules.specs.Calls.{asked, outgoing, signTests, checkSign, signedBy, signed}
+use Rattle.rules.specs.Lent.{Lent, tables}
 use Rattle.rules.specs.History.{judge, sign, ask}
 use Rattle.rules.specs.GroupLaws.{unknown-passes}
-use Rattle.rules.specs.Refusals.{Request, on, judgeSyn, openPassively, openActively, byVerdict, bySigning}
-use Rattle.rules.specs.GivenNumbers.{among, tableNumbers, judgeNumbers, synNumbers, signNumbers, askNumbers, openNumbers, numbersOf}
-use Rattle.rules.specs.GivenNumbers.{Bounded, isPass, RefusedAmong, RefusedBounds, CheckedWithin, TableBounds, JudgeNeverPasses}
-use Rattle.rules.specs.GivenNumbers.{SignNotPassed, AskNotPassed, OpenNotPassed}
+use Rattle.rules.specs.JudgeLaws.{notPassed, refusal-not-passed, check-not-passed}
+use Rattle.rules.specs.Refusals.{Request, on, judgeSyn, openPassively, openActively, openActivelyMd5, byVerdict, bySigning}
+use Rattle.rules.specs.GivenNumbers.{among, tableNumbers, judgeNumbers, md5JudgeNumbers, synNumbers, md5SynNumbers, signNumbers}
+use Rattle.rules.specs.GivenNumbers.{askNumbers, openNumbers, numbersOf, Bounded, isPass, RefusedAmong, RefusedBounds, CheckedWithin}
+use Rattle.rules.specs.GivenNumbers.{TableBounds, JudgeNeverPasses, SignNotPassed, AskNotPassed, OpenNotPassed}
 
 -- all of them pass f
 abbrev pub every : (ℕ → Bool) → List ℕ → Bool
@@ -48,7 +58,7 @@ among-every f n (m ∷ l) e a = go (eqb n m) (f m) refl refl (among-every f n l)
     go true true q r ih = ap f (eqb-true n m q) ∙ r
     go false true q r ih = ih (rw r at e) (rw q at a)
 
--- The key table.
+-- The tables.
 
 -- one of them, or 0, which is given where no test applies
 abbrev orNone : ℕ → Bool
@@ -68,20 +78,67 @@ less i limit h n = go (ltb i limit) refl
     go true e = omega (arith, ltb-true i limit e)
     go false e = absurd (n (omega (arith, ltb-false i limit e)))
 
-from-within : (limit : ℕ) (l : List Item) (i : ℕ) (before : List Entry) → i ≤ limit → Bounded limit (K.loadedFrom limit i before l)
-unfolding K.loadedFrom
-from-within limit [] i before h = h
-from-within limit (x ∷ l) i before h = go (K.numberOf (K.loadTests limit i before x)) refl (from-within limit l (i + 1) (before ++ (x .entry ∷ [])))
-  where
-    go : (m : ℕ) → K.numberOf (K.loadTests limit i before x) ≡ m → (i + 1 ≤ limit → Bounded limit (K.loadedFrom limit (i + 1) (before ++ (x .entry ∷ [])) l))
-        → Bounded limit (K.loadedFrom limit i before (x ∷ l))
-    go zero q ih = rw q (ih (less i limit h (eqb-false i limit (number-none (K.loadTests limit i before x) refl q .0))))
-    go (suc m) q ih = rw q (first-number (K.loadTests limit i before x) m refl q, h)
+-- the tests of an entry in a table of either kind
+each-number : (kind : TableKind) (limit i : ℕ) (before : List Entry) (x : Item)
+    → eachGives orNone (K.loadTests kind limit i before x) ≡ true
+each-number Keys limit i before x = refl
+each-number Md5 limit i before x = refl
 
--- what a table gives: at most 64 entries, or 10 to 17 with an index up to 64
+-- one table by itself
+abbrev Loads : ℕ → Loaded → Type 0
+Loads limit (LoadedValid n) = n ≤ limit
+Loads limit (LoadedRefused n i) = (among n tableNumbers ≡ true) × (i ≤ limit)
+
+module _ (kind : TableKind) (limit : ℕ) where
+  no-limit : (i : ℕ) (before : List Entry) (x : Item) → K.numberOf (K.loadTests kind limit i before x) ≡ 0 → eqb i limit ≡ false
+  no-limit i before x q = go kind refl
+    where
+      go : (k : TableKind) → kind ≡ k → eqb i limit ≡ false
+      go Keys e = number-none (K.loadTests Keys limit i before x) refl (rw e at q) .0
+      go Md5 e = number-none (K.loadTests Md5 limit i before x) refl (rw e at q) .0
+
+  from-within : (l : List Item) (i : ℕ) (before : List Entry) → i ≤ limit → Loads limit (K.loadedFrom kind limit i before l)
+  unfolding K.loadedFrom
+  from-within [] i before h = h
+  from-within (x ∷ l) i before h =
+      go (K.numberOf (K.loadTests kind limit i before x)) refl (from-within l (i + 1) (before ++ (x .entry ∷ [])))
+    where
+      go : (m : ℕ) → K.numberOf (K.loadTests kind limit i before x) ≡ m
+          → (i + 1 ≤ limit → Loads limit (K.loadedFrom kind limit (i + 1) (before ++ (x .entry ∷ [])) l))
+          → Loads limit (K.loadedFrom kind limit i before (x ∷ l))
+      go zero q ih = rw q (ih (less i limit h (eqb-false i limit (no-limit i before x q))))
+      go (suc m) q ih = rw q (first-number (K.loadTests kind limit i before x) m (each-number kind limit i before x) q, h)
+
+  loads-within : (t : List ℕ) → Loads limit (K.loaded kind limit t)
+  unfolding K.loaded
+  loads-within t = from-within (items 0 t) 0 [] (omega arith)
+
+-- what the tables give: at most 64 entries, or 10 to 17 or 45 with an index up to 64
 pub checked-within : CheckedWithin
-unfolding K.loaded
-checked-within t = from-within K.maxEntries (items 0 t) 0 [] (omega arith)
+unfolding admitted besides
+checked-within b = go (K.loaded Keys maxEntries k) (K.loaded Md5 maxEntries m) (x .there) refl refl refl
+  where
+    k : List ℕ
+    k = b .keys
+
+    m : List ℕ
+    m = b .md5
+
+    x : Found
+    x = crossing (entries k) (entries m)
+
+    go : (o p : Loaded) (c : Bool) → K.loaded Keys maxEntries k ≡ o → K.loaded Md5 maxEntries m ≡ p → x .there ≡ c
+        → Bounded maxEntries (tables b .answer)
+    go (LoadedRefused n i) p c e f q = let w = rw e at (loads-within Keys maxEntries k) in rw e (w .0, omega arith, w .1)
+    go (LoadedValid n) (LoadedRefused j i) c e f q =
+        let w = rw f at (loads-within Md5 maxEntries m) in rw (e, f) (w .0, omega arith, w .1)
+    go (LoadedValid n) (LoadedValid j) true e f q =
+        let h = found-there (K.meetsAny (entries k)) (entries m) 0 q in
+        let z : x .index ≡ 0 + h .0 = ap (λ (y : Found). y .index) (h .4) in
+        let w = at-below (h .2) in
+        let v = valid-formed Md5 maxEntries j m f .0 .few in
+        rw (e, f, q) (refl, omega arith, omega (arith, z, w, v))
+    go (LoadedValid n) (LoadedValid j) false e f q = rw (e, f, q) (rw e at (loads-within Keys maxEntries k))
 
 -- What the tests of a call come to.
 
@@ -107,16 +164,16 @@ first-only pass l (t ∷ ts) o e p = go (only pass l (t .gives)) (t .applies) re
     go true false q r ih = rw r (ih (rw q at e) p)
     go false false q r ih = rw r (ih (rw (q, r) at e) p)
 
--- the table's test: 10 to 17 where it applies
-table-only : (pass : Bool) (l : List ℕ) (t : K.Tables) → every (λ (n : ℕ). among n l) tableNumbers ≡ true
-    → (only pass l (refusal (K.checked t)) || not (isRefused (K.checked t))) ≡ true
-table-only pass l t e = go (K.checked t) (checked-within t)
+-- the tables' test: 10 to 17, 45 where it applies
+table-only : (pass : Bool) (l : List ℕ) (b : Lent) → every (λ (n : ℕ). among n l) tableNumbers ≡ true
+    → (only pass l (refusal (tables b .answer)) || not (isRefused (tables b .answer))) ≡ true
+table-only pass l b e = go (tables b .answer) (checked-within b)
   where
     or-true : (b : Bool) → (b || true) ≡ true
     or-true true = refl
     or-true false = refl
 
-    go : (o : Loaded) → Bounded K.maxEntries o → (only pass l (refusal o) || not (isRefused o)) ≡ true
+    go : (o : Admitted) → Bounded maxEntries o → (only pass l (refusal o) || not (isRefused o)) ≡ true
     go (Valid n) w = or-true (among 0 l)
     go (Refused n i) w = rw (among-every (λ (m : ℕ). among m l) n tableNumbers e (w .0))
 
@@ -125,27 +182,48 @@ pass-only : (l : List ℕ) (b : Bool) (n : ℕ) → among n l ≡ true → only 
 pass-only l true n e = e
 pass-only l false n e = refl
 
-pub check-only : (t : K.Tables) (l : Connection) (reference : ℕ) (a : Arrival) → only false judgeNumbers (check t l reference a) ≡ true
+-- judging, by the way
+pub check-only : (b : Lent) (l : Connection) (reference : ℕ) (a : Arrival)
+    → only false (cond (isMd5 l) md5JudgeNumbers judgeNumbers) (check (tables b) l reference a) ≡ true
 unfolding check
-check-only t l reference a = first-only false judgeNumbers (judgeTests t l reference a) _ (rw (table-only false judgeNumbers t refl)) refl
+check-only b l reference a = go (isMd5 l) refl
+  where
+    go : (m : Bool) → isMd5 l ≡ m → only false (cond (isMd5 l) md5JudgeNumbers judgeNumbers) (check (tables b) l reference a) ≡ true
+    go true w =
+        ap (λ (m : Bool). only false (cond m md5JudgeNumbers judgeNumbers) (check (tables b) l reference a)) w
+        ∙ first-only false md5JudgeNumbers (judgeTests (tables b) l reference a) _ (rw (w, table-only false md5JudgeNumbers b refl)) refl
+    go false w =
+        ap (λ (m : Bool). only false (cond m md5JudgeNumbers judgeNumbers) (check (tables b) l reference a)) w
+        ∙ first-only false judgeNumbers (judgeTests (tables b) l reference a) _ (rw (w, table-only false judgeNumbers b refl)) refl
 
-pub checkSyn-only : (t : K.Tables) (a : Arrival) (strict : Bool) → only true synNumbers (checkSyn t a strict) ≡ true
+pub checkSyn-only : (b : Lent) (a : Arrival) (strict : Bool)
+    → only true (cond (synIsMd5 (tables b) (arrivalPair a)) md5SynNumbers synNumbers) (checkSyn (tables b) a strict) ≡ true
 unfolding checkSyn
-checkSyn-only t a strict =
-    let missing = pass-only synNumbers (K.anyEntry t (arrivalPair a)) 25 refl in
-    let unknown = unknown-passes (only true synNumbers) t (arrivalPair a) strict refl refl in
-    first-only true synNumbers (judgeSynTests t a strict) _
-    (rw (table-only true synNumbers t refl, missing, unknown)) refl
+checkSyn-only b a strict = go (synIsMd5 (tables b) (arrivalPair a)) refl
+  where
+    go : (m : Bool) → synIsMd5 (tables b) (arrivalPair a) ≡ m
+        → only true (cond (synIsMd5 (tables b) (arrivalPair a)) md5SynNumbers synNumbers) (checkSyn (tables b) a strict) ≡ true
+    go true w =
+        ap (λ (m : Bool). only true (cond m md5SynNumbers synNumbers) (checkSyn (tables b) a strict)) w
+        ∙ first-only true md5SynNumbers (judgeSynTests (tables b) a strict) _ (rw (w, table-only true md5SynNumbers b refl)) refl
+    go false w =
+        let missing = pass-only synNumbers (anyEntry (tables b) (arrivalPair a)) 25 refl in
+        let unknown = unknown-passes (only true synNumbers) (tables b) (arrivalPair a) strict refl refl in
+        ap (λ (m : Bool). only true (cond m md5SynNumbers synNumbers) (checkSyn (tables b) a strict)) w
+        ∙ first-only true synNumbers (judgeSynTests (tables b) a strict) _ (rw (w, table-only true synNumbers b refl, missing, unknown)) refl
 
-pub checkSign-only : (t : K.Tables) (s : List ℕ) (room : ℕ) (q : State) → only false signNumbers (checkSign t s room q) ≡ true
+pub checkSign-only : (b : Lent) (s : List ℕ) (room : ℕ) (q : State) → only false signNumbers (checkSign (tables b) s room q) ≡ true
 unfolding checkSign
-checkSign-only t s room q = first-only false signNumbers (signTests t s room q (outgoing t q)) _ (rw (table-only false signNumbers t refl)) refl
+checkSign-only b s room q =
+    first-only false signNumbers (signTests (tables b) s room q (outgoing (tables b) q)) _ (rw (table-only false signNumbers b refl)) refl
 
-pub ask-only : (t : K.Tables) (id : ℕ) (l : Connection) → only false askNumbers (first (askTests t id l) unrefused) ≡ true
-ask-only t id l = first-only false askNumbers (askTests t id l) unrefused (rw (table-only false askNumbers t refl)) refl
+pub ask-only : (b : Lent) (id : ℕ) (l : Connection) → only false askNumbers (first (askTests (tables b) id l) unrefused) ≡ true
+ask-only b id l = first-only false askNumbers (askTests (tables b) id l) unrefused (rw (table-only false askNumbers b refl)) refl
 
-pub open-only : (t : K.Tables) (local remote : List ℕ) (found : Found) → only false openNumbers (first (openTests t local remote found) unrefused) ≡ true
-open-only t local remote found = first-only false openNumbers (openTests t local remote found) unrefused (rw (table-only false openNumbers t refl)) refl
+pub open-only : (b : Lent) (local remote : List ℕ) (found : Found)
+    → only false openNumbers (first (openTests (tables b) local remote found) unrefused) ≡ true
+open-only b local remote found =
+    first-only false openNumbers (openTests (tables b) local remote found) unrefused (rw (table-only false openNumbers b refl)) refl
 
 -- The answers by their outcomes.
 
@@ -164,67 +242,84 @@ settled-among old new l (Good x r) n p e = let z : _≡_ {A = ℕ} 0 1 = cc in a
 settled-among old new l Passed n p e = let z : _≡_ {A = ℕ} 0 1 = cc (p) in absurd (omega arith)
 settled-among old new l (Bad m i) n p e = let z : m ≡ n = cc in sym (ap (λ (k : ℕ). among k l) z) ∙ p
 
-active-among : (t : K.Tables) (local remote : List ℕ) (p : Pair) (isn sendId n : ℕ) → openedWith t local remote p isn sendId .answer ≡ D.Refused n → among n openNumbers ≡ true
-active-among t local remote p isn sendId n e =
-    settled-among empty _ openNumbers (first (openTests t local remote (K.sendEntry t p sendId)) unrefused) n (open-only t local remote (K.sendEntry t p sendId)) e
+active-among : (b : Lent) (local remote : List ℕ) (found : Found) (new : State) (n : ℕ)
+    → settledBy (first (openTests (tables b) local remote found) unrefused) empty new .answer ≡ D.Refused n → among n openNumbers ≡ true
+active-among b local remote found new n e =
+    settled-among empty new openNumbers (first (openTests (tables b) local remote found) unrefused) n (open-only b local remote found) e
 
 -- a call that is refused gives one of its numbers
 pub refused-among : RefusedAmong
-unfolding judged signed asked judgedSyn openedPassively openedActively
-refused-among (on (judge t a) q) n e = verdict-among false judgeNumbers (check t (q .conn) (q .seen) a) n (check-only t (q .conn) (q .seen) a) e
-refused-among (on (sign t s out) q) n e = signing-among q s (outgoing t q .entry) signNumbers (checkSign t s (length out) q) n (checkSign-only t s (length out) q) e
-refused-among (on (ask t id) q) n e = settled-among q _ askNumbers (first (askTests t id (q .conn)) unrefused) n (ask-only t id (q .conn)) e
-refused-among (judgeSyn t a strict) n e = verdict-among true synNumbers (checkSyn t a strict) n (checkSyn-only t a strict) e
-refused-among (openPassively t a isn strict) n e = verdict-among true synNumbers (checkSyn t a strict) n (checkSyn-only t a strict) e
-refused-among (openActively t local remote localPort remotePort isn sendId) n e = active-among t local remote (pairOf local remote localPort remotePort) isn sendId n e
+unfolding judged signed asked judgedSyn openedPassively openedActively openedActivelyMd5
+refused-among (on (judge b a) q) n e =
+    verdict-among false _ (check (tables b) (q .conn) (q .seen) a) n (check-only b (q .conn) (q .seen) a) e
+refused-among (on (sign b s out) q) n e =
+    signing-among q s (outgoing (tables b) q .entry) signNumbers (checkSign (tables b) s (length out) q) n
+    (checkSign-only b s (length out) q) e
+refused-among (on (ask b id) q) n e =
+    settled-among q _ askNumbers (first (askTests (tables b) id (q .conn)) unrefused) n (ask-only b id (q .conn)) e
+refused-among (judgeSyn b a strict) n e = verdict-among true _ (checkSyn (tables b) a strict) n (checkSyn-only b a strict) e
+refused-among (openPassively b a isn strict) n e = verdict-among true _ (checkSyn (tables b) a strict) n (checkSyn-only b a strict) e
+refused-among (openActively b local remote localPort remotePort isn sendId) n e =
+    active-among b local remote (sendEntry (tables b) (pairOf local remote localPort remotePort) sendId) _ n e
+refused-among (openActivelyMd5 b local remote localPort remotePort isn) n e =
+    active-among b local remote (md5Entry (tables b) (pairOf local remote localPort remotePort)) _ n e
 
--- between 10 and 40
+-- between 10 and 47
 abbrev pub tabled : ℕ → Bool
-tabled n = leb 10 n && leb n 40
+tabled n = leb 10 n && leb n 47
+
+by-way : (b : Bool) (l k : List ℕ) → every tabled l ≡ true → every tabled k ≡ true → every tabled (cond b l k) ≡ true
+by-way true l k p q = p
+by-way false l k p q = q
 
 each-tabled : (c : Request) → every tabled (numbersOf c) ≡ true
-each-tabled (on (judge t a) q) = refl
-each-tabled (on (sign t s out) q) = refl
-each-tabled (on (ask t id) q) = refl
-each-tabled (judgeSyn t a strict) = refl
-each-tabled (openPassively t a isn strict) = refl
-each-tabled (openActively t local remote localPort remotePort isn sendId) = refl
+each-tabled (on (judge b a) q) = by-way (isMd5 (q .conn)) md5JudgeNumbers judgeNumbers refl refl
+each-tabled (on (sign b s out) q) = refl
+each-tabled (on (ask b id) q) = refl
+each-tabled (judgeSyn b a strict) = by-way (synIsMd5 (tables b) (arrivalPair a)) md5SynNumbers synNumbers refl refl
+each-tabled (openPassively b a isn strict) = by-way (synIsMd5 (tables b) (arrivalPair a)) md5SynNumbers synNumbers refl refl
+each-tabled (openActively b local remote localPort remotePort isn sendId) = refl
+each-tabled (openActivelyMd5 b local remote localPort remotePort isn) = refl
 
-bounds : (n : ℕ) → tabled n ≡ true → (10 ≤ n) × (n ≤ 40)
-bounds n e = let p = and-true (leb 10 n) (leb n 40) e in (leb-true 10 n (p .0), leb-true n 40 (p .1))
+bounds : (n : ℕ) → tabled n ≡ true → (10 ≤ n) × (n ≤ 47)
+bounds n e = let p = and-true (leb 10 n) (leb n 47) e in (leb-true 10 n (p .0), leb-true n 47 (p .1))
 
 pub refused-bounds : RefusedBounds
 refused-bounds c n e = bounds n (among-every tabled n (numbersOf c) (each-tabled c) (refused-among c n e))
 
 pub table-bounds : TableBounds
-table-bounds t n i e =
-    let w : among n tableNumbers ≡ true = (rw e at (checked-within t)) .0 in
-    let p = and-true (leb 10 n) (leb n 17) (among-every (λ (m : ℕ). leb 10 m && leb m 17) n tableNumbers refl w) in
-    (leb-true 10 n (p .0), leb-true n 17 (p .1))
+table-bounds b n i e =
+    let w : among n tableNumbers ≡ true = (rw e at (checked-within b)) .0 in
+    let p = and-true (leb 10 n) (leb n 45) (among-every (λ (m : ℕ). leb 10 m && leb m 45) n tableNumbers refl w) in
+    (leb-true 10 n (p .0), leb-true n 45 (p .1))
 
 -- Pass. The cases of Passed in `afterJudging`, `signedBy` and `settledBy` are never reached: no test of these calls comes to it.
 
-not-passed : (l : List ℕ) (o : Outcome) → only false l o ≡ true → o ≡ Passed → ⊥
-not-passed l o p e = let z : _≡_ {A = ℕ} 0 1 = cc (rw e at p) in omega arith
-
-pub check-not-passed : (t : K.Tables) (l : Connection) (reference : ℕ) (a : Arrival) → check t l reference a ≡ Passed → ⊥
-check-not-passed t l reference a = not-passed judgeNumbers (check t l reference a) (check-only t l reference a)
+not-passed : (o : Outcome) → notPassed o ≡ true → o ≡ Passed → ⊥
+not-passed o p e = let z : _≡_ {A = ℕ} 0 1 = cc (rw e at p) in omega arith
 
 pub sign-not-passed : SignNotPassed
-sign-not-passed t s room q = not-passed signNumbers (checkSign t s room q) (checkSign-only t s room q)
+unfolding checkSign
+sign-not-passed t s room q =
+    not-passed (checkSign t s room q)
+    (first-passes notPassed (signTests t s room q (outgoing t q)) _ (rw (refusal-not-passed (t .answer))) refl)
 
 pub ask-not-passed : AskNotPassed
-ask-not-passed t id l = not-passed askNumbers (first (askTests t id l) unrefused) (ask-only t id l)
+ask-not-passed t id l =
+    not-passed (first (askTests t id l) unrefused)
+    (first-passes notPassed (askTests t id l) unrefused (rw (refusal-not-passed (t .answer))) refl)
 
 pub open-not-passed : OpenNotPassed
-open-not-passed t local remote found = not-passed openNumbers (first (openTests t local remote found) unrefused) (open-only t local remote found)
+open-not-passed t local remote found =
+    not-passed (first (openTests t local remote found) unrefused)
+    (first-passes notPassed (openTests t local remote found) unrefused (rw (refusal-not-passed (t .answer))) refl)
 
-no-pass : (l : List ℕ) (o : Outcome) → only false l o ≡ true → isPass (verdictOf o) ≡ false
-no-pass l (Good x r) p = refl
-no-pass l Passed p = sym p
-no-pass l (Bad n i) p = refl
+no-pass : (o : Outcome) → notPassed o ≡ true → isPass (verdictOf o) ≡ false
+no-pass (Good x r) p = refl
+no-pass Passed p = sym p
+no-pass (Bad n i) p = refl
 
 -- judging on a connection never gives pass
 pub judge-never-passes : JudgeNeverPasses
 unfolding judged
-judge-never-passes t a q = no-pass judgeNumbers (check t (q .conn) (q .seen) a) (check-only t (q .conn) (q .seen) a)
+judge-never-passes t a q = no-pass (check t (q .conn) (q .seen) a) (check-not-passed t (q .conn) (q .seen) a)

@@ -3,13 +3,14 @@
 -- them.
 use Prim.Native.Nat.{ℕ, _≤_}
 use mathlib.Core.Path.{_≡_}
-use mathlib.Core.Bool.{Bool, true, false, _||_}
+use mathlib.Core.Bool.{Bool, true, false, cond, _||_}
 use mathlib.Core.List.{List, [], _∷_, _++_}
 use lib.Dec.{eqb}
 use Rattle.keys.specs.declared.table.Found.{Found}
-use Rattle.keys.specs.declared.table.Loaded.{Loaded}
-use Rattle.keys.specs.declared.table.Loaded.the-variants.{Valid, Refused}
-use Rattle.keys.specs.Table as K
+use Rattle.tables.specs.declared.Index.{Index}
+use Rattle.tables.specs.declared.Admitted.{Admitted}
+use Rattle.tables.specs.declared.Admitted.the-variants.{Valid, Refused}
+use Rattle.tables.specs.Tables.{Tables, maxEntries}
 use Rattle.rules.specs.declared.Outcome.the-variants.{Passed}
 use Rattle.rules.specs.declared.Verdict.{Verdict}
 use Rattle.rules.specs.declared.Verdict.the-variants.{Accept, Pass, Drop}
@@ -17,10 +18,11 @@ use Rattle.rules.specs.declared.Connection.{Connection}
 use Rattle.rules.specs.declared.State.{State}
 use Rattle.rules.specs.declared.Done.the-variants as D
 use Rattle.octets.specs.Tests.{first}
-use Rattle.rules.specs.Connection.{Arrival}
-use Rattle.rules.specs.Calls.{judged, unrefused, openTests, askTests, checkSign}
+use Rattle.rules.specs.Connection.{Arrival, arrivalPair, isMd5}
+use Rattle.rules.specs.Calls.{synIsMd5, judged, unrefused, openTests, askTests, checkSign}
+use Rattle.rules.specs.Lent.{Lent, tables}
 use Rattle.rules.specs.History.{judge, sign, ask}
-use Rattle.rules.specs.Refusals.{Request, on, judgeSyn, openPassively, openActively, reply}
+use Rattle.rules.specs.Refusals.{Request, on, judgeSyn, openPassively, openActively, openActivelyMd5, reply}
 
 -- n is one of the numbers l
 abbrev pub among : ℕ → List ℕ → Bool
@@ -29,16 +31,24 @@ among n (m ∷ l) = eqb n m || among n l
 
 -- The numbers of each call.
 
--- a table's: 10 to 17
+-- the tables': 10 to 17, and Ticket 9's 45
 abbrev pub tableNumbers : List ℕ
-tableNumbers = 10 ∷ 11 ∷ 12 ∷ 13 ∷ 14 ∷ 15 ∷ 16 ∷ 17 ∷ []
+tableNumbers = 10 ∷ 11 ∷ 12 ∷ 13 ∷ 14 ∷ 15 ∷ 16 ∷ 17 ∷ 45 ∷ []
 
 abbrev pub judgeNumbers : List ℕ
 judgeNumbers = 18 ∷ 19 ∷ (tableNumbers ++ (20 ∷ 21 ∷ 22 ∷ 23 ∷ 24 ∷ 25 ∷ 26 ∷ 27 ∷ 28 ∷ 29 ∷ 40 ∷ []))
 
+-- Ticket 9: 46 and 47 are of the MD5 way alone, where 25 and 28 are not given
+abbrev pub md5JudgeNumbers : List ℕ
+md5JudgeNumbers = 18 ∷ 19 ∷ (tableNumbers ++ (20 ∷ 21 ∷ 22 ∷ 23 ∷ 24 ∷ 26 ∷ 27 ∷ 29 ∷ 40 ∷ 46 ∷ 47 ∷ []))
+
 -- a bare SYN comes without a state, whose family or pair could be another, and has its own number as position: not 18, 23 or 28
 abbrev pub synNumbers : List ℕ
 synNumbers = 19 ∷ (tableNumbers ++ (20 ∷ 21 ∷ 22 ∷ 24 ∷ 25 ∷ 26 ∷ 27 ∷ 29 ∷ 40 ∷ []))
+
+-- one whose pair an MD5 entry matches
+abbrev pub md5SynNumbers : List ℕ
+md5SynNumbers = 19 ∷ (tableNumbers ++ (20 ∷ 21 ∷ 22 ∷ 24 ∷ 27 ∷ 29 ∷ 40 ∷ 46 ∷ 47 ∷ []))
 
 abbrev pub signNumbers : List ℕ
 signNumbers = 18 ∷ (tableNumbers ++ (30 ∷ 31 ∷ 32 ∷ 33 ∷ 34 ∷ 35 ∷ 36 ∷ 37 ∷ []))
@@ -50,17 +60,18 @@ abbrev pub openNumbers : List ℕ
 openNumbers = 19 ∷ (tableNumbers ++ (35 ∷ []))
 
 abbrev pub numbersOf : Request → List ℕ
-numbersOf (on (judge t a) q) = judgeNumbers
-numbersOf (on (sign t s out) q) = signNumbers
-numbersOf (on (ask t id) q) = askNumbers
-numbersOf (judgeSyn t a strict) = synNumbers
-numbersOf (openPassively t a isn strict) = synNumbers
-numbersOf (openActively t local remote localPort remotePort isn sendId) = openNumbers
+numbersOf (on (judge b a) q) = cond (isMd5 (q .conn)) md5JudgeNumbers judgeNumbers
+numbersOf (on (sign b s out) q) = signNumbers
+numbersOf (on (ask b id) q) = askNumbers
+numbersOf (judgeSyn b a strict) = cond (synIsMd5 (tables b) (arrivalPair a)) md5SynNumbers synNumbers
+numbersOf (openPassively b a isn strict) = cond (synIsMd5 (tables b) (arrivalPair a)) md5SynNumbers synNumbers
+numbersOf (openActively b local remote localPort remotePort isn sendId) = openNumbers
+numbersOf (openActivelyMd5 b local remote localPort remotePort isn) = openNumbers
 
--- the loader's counts and indices stay at or below the limit, and its numbers are these
-abbrev pub Bounded : ℕ → Loaded → Type 0
+-- the tables' counts and indices stay at or below the limit, the tables are two, and their numbers are these
+abbrev pub Bounded : ℕ → Admitted → Type 0
 Bounded limit (Valid n) = n ≤ limit
-Bounded limit (Refused n i) = (among n tableNumbers ≡ true) × (i ≤ limit)
+Bounded limit (Refused n i) = (among n tableNumbers ≡ true) × (i .table ≤ 1) × (i .entry ≤ limit)
 
 abbrev pub isPass : Verdict → Bool
 isPass (Accept e) = false
@@ -73,27 +84,27 @@ isPass (Drop n) = false
 abbrev pub RefusedAmong : Type 0
 RefusedAmong = (c : Request) (n : ℕ) → reply c ≡ D.Refused n → among n (numbersOf c) ≡ true
 
--- so it lies between 10 and 40, and is neither 0 nor 1
+-- so it lies between 10 and 47, and is neither 0 nor 1
 abbrev pub RefusedBounds : Type 0
-RefusedBounds = (c : Request) (n : ℕ) → reply c ≡ D.Refused n → (10 ≤ n) × (n ≤ 40)
+RefusedBounds = (c : Request) (n : ℕ) → reply c ≡ D.Refused n → (10 ≤ n) × (n ≤ 47)
 
--- what a table gives: at most 64 entries, or 10 to 17 with an index up to 64
+-- what the tables give: at most 64 entries, or 10 to 17 or 45 with an index up to 64 in one of two tables
 abbrev pub CheckedWithin : Type 0
-CheckedWithin = (t : K.Tables) → Bounded K.maxEntries (K.checked t)
+CheckedWithin = (b : Lent) → Bounded maxEntries (tables b .answer)
 
 abbrev pub TableBounds : Type 0
-TableBounds = (t : K.Tables) (n i : ℕ) → K.checked t ≡ Refused n i → (10 ≤ n) × (n ≤ 17)
+TableBounds = (b : Lent) (n : ℕ) (i : Index) → tables b .answer ≡ Refused n i → (10 ≤ n) × (n ≤ 45)
 
 -- judging on a connection never gives pass
 abbrev pub JudgeNeverPasses : Type 0
-JudgeNeverPasses = (t : K.Tables) (a : Arrival) (q : State) → isPass (judged t a q .verdict) ≡ false
+JudgeNeverPasses = (t : Tables) (a : Arrival) (q : State) → isPass (judged t a q .verdict) ≡ false
 
 -- nor does a test of the other calls on a connection, or of an active opening
 abbrev pub SignNotPassed : Type 0
-SignNotPassed = (t : K.Tables) (s : List ℕ) (room : ℕ) (q : State) → checkSign t s room q ≡ Passed → ⊥
+SignNotPassed = (t : Tables) (s : List ℕ) (room : ℕ) (q : State) → checkSign t s room q ≡ Passed → ⊥
 
 abbrev pub AskNotPassed : Type 0
-AskNotPassed = (t : K.Tables) (id : ℕ) (l : Connection) → first (askTests t id l) unrefused ≡ Passed → ⊥
+AskNotPassed = (t : Tables) (id : ℕ) (l : Connection) → first (askTests t id l) unrefused ≡ Passed → ⊥
 
 abbrev pub OpenNotPassed : Type 0
-OpenNotPassed = (t : K.Tables) (local remote : List ℕ) (found : Found) → first (openTests t local remote found) unrefused ≡ Passed → ⊥
+OpenNotPassed = (t : Tables) (local remote : List ℕ) (found : Found) → first (openTests t local remote found) unrefused ≡ Passed → ⊥

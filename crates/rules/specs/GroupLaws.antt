@@ -5,13 +5,18 @@ use mathlib.Core.Path.{_≡_, refl, ap}
 use mathlib.Core.Bool.{Bool, not, true, false}
 use mathlib.Core.List.{List, _∷_}
 use Rattle.octets.specs.Tests.{any, joined, first}
-use Rattle.wire.specs.Header.{sizeFaults, wellSized}
+use Rattle.wire.specs.Header.{sequence, sizeFaults, wellSized}
 use Rattle.keys.specs.declared.entry.Pair.{Pair}
-use Rattle.keys.specs.Table.{Tables, anyEntry}
+use Rattle.tables.specs.Tables.{Tables, recvEntry, anyEntry, md5Entry}
+use Rattle.rules.specs.declared.Place.the-variants.{At}
 use Rattle.rules.specs.declared.Outcome.{Outcome}
 use Rattle.rules.specs.declared.Outcome.the-variants.{Passed}
+use Rattle.rules.specs.declared.Connection.{Connection}
 use Rattle.octets.specs.TestLaws.{NoneApplies, first-none, first-past, none-any, none-joined, joined-none}
-use Rattle.rules.specs.Calls.{refuse, lengthTests, Groups, segmentGroups, inOrder, synUnknown}
+use Rattle.rules.specs.Segment.{keyId}
+use Rattle.rules.specs.Connection.{Arrival, arrivalPair, isMd5, arriving, arrivingSyn, placeOn}
+use Rattle.rules.specs.Calls.{refuse, lengthTests, keyTests, macTests, md5Tests, digestTests, Groups, segmentGroups, inOrder}
+use Rattle.rules.specs.Calls.{judgeGroups, synMissing, synUnknown, synIsMd5, synGroups}
 
 -- no test of any group applies
 pub record Clear (g : Groups) : Type 0 where
@@ -40,6 +45,47 @@ module _ (g : Groups) where
   -- a right input leaves it to the segment
   pub past-input : (o : Outcome) → NoneApplies (g .input) → first (inOrder g) o ≡ first (joined (segmentGroups g)) o
   past-input o n = first-past (g .input) (joined (segmentGroups g)) o n
+
+-- The signature's tests, by the way.
+
+module _ (t : Tables) (l : Connection) (reference : ℕ) (a : Arrival) where
+  pub key-ao : isMd5 l ≡ false
+      → judgeGroups t l reference a .key
+      ≡ keyTests (refuse 25) (refuse 26) (recvEntry t (l .pair) (keyId (a .segment))) (placeOn l reference (sequence (a .segment))) (a .segment)
+  key-ao e = rw e
+
+  pub mac-ao : isMd5 l ≡ false
+      → judgeGroups t l reference a .mac
+      ≡ macTests (recvEntry t (l .pair) (keyId (a .segment)) .entry) (arriving l (a .segment))
+      (placeOn l reference (sequence (a .segment))) (a .segment)
+  mac-ao e = rw e
+
+  pub key-md5 : isMd5 l ≡ true → judgeGroups t l reference a .key ≡ md5Tests (md5Entry t (l .pair)) (a .segment)
+  key-md5 e = rw e
+
+  pub mac-md5 : isMd5 l ≡ true
+      → judgeGroups t l reference a .mac ≡ digestTests (md5Entry t (l .pair) .entry) (arriving l (a .segment)) (a .segment)
+  mac-md5 e = rw e
+
+-- a bare SYN without a state
+module _ (t : Tables) (a : Arrival) (strict : Bool) where
+  pub syn-key-ao : synIsMd5 t (arrivalPair a) ≡ false
+      → synGroups t a strict .key
+      ≡ keyTests (synMissing t (arrivalPair a)) (synUnknown t (arrivalPair a) strict) (recvEntry t (arrivalPair a) (keyId (a .segment)))
+      (At (sequence (a .segment))) (a .segment)
+  syn-key-ao e = rw e
+
+  pub syn-mac-ao : synIsMd5 t (arrivalPair a) ≡ false
+      → synGroups t a strict .mac
+      ≡ macTests (recvEntry t (arrivalPair a) (keyId (a .segment)) .entry) (arrivingSyn a) (At (sequence (a .segment))) (a .segment)
+  syn-mac-ao e = rw e
+
+  pub syn-key-md5 : synIsMd5 t (arrivalPair a) ≡ true → synGroups t a strict .key ≡ md5Tests (md5Entry t (arrivalPair a)) (a .segment)
+  syn-key-md5 e = rw e
+
+  pub syn-mac-md5 : synIsMd5 t (arrivalPair a) ≡ true
+      → synGroups t a strict .mac ≡ digestTests (md5Entry t (arrivalPair a) .entry) (arrivingSyn a) (a .segment)
+  syn-mac-md5 e = rw e
 
 -- a bare SYN whose KeyID is unknown gets 26 or pass: what holds of both, holds of that
 pub unknown-passes : (f : Outcome → Bool) (t : Tables) (p : Pair) (strict : Bool) → f (refuse 26) ≡ true → f Passed ≡ true

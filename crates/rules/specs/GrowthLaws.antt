@@ -1,29 +1,21 @@
--- What the bytes that TCP-AO adds come to, for a MAC of any length; and the statements of Growth.antt.
+-- What the bytes that TCP-AO adds come to, for a MAC of any length, and those of MD5: the statements of Growth.antt.
 use Prim.Native.Nat.{ℕ, _+_, _*_, _/_, _%_, _≤_}
 use mathlib.Core.Path.{_≡_, refl, ap, sym, _∙_}
-use mathlib.Core.Bool.{Bool, true, false}
+use mathlib.Core.Bool.{Bool, true, false, cond}
 use mathlib.Core.List.{List, [], _∷_}
 use native.Mathlib.Omega.{arith}
 use lib.ListN.{length}
 use lib.Dec.{ltb}
 use borrow.Author.Tests.{ltb-true, lt-ltb, ltb-false, le-ltb}
 use Rattle.wire.specs.Header.{dataOffset, headerEnd}
-use Rattle.keys.specs.declared.entry.Pair.{Pair}
 use Rattle.keys.specs.declared.entry.Entry.{Entry}
-use Rattle.keys.specs.Table.{Tables, ValidTable, sendEntry}
-use Rattle.keys.specs.SearchLaws.{valid-proper, send-holder}
 use Rattle.rules.specs.declared.Signing.the-variants as S
 use Rattle.octets.specs.Tests.{tests}
-use Rattle.rules.specs.Segment.{optionBytes, Whole}
-use Rattle.rules.specs.Calls.{refuse, addedBytes, growthTests}
+use Rattle.rules.specs.Segment.{optionBytes, md5OptionBytes, Whole}
+use Rattle.rules.specs.Calls.{refuse, outgoing, addedBytes, growthTests}
 use Rattle.rules.specs.RoundTripLaws.{whole-words}
 use Rattle.rules.specs.SigningLaws.{signed-good}
-use Rattle.rules.specs.Growth.{GrowthIs, Growth12, Growth16, SignedLength}
-
--- what the entry that a valid table has for a pair and a SendID promises of its MAC
-pub short-found : (t : Tables) (p : Pair) (id : ℕ) → ValidTable t → sendEntry t p id .there ≡ true
-    → sendEntry t p id .entry .secret .«mac_bytes» ≤ 16
-short-found t p id v e = valid-proper t v (send-holder t p id e .0 .place) .mac-high
+use Rattle.rules.specs.Growth.{GrowthIs, Growth12, Growth16, GrowthMd5, SignedLength, SignedLengthMd5}
 
 -- a header of 60 bytes is passed, by words
 pub above-15 : (s : List ℕ) (added : ℕ) → Whole added → ltb 60 (headerEnd s + added) ≡ ltb 15 (dataOffset s + added / 4)
@@ -54,5 +46,13 @@ pub growth-16 : Growth16
 growth-16 e s is =
     ap (λ (n : ℕ). growthTests (optionBytes n) s) is ∙ ap (λ (b : Bool). tests (refuse 32) (b ∷ ltb 65535 (length s + 20) ∷ [])) (above s 10 20 refl)
 
+pub growth-md5 : GrowthMd5
+growth-md5 s = ap (λ (b : Bool). tests (refuse 32) (b ∷ ltb 65535 (length s + 20) ∷ [])) (above s 10 20 refl)
+
 pub signed-length : SignedLength
-signed-length t s out q n e = sym (signed-good t s out q n e .3)
+signed-length t s out q n way e =
+    sym (signed-good t s out q n e .3) ∙ ap (λ (b : Bool). length s + cond b md5OptionBytes (addedBytes (outgoing t q .entry))) way
+
+pub signed-length-md5 : SignedLengthMd5
+signed-length-md5 t s out q n way e =
+    sym (signed-good t s out q n e .3) ∙ ap (λ (b : Bool). length s + cond b md5OptionBytes (addedBytes (outgoing t q .entry))) way

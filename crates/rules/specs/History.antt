@@ -6,25 +6,26 @@ use mathlib.Core.Bool.{Bool, true, cond}
 use mathlib.Core.List.{List, [], _∷_, _++_}
 use lib.ListN.{getD, replicate}
 use lib.Dec.{eqb}
-use Rattle.keys.specs.Table.{Tables}
+use Rattle.tables.specs.Tables.{Tables}
 use Rattle.rules.specs.declared.Verdict.{Verdict}
 use Rattle.rules.specs.declared.Verdict.the-variants.{Accept, Pass, Drop}
 use Rattle.rules.specs.declared.State.{State}
 use Rattle.rules.specs.Connection.{Arrival, isOpen, value, stop, slots, slot, isCounted}
-use Rattle.rules.specs.Calls.{judged, signed, asked, openedPassively, openedActively}
+use Rattle.rules.specs.Calls.{judged, signed, asked, openedPassively, openedActively, openedActivelyMd5}
+use Rattle.rules.specs.Lent.{Lent, tables}
 use Rattle.rules.specs.Demand3.{sum, NoStop}
 
--- A call on a connection, with any table and any bytes: judging an arrival, signing a segment into an output, asking for a key.
+-- A call on a connection, with any tables and any bytes: judging an arrival, signing a segment into an output, asking for a key.
 pub data Call : Type 0 where
-  judge : (table : Tables) (arrival : Arrival) → Call
-  sign : (table : Tables) (segment out : List ℕ) → Call
-  ask : (table : Tables) (id : ℕ) → Call
+  judge : (lent : Lent) (arrival : Arrival) → Call
+  sign : (lent : Lent) (segment out : List ℕ) → Call
+  ask : (lent : Lent) (id : ℕ) → Call
 
 -- the state that a call returns
 abbrev pub next : Call → State → State
-next (judge t a) q = judged t a q .state
-next (sign t s out) q = signed t s out q .state
-next (ask t id) q = asked t id q .state
+next (judge b a) q = judged (tables b) a q .state
+next (sign b s out) q = signed (tables b) s out q .state
+next (ask b id) q = asked (tables b) id q .state
 
 -- the state after a list of calls, each of which gets the state that the one before returned
 abbrev pub ended : State → List Call → State
@@ -33,9 +34,9 @@ ended q (c ∷ l) = ended (next c q) l
 
 -- the verdict of a call on an open connection: "the segment that opens is not counted"
 abbrev pub verdictOn : Call → State → List Verdict
-verdictOn (judge t a) q = cond (isOpen (q .conn)) (judged t a q .verdict ∷ []) []
-verdictOn (sign t s out) q = []
-verdictOn (ask t id) q = []
+verdictOn (judge b a) q = cond (isOpen (q .conn)) (judged (tables b) a q .verdict ∷ []) []
+verdictOn (sign b s out) q = []
+verdictOn (ask b id) q = []
 
 -- the verdicts that were given on the open connection
 abbrev pub verdictsOn : State → List Call → List Verdict
@@ -79,10 +80,10 @@ pub record OneCount (q : State) (l : List Call) : Type 0 where
   pub accepted-exactly : NoStop (ended q l) → ended q l .accepted ≡ accepts (verdictsOn q l)
   pub dropped-exactly : NoStop (ended q l) → (n : ℕ) → isCounted n ≡ true → dropCount n (ended q l) ≡ drops n (verdictsOn q l)
   -- "Below the stop, their sum is how many accepts and drops 20 to 29 were given since opening." Ticket 5: "the counted drops and their
-  -- sum include it", 40
+  -- sum include it", 40; Ticket 9: 46 and 47 are "counted and within the sum"
   pub total : NoStop (ended q l) → ended q l .accepted + sum (ended q l .drops) ≡ accepts (verdictsOn q l) + countedDrops (verdictsOn q l)
 
--- from any state whose counts are 0; from a passive and from an active opening, whatever came of it
+-- from any state whose counts are 0; from a passive and from an active opening, by either way, whatever came of it
 abbrev pub FromZero : Type 0
 FromZero = (q : State) → CountsZero q → (l : List Call) → OneCount q l
 
@@ -92,3 +93,7 @@ FromPassive = (t : Tables) (a : Arrival) (isn : ℕ) (strict : Bool) (l : List C
 abbrev pub FromActive : Type 0
 FromActive = (t : Tables) (local remote : List ℕ) (localPort remotePort isn sendId : ℕ) (l : List Call)
     → OneCount (openedActively t local remote localPort remotePort isn sendId .state) l
+
+abbrev pub FromActiveMd5 : Type 0
+FromActiveMd5 = (t : Tables) (local remote : List ℕ) (localPort remotePort isn : ℕ) (l : List Call)
+    → OneCount (openedActivelyMd5 t local remote localPort remotePort isn .state) l

@@ -1,4 +1,4 @@
--- The statements of Inhabited.antt, proved: what is given there holds by computing, with the MAC shut.
+-- The statements of Inhabited.antt, proved: what is given there holds by computing, with the MAC and the digest shut.
 use Prim.Native.Nat.{ℕ, zero, suc, _+_, _<_, _≤_}
 use mathlib.Core.Path.{_≡_, refl, ap, sym, _∙_, subst⁻¹}
 use mathlib.Core.Bool.{true, false}
@@ -7,61 +7,70 @@ use native.Mathlib.Omega.{arith}
 use lib.ListN.{length, take, drop, replicate}
 use lib.Seq.{take-at}
 use Rattle.octets.specs.Each.{Each, Octets}
-use Rattle.wire.specs.Header.{sequence}
+use Rattle.wire.specs.Header.{sequence, syn}
 use Rattle.wire.specs.Prefix.{agree, clearTo}
 use Rattle.wire.specs.Options.{optionsOf, readFrom}
 use Rattle.keys.specs.declared.entry.Entry.{Entry}
+use Rattle.keys.specs.declared.entry.Pair.{Pair}
 use Rattle.keys.specs.Algorithm.{macBytes}
-use Rattle.keys.specs.Entry.{knownKind, familyOf, extra, isFamily, body, width, sideOf, selectorOf, idsOf, macLength, secretOf, entryOf, item, items, entriesOf}
-use Rattle.keys.specs.Entry.{entries}
+use Rattle.keys.specs.Entry.{knownKind, familyOf, extra, isFamily, body, width, sideOf, selectorOf, idsOf, macLength, secretOf, entryOf, item}
+use Rattle.keys.specs.Entry.{items, entriesOf, entries}
 use Rattle.keys.specs.Places as Places
-use Rattle.keys.specs.Match.{holds, matches, share, clash}
+use Rattle.keys.specs.Match.{holds, matches, meet, overlap, share, clash}
 use Rattle.keys.specs.Mirror.{Mirror}
-use Rattle.keys.specs.Table.{ValidTable, anyEntry, anyOf, numberOf, clashing, loadedFrom, loaded, nobody, found, answers}
+use Rattle.keys.specs.Table.{anyOf, numberOf, clashing, loadedFrom, loaded, nobody, found, answers, meetsAny}
+use Rattle.tables.specs.Tables.{Tables, besides, admitted, anyEntry}
+use Rattle.tables.specs.Valid.{ValidTables}
+use Rattle.tables.specs.ValidLaws.{valid-bytes}
 use Rattle.rules.specs.declared.Place.the-variants.{At}
 use Rattle.rules.specs.declared.Outcome.{Outcome}
 use Rattle.rules.specs.declared.Outcome.the-variants.{Good}
 use Rattle.rules.specs.declared.Signing.the-variants as S
 use Rattle.rules.specs.declared.State.{State}
+use Rattle.rules.specs.declared.Judged.{Judged}
 use Rattle.rules.specs.Position.{position}
 use Rattle.checksum.specs.Checksum.{onesSum, checksummed}
 use Rattle.rules.specs.Checksum.{segmentSum, withChecksum}
-use Rattle.rules.specs.Mac.{leavingHidden, pseudoHeader, segmentMac}
-use Rattle.rules.specs.MacLaws.{length-mac}
-use Rattle.rules.specs.Segment.{inserted, withOption, optionBytes, signedWith}
-use Rattle.rules.specs.Connection.{arrivalPair, leaving, extensionOf, placeOn}
-use Rattle.rules.specs.Calls.{outgoing, addedBytes, checkSign, authenticated, signedSegment, written, signedBy, outputBy, signed, output}
-use Rattle.rules.specs.Ends.{Typed, Facing, Delivered, Holds, SignedAt, OtherEnd}
-use Rattle.rules.specs.RoundTripLaws.{Fresh, length-signed}
-use Rattle.rules.specs.ChecksumLaws.{length-checked}
+use Rattle.rules.specs.Mac.{pseudoHeader}
+use Rattle.rules.specs.Segment.{inserted, withOption}
+use Rattle.rules.specs.Connection.{arrivalPair, placeOn, opened}
+use Rattle.rules.specs.Calls.{outgoing, addedOn, checkSign, authenticated, digested, signedSegment, written, signedBy, outputBy, signed}
+use Rattle.rules.specs.Calls.{output, openedPassively}
+use Rattle.rules.specs.Lent.{Lent, tables}
+use Rattle.rules.specs.Ends.{Typed, Facing, Delivered, Holds, Md5Mirror, HoldsMd5, SignedAt, OtherEnd}
+use Rattle.rules.specs.InsertedLaws.{Fresh}
+use Rattle.rules.specs.DeliveryLaws.{signed-long}
 use Rattle.rules.specs.Demand3.{Within, Given}
 use Rattle.rules.specs.OrderLaws.{demand3}
 use Rattle.rules.specs.Demand2Laws.{sent-comes, sent-faces, faces-under, rewritten-comes, bare-syn}
-use Rattle.rules.specs.Inhabited.{entry4, entry5, ourTable, theirTable, theirEntry, theirShort, theirHidden, ourPair, theirPair, hiddenPair, fromThem}
-use Rattle.rules.specs.Inhabited.{ourState, theirs, segment, hiddenSegment, hiddenBytes}
-use Rattle.rules.specs.Inhabited.{signedBytes, shortBytes, Arrivals, all, Demand3NotEmpty, opener, synSegment, synBytes, BareSynNotEmpty}
-use Rattle.rules.specs.Inhabited.{unknownSyn, UnknownKeyNotEmpty}
+use Rattle.rules.specs.Demand2.{sent}
+use Rattle.rules.specs.Demand2Md5Laws.{open-segment-md5, bare-syn-md5, bare-syn-opens-md5, opened-together-md5}
+use Rattle.rules.specs.Inhabited.{entry4, entry5, ourBytes, ourTable, theirTable, theirEntry, theirShort, theirHidden, ourPair, theirPair}
+use Rattle.rules.specs.Inhabited.{hiddenPair, fromThem, ourState, theirs, segment, hiddenSegment, hiddenBytes, signedBytes, shortBytes}
+use Rattle.rules.specs.Inhabited.{Arrivals, all, Demand3NotEmpty, opener, synSegment, synBytes, BareSynNotEmpty, md5Entry4, md5Table}
+use Rattle.rules.specs.Inhabited.{md5Passive, synAckSegment, synAckBytes, OpenedMd5NotEmpty, md5Theirs, openBytesMd5, OpenMd5NotEmpty}
+use Rattle.rules.specs.Inhabited.{md5Opener, synBytesMd5, BareSynMd5NotEmpty, unknownSyn, noTable, UnknownKeyNotEmpty}
 use Rattle.rules.specs.Passes.{UnknownKey}
 use Rattle.rules.specs.PassLaws.{matched-dropped, setting-decides}
 
 -- Of both tables.
 
-valid : ValidTable ourTable
+valid : ValidTables ourTable
 unfolding agree clearTo macBytes knownKind familyOf extra body width sideOf selectorOf macLength idsOf secretOf entryOf item items entriesOf
-    holds matches share clash numberOf clashing loadedFrom loaded found answers
-valid = (3, refl)
+    holds matches meet overlap share clash numberOf clashing loadedFrom loaded found nobody answers anyOf meetsAny besides admitted
+valid = valid-bytes (ourBytes .keys) (ourBytes .md5) 3 refl
 
-entries-are : entries ourTable ≡ entryOf (entry4 1 61 84) ∷ (entryOf (entry5 71 94) ∷ (entryOf (entry4 5 51 74) ∷ []))
+entries-are : ourTable .keys ≡ entryOf (entry4 1 61 84) ∷ (entryOf (entry5 71 94) ∷ (entryOf (entry4 5 51 74) ∷ []))
 unfolding knownKind familyOf extra body width sideOf selectorOf macLength idsOf secretOf entryOf item items entriesOf
 entries-are = refl
 
-among : Places.At (entries ourTable) 0 (entryOf (entry4 1 61 84))
+among : Places.At (ourTable .keys) 0 (entryOf (entry4 1 61 84))
 among = subst⁻¹ (λ (l : List Entry). Places.At l 0 (entryOf (entry4 1 61 84))) entries-are Places.here
 
-among-short : Places.At (entries ourTable) 1 (entryOf (entry5 71 94))
+among-short : Places.At (ourTable .keys) 1 (entryOf (entry5 71 94))
 among-short = subst⁻¹ (λ (l : List Entry). Places.At l 1 (entryOf (entry5 71 94))) entries-are (Places.there Places.here)
 
-among-hidden : Places.At (entries ourTable) 2 (entryOf (entry4 5 51 74))
+among-hidden : Places.At (ourTable .keys) 2 (entryOf (entry4 5 51 74))
 among-hidden =
     subst⁻¹ (λ (l : List Entry). Places.At l 2 (entryOf (entry4 5 51 74))) entries-are (Places.there (Places.there Places.here))
 
@@ -124,62 +133,56 @@ octets (x ∷ s) b (suc i) = octets s (b .1) i
 abbrev out : List ℕ
 out = replicate 60 0
 
--- what computing says of the call, under the entry e
-record Signs (e : Entry) (q : State) (s : List ℕ) (x : ℕ) : Type 0 where
-  good : checkSign theirTable s 60 q ≡ Good x (q .«ask_id»)
-  under : outgoing theirTable q .entry ≡ e
+-- what computing says of the call, by the tables b, under the entry e
+record Signs (b : Lent) (e : Entry) (q : State) (s : List ℕ) (x : ℕ) : Type 0 where
+  good : checkSign (tables b) s 60 q ≡ Good x (q .«ask_id»)
+  under : outgoing (tables b) q .entry ≡ e
   short : e .secret .«mac_bytes» ≤ 16
   fresh : Fresh s
   octets : Octets s
   place : placeOn (q .conn) (q .sent) (sequence s) ≡ At x
 
-module _ (e : Entry) (q : State) (s : List ℕ) (x : ℕ) (g : Signs e q s x) where
+module _ (b : Lent) (e : Entry) (q : State) (s : List ℕ) (x : ℕ) (g : Signs b e q s x) where
   abbrev bytes : List ℕ
   bytes = signedSegment e q x s
 
-  authenticated-long : length (authenticated e q x s) ≡ length s + addedBytes e
-  unfolding authenticated
-  authenticated-long =
-      let zeros = signedWith (q .«send_id») (q .«ask_id») (replicate (e .secret .«mac_bytes») 0) s in
-      let v = leavingHidden (e .secret) in
-      let m = segmentMac (e .secret) v (leaving (q .conn)) (extensionOf x) 20 zeros in
-      let n = length-mac (e .secret) v (leaving (q .conn)) (extensionOf x) 20 zeros (g .short) in
-      length-signed s (g .fresh) (q .«send_id») (q .«ask_id») m ∙ ap (λ (n : ℕ). length s + optionBytes n) n
+  long : length bytes ≡ length s + addedOn (q .conn) e
+  long = signed-long e q x s (λ way. g .short) (g .fresh)
 
-  long : length bytes ≡ length s + addedBytes e
-  unfolding signedSegment
-  long =
-      let l = authenticated-long in
-      let f = g .fresh .long in
-      length-checked _ _ (authenticated e q x s) (omega arith) ∙ l
-
-  wrote : bytes ≡ take (length bytes) (output theirTable s out q)
+  wrote : bytes ≡ take (length bytes) (output (tables b) s out q)
   unfolding output
   wrote =
-      sym (ap (λ (o : Outcome). take (length bytes) (outputBy q s out (outgoing theirTable q .entry) o)) (g .good)
+      sym (ap (λ (o : Outcome). take (length bytes) (outputBy q s out (outgoing (tables b) q .entry) o)) (g .good)
       ∙ ap (λ (e : Entry). take (length bytes) (written (signedSegment e q x s) out)) (g .under)
       ∙ take-at bytes (drop (length bytes) out) (length bytes) refl)
 
-  signing : SignedAt q e x bytes
+  -- and of which segment it is
+  signing-of : (k : SignedAt q e x bytes) × (k .unsigned ≡ s)
   unfolding signed
-  signing =
-      record {
-        table = theirTable;
-        unsigned = s;
-        out = out;
-        octets = g .octets;
-        answer =
-            ap (λ (o : Outcome). signedBy q s (outgoing theirTable q .entry) o .answer) (g .good)
-            ∙ ap (λ (e : Entry). S.Signed (length s + addedBytes e)) (g .under)
-            ∙ ap S.Signed (sym long);
-        wrote = wrote;
-        under = g .under;
-        position = g .place;
-      }
+  signing-of = (
+    record {
+      lent = b;
+      unsigned = s;
+      out = out;
+      octets = g .octets;
+      answer =
+          ap (λ (o : Outcome). signedBy q s (outgoing (tables b) q .entry) o .answer) (g .good)
+          ∙ ap (λ (e : Entry). S.Signed (length s + addedOn (q .conn) e)) (g .under)
+          ∙ ap S.Signed (sym long);
+      wrote = wrote;
+      under = g .under;
+      position = g .place;
+    },
+    refl,
+  )
 
-signs : Signs theirEntry (theirs theirPair 84 61) segment 4294967312
+  signing : SignedAt q e x bytes
+  signing = signing-of .0
+
+signs : Signs theirTable theirEntry (theirs theirPair 84 61) segment 4294967312
 unfolding checkSign position optionsOf readFrom agree clearTo macBytes knownKind familyOf extra isFamily body width sideOf selectorOf
-    macLength idsOf secretOf entryOf item items entriesOf holds matches share clash numberOf clashing loadedFrom loaded found answers
+    macLength idsOf secretOf entryOf item items entriesOf holds matches meet overlap share clash numberOf clashing loadedFrom loaded found nobody
+    answers anyOf meetsAny besides admitted
 signs =
     record {
       good = refl;
@@ -190,9 +193,10 @@ signs =
       place = refl;
     }
 
-signs-short : Signs theirShort (theirs theirPair 94 71) segment 4294967312
+signs-short : Signs theirTable theirShort (theirs theirPair 94 71) segment 4294967312
 unfolding checkSign position optionsOf readFrom agree clearTo macBytes knownKind familyOf extra isFamily body width sideOf selectorOf
-    macLength idsOf secretOf entryOf item items entriesOf holds matches share clash numberOf clashing loadedFrom loaded found answers
+    macLength idsOf secretOf entryOf item items entriesOf holds matches meet overlap share clash numberOf clashing loadedFrom loaded found nobody
+    answers anyOf meetsAny besides admitted
 signs-short =
     record {
       good = refl;
@@ -203,9 +207,10 @@ signs-short =
       place = refl;
     }
 
-signs-hidden : Signs theirHidden (theirs hiddenPair 74 51) hiddenSegment 4294967312
+signs-hidden : Signs theirTable theirHidden (theirs hiddenPair 74 51) hiddenSegment 4294967312
 unfolding checkSign position optionsOf readFrom agree clearTo macBytes knownKind familyOf extra isFamily body width sideOf selectorOf
-    macLength idsOf secretOf entryOf item items entriesOf holds matches share clash numberOf clashing loadedFrom loaded found answers
+    macLength idsOf secretOf entryOf item items entriesOf holds matches meet overlap share clash numberOf clashing loadedFrom loaded found nobody
+    answers anyOf meetsAny besides admitted
 signs-hidden =
     record {
       good = refl;
@@ -216,9 +221,10 @@ signs-hidden =
       place = refl;
     }
 
-signs-syn : Signs theirEntry opener synSegment 4294967280
+signs-syn : Signs theirTable theirEntry opener synSegment 4294967280
 unfolding checkSign position optionsOf readFrom agree clearTo macBytes knownKind familyOf extra isFamily body width sideOf selectorOf
-    macLength idsOf secretOf entryOf item items entriesOf holds matches share clash numberOf clashing loadedFrom loaded found answers
+    macLength idsOf secretOf entryOf item items entriesOf holds matches meet overlap share clash numberOf clashing loadedFrom loaded found nobody
+    answers anyOf meetsAny besides admitted
 signs-syn =
     record {
       good = refl;
@@ -271,13 +277,14 @@ other-hidden =
     }
 
 -- what the other end wrote comes to us as it was written
-came : (e : Entry) (sendId recvId : ℕ) (g : Signs e (theirs theirPair sendId recvId) segment 4294967312)
-    → Delivered ourPair (bytes e (theirs theirPair sendId recvId) segment 4294967312 g)
-    (fromThem (bytes e (theirs theirPair sendId recvId) segment 4294967312 g))
+came : (e : Entry) (sendId recvId : ℕ) (g : Signs theirTable e (theirs theirPair sendId recvId) segment 4294967312)
+    → Delivered ourPair (bytes theirTable e (theirs theirPair sendId recvId) segment 4294967312 g)
+    (fromThem (bytes theirTable e (theirs theirPair sendId recvId) segment 4294967312 g))
 unfolding width
 came e sendId recvId g =
     let q = theirs theirPair sendId recvId in
-    sent-comes q e 4294967312 (bytes e q segment 4294967312 g) (typed-theirs sendId recvId) (signing e q segment 4294967312 g) ourPair facing
+    sent-comes q e 4294967312 (bytes theirTable e q segment 4294967312 g) (typed-theirs sendId recvId)
+    (signing theirTable e q segment 4294967312 g) ourPair facing
 
 arrivals : Arrivals
 unfolding optionsOf readFrom width
@@ -294,7 +301,7 @@ arrivals =
             among = among;
             mirror = mirrored;
             bytes = signedBytes;
-            signed = signing theirEntry (theirs theirPair 84 61) segment 4294967312 signs;
+            signed = signing theirTable theirEntry (theirs theirPair 84 61) segment 4294967312 signs;
             delivered = came theirEntry 84 61 signs;
             asks = refl;
           };
@@ -309,7 +316,7 @@ arrivals =
             among = among-short;
             mirror = mirrored-short;
             bytes = shortBytes;
-            signed = signing theirShort (theirs theirPair 94 71) segment 4294967312 signs-short;
+            signed = signing theirTable theirShort (theirs theirPair 94 71) segment 4294967312 signs-short;
             delivered = came theirShort 94 71 signs-short;
             asks = refl;
           };
@@ -324,10 +331,10 @@ arrivals =
             mirror = mirrored-hidden;
             other = other-hidden;
             bytes = hiddenBytes;
-            signed = signing theirHidden (theirs hiddenPair 74 51) hiddenSegment 4294967312 signs-hidden;
+            signed = signing theirTable theirHidden (theirs hiddenPair 74 51) hiddenSegment 4294967312 signs-hidden;
             delivered =
                 rewritten-comes (theirs hiddenPair 74 51) theirHidden 4294967312 hiddenBytes
-                (signing theirHidden (theirs hiddenPair 74 51) hiddenSegment 4294967312 signs-hidden) ourState typed-ours (omega arith)
+                (signing theirTable theirHidden (theirs hiddenPair 74 51) hiddenSegment 4294967312 signs-hidden) ourState typed-ours (omega arith)
                 (omega arith);
             asks = refl;
           };
@@ -352,6 +359,7 @@ demand3-not-empty = record { arrivals = arrivals; given = given; demand = demand
           typed = typed-ours;
           allowed = refl;
           is-open = refl;
+          way = refl;
           close = (
             (near, (near, (near, tt))),
             ((same, (same, tt)), ((same, tt), (tt, tt))),
@@ -365,7 +373,7 @@ typed-opener =
     record { sent = omega arith; seen = omega arith; isn = omega arith; peer = omega arith; local = refl; remote = refl; counts = refl }
 
 signing-syn : SignedAt opener theirEntry 4294967280 synBytes
-signing-syn = signing theirEntry opener synSegment 4294967280 signs-syn
+signing-syn = signing theirTable theirEntry opener synSegment 4294967280 signs-syn
 
 syn-facing : Facing (arrivalPair (fromThem synBytes)) theirPair
 unfolding width
@@ -391,28 +399,218 @@ bare-syn-not-empty =
       delivered = delivered;
       holds = held;
       accepted =
-          bare-syn opener theirEntry 4294967280 synBytes (fromThem synBytes) ourTable typed-opener refl
+          bare-syn opener theirEntry 4294967280 synBytes (fromThem synBytes) ourTable typed-opener refl refl
           (faces-under (theirEntry .secret) (arrivalPair (fromThem synBytes)) theirPair syn-facing) signing-syn delivered held true;
+    }
+
+-- The same by MD5.
+
+signs-md5 : Signs md5Table (entryOf md5Entry4) md5Opener synSegment 4294967280
+unfolding checkSign position optionsOf readFrom agree clearTo macBytes knownKind familyOf extra isFamily body width sideOf selectorOf
+    macLength idsOf secretOf entryOf item items entriesOf holds matches meet overlap share clash numberOf clashing loadedFrom loaded found nobody
+    answers anyOf meetsAny besides admitted
+signs-md5 =
+    record { good = refl; under = refl; short = omega arith; fresh = signs-syn .fresh; octets = signs-syn .octets; place = refl }
+
+typed-md5 : Typed md5Opener
+typed-md5 =
+    record { sent = omega arith; seen = omega arith; isn = omega arith; peer = omega arith; local = refl; remote = refl; counts = refl }
+
+signing-md5 : SignedAt md5Opener (entryOf md5Entry4) 4294967280 synBytesMd5
+signing-md5 = signing md5Table (entryOf md5Entry4) md5Opener synSegment 4294967280 signs-md5
+
+md5-facing : Facing (arrivalPair (fromThem synBytesMd5)) theirPair
+unfolding width
+md5-facing = sent-faces md5Opener (entryOf md5Entry4) 4294967280 synBytesMd5 typed-md5 signing-md5
+
+delivered-md5 : Delivered (arrivalPair (fromThem synBytesMd5)) synBytesMd5 (fromThem synBytesMd5)
+unfolding width
+delivered-md5 =
+    sent-comes md5Opener (entryOf md5Entry4) 4294967280 synBytesMd5 typed-md5 signing-md5 (arrivalPair (fromThem synBytesMd5)) md5-facing
+
+valid-md5 : ValidTables (tables md5Table)
+unfolding agree clearTo macBytes knownKind familyOf extra body width sideOf selectorOf macLength idsOf secretOf entryOf item items entriesOf
+    holds matches meet overlap share clash numberOf clashing loadedFrom loaded found nobody answers anyOf meetsAny besides admitted
+valid-md5 = valid-bytes (md5Table .keys) (md5Table .md5) 0 refl
+
+md5s-are : tables md5Table .md5s ≡ entryOf md5Entry4 ∷ []
+unfolding knownKind familyOf extra body width sideOf selectorOf macLength idsOf secretOf entryOf item items entriesOf
+md5s-are = refl
+
+-- it matches the pair as each end holds it
+md5-mirrored : Md5Mirror ourPair theirPair (entryOf md5Entry4) (entryOf md5Entry4)
+unfolding agree familyOf extra width sideOf selectorOf macLength idsOf secretOf entryOf holds matches
+md5-mirrored = record { here = refl; there = refl; key = refl }
+
+-- the one MD5 entry, for any pairs that it matches
+held-for : (p q : Pair) → Md5Mirror p q (entryOf md5Entry4) (entryOf md5Entry4) → HoldsMd5 (tables md5Table) p q (entryOf md5Entry4)
+held-for p q m =
+    record {
+      valid = valid-md5;
+      ours = entryOf md5Entry4;
+      place = 0;
+      among = subst⁻¹ (λ (l : List Entry). Places.At l 0 (entryOf md5Entry4)) md5s-are Places.here;
+      mirror = m;
+    }
+
+held-md5 : HoldsMd5 (tables md5Table) (arrivalPair (fromThem synBytesMd5)) theirPair (entryOf md5Entry4)
+unfolding signedSegment digested withOption inserted withChecksum checksummed
+held-md5 = held-for (arrivalPair (fromThem synBytesMd5)) theirPair md5-mirrored
+
+pub bare-syn-md5-not-empty : BareSynMd5NotEmpty
+unfolding width
+bare-syn-md5-not-empty =
+    record {
+      typed = typed-md5;
+      way = refl;
+      opening = refl;
+      signed = signing-md5;
+      facing = md5-facing;
+      delivered = delivered-md5;
+      holds = held-md5;
+      accepted =
+          bare-syn-md5 md5Opener (entryOf md5Entry4) 4294967280 synBytesMd5 (fromThem synBytesMd5) (tables md5Table) typed-md5 refl refl
+          md5-facing signing-md5 delivered-md5 held-md5 true;
+    }
+
+-- The SYN+ACK by MD5, and with it all that the three steps of an opening ask.
+
+signs-syn-ack : Signs md5Table (entryOf md5Entry4) md5Passive synAckSegment 100
+unfolding checkSign position optionsOf readFrom agree clearTo macBytes knownKind familyOf extra isFamily body width sideOf selectorOf
+    macLength idsOf secretOf entryOf item items entriesOf holds matches meet overlap share clash numberOf clashing loadedFrom loaded found nobody
+    answers anyOf meetsAny besides admitted
+signs-syn-ack =
+    record {
+      good = refl;
+      under = refl;
+      short = omega arith;
+      fresh = record { long = omega arith; low = omega arith; inside = omega arith; formed = refl; no-ao = refl; no-md5 = refl };
+      octets = octets synAckSegment (omega arith);
+      place = refl;
+    }
+
+typed-passive : Typed md5Passive
+typed-passive =
+    record { sent = omega arith; seen = omega arith; isn = omega arith; peer = omega arith; local = refl; remote = refl; counts = refl }
+
+pair-is : arrivalPair (fromThem synBytesMd5) ≡ ourPair
+unfolding signedSegment digested withOption inserted withChecksum checksummed
+pair-is = refl
+
+passive-conn : md5Passive .conn ≡ openedPassively (tables md5Table) (fromThem synBytesMd5) 100 true .state .conn
+passive-conn =
+    sym
+    (ap (λ (j : Judged). j .state .conn)
+    (bare-syn-opens-md5 md5Opener (entryOf md5Entry4) 4294967280 synBytesMd5 (fromThem synBytesMd5) (tables md5Table) typed-md5 refl refl
+    md5-facing signing-md5 delivered-md5 held-md5 true 100)
+    ∙ ap (λ (p : Pair). opened 1 p 100 4294967280 0 0 .conn) pair-is)
+
+facing-them : Facing theirPair ourPair
+unfolding width
+facing-them = record { family = refl; local = refl; remote = refl; local-port = refl; remote-port = refl }
+
+signing-syn-ack : (k : SignedAt md5Passive (entryOf md5Entry4) 100 synAckBytes) × (k .unsigned ≡ synAckSegment)
+signing-syn-ack = signing-of md5Table (entryOf md5Entry4) md5Passive synAckSegment 100 signs-syn-ack
+
+delivered-syn-ack : Delivered theirPair synAckBytes (sent md5Passive synAckBytes)
+delivered-syn-ack =
+    sent-comes md5Passive (entryOf md5Entry4) 100 synAckBytes typed-passive (signing-syn-ack .0) theirPair facing-them
+
+md5-mirrored-back : Md5Mirror theirPair ourPair (entryOf md5Entry4) (entryOf md5Entry4)
+md5-mirrored-back = record { here = md5-mirrored .there; there = md5-mirrored .here; key = refl }
+
+pub opened-md5-not-empty : OpenedMd5NotEmpty
+opened-md5-not-empty =
+    record {
+      conn = passive-conn;
+      typed = typed-passive;
+      signed = signing-syn-ack .0;
+      its-syn = ap syn (signing-syn-ack .1);
+      facing = facing-them;
+      delivered = delivered-syn-ack;
+      holds = held-for theirPair ourPair md5-mirrored-back;
+      together =
+          opened-together-md5 md5Opener (entryOf md5Entry4) 4294967280 synBytesMd5 (fromThem synBytesMd5) (tables md5Table) typed-md5 refl refl
+          md5-facing signing-md5 delivered-md5 held-md5 true 100 md5Passive (entryOf md5Entry4) 100 synAckBytes (sent md5Passive synAckBytes)
+          (tables md5Table) md5Opener typed-passive passive-conn refl (signing-syn-ack .0) (ap syn (signing-syn-ack .1)) delivered-syn-ack
+          (held-for theirPair ourPair md5-mirrored-back) .0;
+    }
+
+-- A segment of the open connection.
+
+signs-open : Signs md5Table (entryOf md5Entry4) md5Theirs segment 16
+unfolding checkSign position optionsOf readFrom agree clearTo macBytes knownKind familyOf extra isFamily body width sideOf selectorOf
+    macLength idsOf secretOf entryOf item items entriesOf holds matches meet overlap share clash numberOf clashing loadedFrom loaded found nobody
+    answers anyOf meetsAny besides admitted
+signs-open = record { good = refl; under = refl; short = omega arith; fresh = signs .fresh; octets = signs .octets; place = refl }
+
+typed-open : Typed md5Theirs
+typed-open =
+    record { sent = omega arith; seen = omega arith; isn = omega arith; peer = omega arith; local = refl; remote = refl; counts = refl }
+
+signing-open : SignedAt md5Theirs (entryOf md5Entry4) 16 openBytesMd5
+signing-open = signing md5Table (entryOf md5Entry4) md5Theirs segment 16 signs-open
+
+delivered-open : Delivered ourPair openBytesMd5 (fromThem openBytesMd5)
+unfolding width
+delivered-open = sent-comes md5Theirs (entryOf md5Entry4) 16 openBytesMd5 typed-open signing-open ourPair facing
+
+pub open-md5-not-empty : OpenMd5NotEmpty
+open-md5-not-empty =
+    record {
+      far-there = λ w. let z = w .0 in omega arith;
+      far-here = λ w. let z = w .0 in omega arith;
+      typed = typed-open;
+      facing = facing;
+      signed = signing-open;
+      delivered = delivered-open;
+      holds = held-for ourPair theirPair md5-mirrored;
+      accepted =
+          open-segment-md5 md5Theirs (entryOf md5Entry4) 16 openBytesMd5 (fromThem openBytesMd5) (tables md5Table) md5Passive typed-open refl
+          refl refl refl facing signing-open delivered-open (held-for ourPair theirPair md5-mirrored);
     }
 
 -- An unknown KeyID.
 
 with-entry : UnknownKey ourTable unknownSyn
-unfolding segmentSum onesSum pseudoHeader optionsOf readFrom agree clearTo macBytes knownKind familyOf extra body width sideOf selectorOf macLength idsOf secretOf entryOf item items
-    entriesOf holds matches share clash numberOf clashing loadedFrom loaded found answers nobody
+unfolding segmentSum onesSum pseudoHeader optionsOf readFrom agree clearTo macBytes knownKind familyOf extra body width sideOf selectorOf
+    macLength idsOf secretOf entryOf item items entriesOf holds matches meet overlap share clash numberOf clashing loadedFrom loaded found
+    answers nobody anyOf meetsAny besides admitted
 with-entry =
-    record { addresses = refl; table = refl; size = refl; sum = refl; options = refl; one = refl; alone = refl; bare = refl; unknown = refl }
+    record {
+      addresses = refl;
+      table = refl;
+      size = refl;
+      sum = refl;
+      options = refl;
+      one = refl;
+      alone = refl;
+      bare = refl;
+      way = refl;
+      unknown = refl;
+    }
 
 matching : anyEntry ourTable (arrivalPair unknownSyn) ≡ true
 unfolding agree knownKind familyOf extra body width sideOf selectorOf idsOf secretOf entryOf item items entriesOf holds matches answers anyOf
 matching = refl
 
-without : UnknownKey [] unknownSyn
-unfolding segmentSum onesSum pseudoHeader optionsOf readFrom width items entriesOf loadedFrom loaded found nobody
+without : UnknownKey noTable unknownSyn
+unfolding segmentSum onesSum pseudoHeader optionsOf readFrom width items entriesOf loadedFrom loaded found nobody besides admitted
 without =
-    record { addresses = refl; table = refl; size = refl; sum = refl; options = refl; one = refl; alone = refl; bare = refl; unknown = refl }
+    record {
+      addresses = refl;
+      table = refl;
+      size = refl;
+      sum = refl;
+      options = refl;
+      one = refl;
+      alone = refl;
+      bare = refl;
+      way = refl;
+      unknown = refl;
+    }
 
-unmatching : anyEntry [] (arrivalPair unknownSyn) ≡ false
+unmatching : anyEntry noTable (arrivalPair unknownSyn) ≡ false
 unfolding items entriesOf anyOf
 unmatching = refl
 
@@ -424,5 +622,5 @@ unknown-key-not-empty =
       dropped = matched-dropped .judged ourTable unknownSyn false with-entry matching;
       without = without;
       none = unmatching;
-      passed = setting-decides .judged [] unknownSyn false without unmatching;
+      passed = setting-decides .judged noTable unknownSyn false without unmatching;
     }

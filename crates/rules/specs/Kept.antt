@@ -1,5 +1,5 @@
--- What every call on an open connection keeps, as a statement: what the connection is, and what `Typed` says of its state. `kept` of
--- KeptLaws proves it.
+-- What every call on an open connection keeps, as a statement: what the connection is, its way among it, and what `Typed` says of its
+-- state. `kept` of KeptLaws proves it.
 use mathlib.Core.Path.{_≡_}
 use mathlib.Core.Bool.{true}
 use mathlib.Core.List.{List}

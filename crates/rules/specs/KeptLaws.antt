@@ -2,13 +2,13 @@
 -- Assumes nothing of tables, bytes or the calls' order.
 use Prim.Native.Nat.{ℕ, _+_, _-_, _^_, _<_}
 use mathlib.Core.Path.{_≡_, refl, ap, sym, _∙_, subst}
-use mathlib.Core.Bool.{Bool, true, false}
+use mathlib.Core.Bool.{Bool, true, false, cond}
 use mathlib.Core.List.{List, [], _∷_}
 use native.Mathlib.Omega.{arith}
 use lib.ListN.{length}
 use lib.Dec.{ltb, leb}
 use borrow.Author.Tests.{ltb-true}
-use Rattle.keys.specs.Table.{Tables}
+use Rattle.tables.specs.Tables.{Tables}
 use Rattle.wire.specs.Header.{sequence}
 use Rattle.rules.specs.declared.Place.{Place}
 use Rattle.rules.specs.declared.Place.the-variants.{At, Nowhere}
@@ -19,9 +19,10 @@ use Rattle.rules.specs.declared.State.{State}
 use Rattle.rules.specs.Position.{position, wrappingDifference}
 use Rattle.octets.specs.Tests.{first}
 use Rattle.rules.specs.Segment.{rnextKeyId}
-use Rattle.rules.specs.Connection.{Arrival, isOpen, placeOn, value, withAsked}
-use Rattle.rules.specs.Calls.{judgeGroups, check, judged, afterJudging, askTests, unrefused, settledBy, asked}
-use Rattle.rules.specs.Calls.{checkSign, signed, signedBy, outgoing}
+use Rattle.rules.specs.Connection.{Arrival, isOpen, isMd5, placeOn, value, withCounted, withAsked}
+use Rattle.rules.specs.Calls.{goodBy, judgeGroups, check, judged, acceptedOn, afterJudging, askTests, unrefused, settledBy, asked}
+use Rattle.rules.specs.Lent.{tables}
+use Rattle.rules.specs.Calls.{checkSign, afterSigning, signed, signedBy, outgoing}
 use Rattle.rules.specs.GroupLaws.{first-clear}
 use Rattle.rules.specs.JudgeLaws.{none-of}
 use Rattle.rules.specs.SigningLaws.{signs-good}
@@ -49,21 +50,22 @@ position-below reference s x h e =
     go false b true false p q r u = let z : _≡_ {A = ℕ} 0 1 = cc (rw (p, r, u) at e) in absurd (omega arith)
     go false b false f p q r u = let z : _≡_ {A = ℕ} 0 1 = cc (rw (p, r) at e) in absurd (omega arith)
 
--- the position of what is accepted or signed, once open
-at-value : (l : Connection) (reference s x : ℕ) → isOpen l ≡ true → reference < 2 ^ 64 → value (placeOn l reference s) ≡ x → x < 2 ^ 64
-at-value l reference s x o h e = go (position reference s) refl
+-- the position of what is accepted or signed, once open, on the TCP-AO way
+at-value : (l : Connection) (reference s x : ℕ) → isOpen l ≡ true → isMd5 l ≡ false → reference < 2 ^ 64 → value (placeOn l reference s) ≡ x
+    → x < 2 ^ 64
+at-value l reference s x o w h e = go (position reference s) refl
   where
     go : (p : Place) → position reference s ≡ p → x < 2 ^ 64
-    go (At y) q = let z : y ≡ x = cc (rw (o, q) at e) in subst (λ (n : ℕ). n < 2 ^ 64) z (position-below reference s y h q)
-    go Nowhere q = let z : 0 ≡ x = cc (rw (o, q) at e) in omega (arith, z)
+    go (At y) q = let z : y ≡ x = cc (rw (o, w, q) at e) in subst (λ (n : ℕ). n < 2 ^ 64) z (position-below reference s y h q)
+    go Nowhere q = let z : 0 ≡ x = cc (rw (o, w, q) at e) in omega (arith, z)
 
--- what an accepted segment comes to: its position and its RNextKeyID
+-- what an accepted segment comes to: its position and, on the TCP-AO way, its RNextKeyID
 pub good-is : (t : Tables) (l : Connection) (reference : ℕ) (a : Arrival) (x r : ℕ) → check t l reference a ≡ Good x r
-    → (value (placeOn l reference (sequence (a .segment))) ≡ x) × (rnextKeyId (a .segment) ≡ r)
+    → (value (placeOn l reference (sequence (a .segment))) ≡ x) × (cond (isMd5 l) 0 (rnextKeyId (a .segment)) ≡ r)
 unfolding check
 good-is t l reference a x r e =
     let g =
-    sym (first-clear (judgeGroups t l reference a) (Good (value (placeOn l reference (sequence (a .segment)))) (rnextKeyId (a .segment)))
+    sym (first-clear (judgeGroups t l reference a) (goodBy (isMd5 l) (placeOn l reference (sequence (a .segment))) (a .segment))
     (none-of t l reference a x r e)) ∙ e in
     (cc (g), cc (g))
 
@@ -72,23 +74,31 @@ unfolding judged
 judge-kept t a q v o = go (check t (q .conn) (q .seen) a) refl
   where
     go : (c : Outcome) → check t (q .conn) (q .seen) a ≡ c → Kept q (afterJudging t q c)
-    go (Good x r) e =
-        let b = at-value (q .conn) (q .seen) (sequence (a .segment)) x o (v .seen) (good-is t (q .conn) (q .seen) a x r e .0) in
-        let w = v .seen in
-        rw o
-        (record {
-          conn = refl;
-          typed =
-              record {
-                sent = v .sent;
-                seen = omega arith;
-                isn = v .isn;
-                peer = v .peer;
-                local = v .local;
-                remote = v .remote;
-                counts = v .counts;
-              };
-        })
+    go (Good x r) e = rw o (accepts (isMd5 (q .conn)) refl)
+      where
+        same : Typed q → Typed (withCounted q)
+        same v =
+            record { sent = v .sent; seen = v .seen; isn = v .isn; peer = v .peer; local = v .local; remote = v .remote; counts = v .counts }
+
+        accepts : (m : Bool) → isMd5 (q .conn) ≡ m → Kept q (acceptedOn t q x r)
+        accepts true w = rw w (record { conn = refl; typed = same v })
+        accepts false w =
+            let b = at-value (q .conn) (q .seen) (sequence (a .segment)) x o w (v .seen) (good-is t (q .conn) (q .seen) a x r e .0) in
+            let k = v .seen in
+            rw w
+            (record {
+              conn = refl;
+              typed =
+                  record {
+                    sent = v .sent;
+                    seen = omega arith;
+                    isn = v .isn;
+                    peer = v .peer;
+                    local = v .local;
+                    remote = v .remote;
+                    counts = v .counts;
+                  };
+            })
     go Passed e = record { conn = refl; typed = v }
     go (Bad n i) e =
         rw o
@@ -111,22 +121,27 @@ unfolding signed
 sign-kept t s out q v o = go (checkSign t s (length out) q) refl
   where
     go : (c : Outcome) → checkSign t s (length out) q ≡ c → Kept q (signedBy q s (outgoing t q .entry) c .state)
-    go (Good x r) e =
-        let b = at-value (q .conn) (q .sent) (sequence s) x o (v .sent) (signs-good t s out q x r e .1) in
-        let w = v .sent in
-        record {
-          conn = refl;
-          typed =
-              record {
-                sent = omega arith;
-                seen = v .seen;
-                isn = v .isn;
-                peer = v .peer;
-                local = v .local;
-                remote = v .remote;
-                counts = v .counts;
-              };
-        }
+    go (Good x r) e = signs (isMd5 (q .conn)) refl
+      where
+        signs : (m : Bool) → isMd5 (q .conn) ≡ m → Kept q (afterSigning x q)
+        signs true w = rw (o, w) (record { conn = refl; typed = v })
+        signs false w =
+            let b = at-value (q .conn) (q .sent) (sequence s) x o w (v .sent) (signs-good t s out q x r e .1) in
+            let k = v .sent in
+            rw (o, w)
+            (record {
+              conn = refl;
+              typed =
+                  record {
+                    sent = omega arith;
+                    seen = v .seen;
+                    isn = v .isn;
+                    peer = v .peer;
+                    local = v .local;
+                    remote = v .remote;
+                    counts = v .counts;
+                  };
+            })
     go Passed e = record { conn = refl; typed = v }
     go (Bad n i) e = record { conn = refl; typed = v }
 
@@ -154,9 +169,9 @@ ask-kept t id q v = go (first (askTests t id (q .conn)) unrefused)
 
 -- any call
 pub next-kept : (c : Call) (q : State) → Typed q → isOpen (q .conn) ≡ true → Kept q (next c q)
-next-kept (judge t a) q v o = judge-kept t a q v o
-next-kept (sign t s out) q v o = sign-kept t s out q v o
-next-kept (ask t id) q v o = ask-kept t id q v
+next-kept (judge b a) q v o = judge-kept (tables b) a q v o
+next-kept (sign b s out) q v o = sign-kept (tables b) s out q v o
+next-kept (ask b id) q v o = ask-kept (tables b) id q v
 
 -- any list of calls
 pub ended-kept : (l : List Call) (q : State) → Typed q → isOpen (q .conn) ≡ true → Kept q (ended q l)

@@ -10,18 +10,23 @@ use lib.Dec.{eqb}
 use borrow.Author.Tests.{eqb-true}
 use Rattle.octets.specs.Each.{Each}
 use Rattle.keys.specs.declared.entry.Pair.{Pair}
-use Rattle.keys.specs.Table.{Tables, ValidTable}
+use Rattle.tables.specs.declared.Index.{Index}
+use Rattle.tables.specs.Tables.{Tables, noIndex}
+use Rattle.tables.specs.Valid.{ValidTables}
 use Rattle.rules.specs.declared.Outcome.the-variants.{Good, Bad}
 use Rattle.rules.specs.declared.Verdict.{Verdict}
 use Rattle.rules.specs.declared.Verdict.the-variants.{Accept, Drop}
 use Rattle.rules.specs.declared.Connection.{Connection}
 use Rattle.rules.specs.declared.State.{State}
 use Rattle.rules.specs.declared.Judged.{Judged}
-use Rattle.rules.specs.Connection.{Arrival, sized, isOpen, extensionOf, slots, isCounted, available, nextKey, withAccepted, withDrop}
+use Rattle.rules.specs.Connection.{Arrival, sized, isOpen, isMd5, extensionOf, slots, isCounted, available, nextKey, withAccepted}
+use Rattle.rules.specs.Connection.{withDrop}
 use Rattle.rules.specs.Calls.{check, judgedBy, judged}
 use Rattle.rules.specs.Ends.{Allowed, TrueSegment, Verifies}
 use Rattle.rules.specs.Demand3.{judgeAll, Arriving, real, other, arrival, positions, requested, trues, others, AllFit, largest, those}
-use Rattle.rules.specs.Demand3.{lastOr, Within, Close, NoStop, Alike, after, Given, Demand3, Demand3Holds}
+use Rattle.rules.specs.Demand3.{lastOr, Within, Close, NoStop, Alike, after, Given, Demand3, Demand3Holds, Demand3Lent}
+use Rattle.rules.specs.Lent.{tables}
+use Rattle.rules.specs.LentLaws.{lent-valid}
 use Rattle.rules.specs.History.{accepts, countedDrops}
 use Rattle.rules.specs.JudgeLaws.{other-bad}
 use Rattle.rules.specs.AcceptedLaws.{true-good}
@@ -107,7 +112,7 @@ close-perm (List·Permᴰ·swap {l = l} e g) c =
     ((omega arith, subst (λ (z : ℕ). Each (Within z) l) g (c .1 .0)), (subst (λ (z : ℕ). Each (Within z) l) e (c .0 .1), c .1 .1))
 close-perm (List·Permᴰ·trans p q) c = close-perm q (close-perm p c)
 
-module _ {t : List ℕ} {conn : Connection} where
+module _ {t : Tables} {conn : Connection} where
   -- a number that the arrivals add up to does not depend on their order
   sum-perm : (f : List (Arriving t conn) → ℕ) → ((i : Arriving t conn) (l : List (Arriving t conn)) → f (i ∷ l) ≡ f (i ∷ []) + f l)
       → {l k : List (Arriving t conn)} → List·Permᴰ l k → f l ≡ f k
@@ -152,15 +157,17 @@ module _ {t : List ℕ} {conn : Connection} where
       subst₂ (λ (y z : Arriving t conn). List·Permᴰ (positions (i ∷ j ∷ l)) (positions (y ∷ z ∷ l))) g e (positions-swap i j l)
   positions-perm (List·Permᴰ·trans p q) = List·Permᴰ·trans (positions-perm p) (positions-perm q)
 
-module _ (t : Tables) (valid : ValidTable t) (conn : Connection) (allowed : Allowed conn) (is-open : isOpen conn ≡ true)
+module _ (t : Tables) (valid : ValidTables t) (conn : Connection) (allowed : Allowed conn) (is-open : isOpen conn ≡ true)
+    (way : isMd5 conn ≡ false)
     (true-good : (reference : ℕ) (a : Arrival) (x r : ℕ) → TrueSegment t conn a x r → Within reference x → check t conn reference a ≡ Good x r) where
   -- one call
   judged-good : (s : State) → s .conn ≡ conn → (a : Arrival) (x r : ℕ) → check t conn (s .seen) a ≡ Good x r
-      → judged t a s ≡ record { verdict = Accept (extensionOf x); index = 0; state = withAccepted x (nextKey t (conn .pair) r (s .«send_id»)) s }
+      → judged t a s
+      ≡ record { verdict = Accept (extensionOf x); index = noIndex; state = withAccepted x (nextKey t (conn .pair) r (s .«send_id»)) s }
   unfolding judged
-  judged-good s q a x r e = ap (judgedBy t s) (ap (λ (z : Connection). check t z (s .seen) a) q ∙ e) ∙ rw (q, is-open)
+  judged-good s q a x r e = ap (judgedBy t s) (ap (λ (z : Connection). check t z (s .seen) a) q ∙ e) ∙ rw (q, is-open, way)
 
-  judged-bad : (s : State) → s .conn ≡ conn → (a : Arrival) (n i : ℕ) → check t conn (s .seen) a ≡ Bad n i
+  judged-bad : (s : State) → s .conn ≡ conn → (a : Arrival) (n : ℕ) (i : Index) → check t conn (s .seen) a ≡ Bad n i
       → judged t a s ≡ record { verdict = Drop n; index = i; state = withDrop n s }
   unfolding judged
   judged-bad s q a n i e = ap (judgedBy t s) (ap (λ (z : Connection). check t z (s .seen) a) q ∙ e) ∙ rw (q, is-open)
@@ -174,7 +181,7 @@ module _ (t : Tables) (valid : ValidTable t) (conn : Connection) (allowed : Allo
       (judged-good s q a x r (true-good (s .seen) a x r p (c .0 .0)))
       (real-step t conn s l _ _ a x r p (order l (withAccepted x (nextKey t (conn .pair) r (s .«send_id»)) s) q n (close-max (s .seen) x (positions l) c)))
   order (other a o ∷ l) s q n c =
-      let d = other-bad t conn (s .seen) a valid allowed is-open o in
+      let d = other-bad t conn (s .seen) a valid allowed way is-open o in
       subst⁻¹ (λ (j : Judged). Run t conn s (other a o ∷ l) (j .verdict ∷ judgeAll t (j .state) (map arrival l) .verdicts) (judgeAll t (j .state) (map arrival l) .state))
       (judged-bad s q a (d .0) (d .1) (d .2))
       (other-step t conn s l _ _ a o (d .0) n (d .3) (order l (withDrop (d .0) s) q (length-count (d .0) (s .drops) ∙ n) c))
@@ -200,12 +207,23 @@ unmap f (List·Permᴰ·trans p q) l e =
 module _ (t : Tables) (q : State) where
   judging : (l : List (Arriving t (q .conn))) → Given t q l → Run t (q .conn) q l (judgeAll t q (map arrival l) .verdicts) (after t q l)
   judging l g =
-      order t (g .valid) (q .conn) (g .allowed) (g .is-open) (true-good t (g .valid) (q .conn) (g .allowed) (g .typed .local) (g .typed .remote)) l q refl (g .typed .counts) (g .close)
+      order t (g .valid) (q .conn) (g .allowed) (g .is-open) (g .way)
+      (true-good t (g .valid) (q .conn) (g .way) (g .allowed) (g .typed .local) (g .typed .remote)) l q refl (g .typed .counts) (g .close)
 
   alike : (l k : List (Arriving t (q .conn))) → Given t q l → List·Permᴰ l k → NoStop (after t q l) → NoStop (after t q k) → Alike (after t q l) (after t q k)
   alike l k g p n m =
       let e = judging l g in
-      let d = judging k (record { valid = g .valid; typed = g .typed; allowed = g .allowed; is-open = g .is-open; close = close-perm (List·Permᴰ·cons refl (positions-perm p)) (g .close) }) in
+      let d =
+      judging k
+      (record {
+        valid = g .valid;
+        typed = g .typed;
+        allowed = g .allowed;
+        is-open = g .is-open;
+        way = g .way;
+        close = close-perm (List·Permᴰ·cons refl (positions-perm p)) (g .close);
+      })
+      in
       record {
         conn = e .rest .0 ∙ sym (d .rest .0);
         sent = e .rest .1 ∙ sym (d .rest .1);
@@ -233,3 +251,8 @@ module _ (t : Tables) (q : State) where
 
 pub demand3 : Demand3Holds
 demand3 = holds
+
+pub demand3-lent : Demand3Lent
+demand3-lent b n q l e typed allowed opens way close =
+    demand3 (tables b) q l
+    (record { valid = lent-valid b n e; typed = typed; allowed = allowed; is-open = opens; way = way; close = close })

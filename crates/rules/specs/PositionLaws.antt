@@ -7,6 +7,8 @@ use lib.Dec.{ltb, leb}
 use borrow.Author.Tests.{ltb-true, ltb-false, leb-true, lt-ltb, le-leb}
 use Rattle.rules.specs.declared.Place.the-variants.{At, Nowhere}
 use Rattle.rules.specs.Position.{wrappingDifference, position, Near, Complete, Sound, Unique}
+use Rattle.rules.specs.declared.Connection.{Connection}
+use Rattle.rules.specs.Connection.{isOpen, isMd5, placeOn}
 use Rattle.rules.specs.Answers.{placeAnswer}
 use Rattle.rules.specs.Sentences.{PlaceAnswers}
 
@@ -56,3 +58,11 @@ pub place-answer : PlaceAnswers
 unfolding placeAnswer
 place-answer n (At x) = refl
 place-answer n Nowhere = refl
+
+-- on the MD5 way every segment has its own number as position
+pub place-md5 : (l : Connection) (reference s : ℕ) → isMd5 l ≡ true → placeOn l reference s ≡ At s
+place-md5 l reference s way = go (isOpen l) refl
+  where
+    go : (b : Bool) → isOpen l ≡ b → placeOn l reference s ≡ At s
+    go true o = rw (o, way)
+    go false o = rw o

@@ -1,5 +1,5 @@
 -- What each call makes of the references, ISNs, stage, IDs and counts of a state, as statements with every field written out: document 01,
--- "Positions", "A connection's life" and "Numbers given back". ReferenceLaws proves them.
+-- "Positions", "A connection's life" and "Numbers given back"; document 02, Ticket 9. ReferenceLaws proves them.
 use Prim.Native.Nat.{ℕ, _+_, _<_, min, max}
 use mathlib.Core.Path.{_≡_}
 use mathlib.Core.Bool.{Bool, true, false}
@@ -7,7 +7,7 @@ use mathlib.Core.List.{List, [], _∷_}
 use lib.ListN.{getD, set}
 use Rattle.wire.specs.Header.{sequence}
 use Rattle.keys.specs.declared.entry.Ids.{Ids}
-use Rattle.keys.specs.Table.{Tables, sendEntry, recvEntry}
+use Rattle.tables.specs.Tables.{Tables, sendEntry, recvEntry}
 use Rattle.rules.specs.declared.Place.the-variants.{At}
 use Rattle.rules.specs.declared.Verdict.the-variants.{Accept, Drop}
 use Rattle.rules.specs.declared.State.{State}
@@ -15,12 +15,12 @@ use Rattle.rules.specs.declared.Signing.the-variants as S
 use Rattle.rules.specs.declared.Done.the-variants as D
 use Rattle.rules.specs.Position.{position}
 use Rattle.rules.specs.Segment.{keyId, rnextKeyId}
-use Rattle.rules.specs.Connection.{Arrival, pairOf, arrivalPair, isOpen, nextKey}
-use Rattle.rules.specs.Calls.{judged, openedPassively, openedActively, asked, signed}
+use Rattle.rules.specs.Connection.{Arrival, pairOf, arrivalPair, isOpen, isMd5, nextKey}
+use Rattle.rules.specs.Calls.{synIsMd5, judged, openedPassively, openedActively, openedActivelyMd5, asked, signed}
 
--- eleven counts, of the drops 20 to 29 and 40: "All are 0 at opening"
+-- thirteen counts, of the drops 20 to 29, 40, 46 and 47: "All are 0 at opening"
 abbrev pub zeroCounts : List ℕ
-zeroCounts = 0 ∷ 0 ∷ 0 ∷ 0 ∷ 0 ∷ 0 ∷ 0 ∷ 0 ∷ 0 ∷ 0 ∷ 0 ∷ []
+zeroCounts = 0 ∷ 0 ∷ 0 ∷ 0 ∷ 0 ∷ 0 ∷ 0 ∷ 0 ∷ 0 ∷ 0 ∷ 0 ∷ 0 ∷ 0 ∷ []
 
 -- "Counts of acceptances and of each drop stop at 2^64-1."
 abbrev pub countUp : ℕ → ℕ
@@ -44,15 +44,21 @@ sentTo x q =
 -- "An accepted or signed segment sets its direction's reference to the larger of the old one and X." Once open, X is the position of its
 -- number by the sending reference.
 abbrev pub SignedOpen : Type 0
-SignedOpen = (t : Tables) (s out : List ℕ) (q : State) (n : ℕ) → isOpen (q .conn) ≡ true → signed t s out q .answer ≡ S.Signed n
+SignedOpen = (t : Tables) (s out : List ℕ) (q : State) (n : ℕ) → isOpen (q .conn) ≡ true → isMd5 (q .conn) ≡ false
+    → signed t s out q .answer ≡ S.Signed n
     → (x : ℕ) × (position (q .sent) (sequence s) ≡ At x) × (signed t s out q .state ≡ sentTo x q)
 
--- "A bare SYN .. [has its] own number as position"
+-- Ticket 9, on the MD5 way: "after opening neither it nor signing moves a reference"
+abbrev pub SignedOpenMd5 : Type 0
+SignedOpenMd5 = (t : Tables) (s out : List ℕ) (q : State) (n : ℕ) → isOpen (q .conn) ≡ true → isMd5 (q .conn) ≡ true
+    → signed t s out q .answer ≡ S.Signed n → signed t s out q .state ≡ q
+
+-- "A bare SYN .. [has its] own number as position", by either way
 abbrev pub SignedOpening : Type 0
 SignedOpening = (t : Tables) (s out : List ℕ) (q : State) (n : ℕ) → isOpen (q .conn) ≡ false → signed t s out q .answer ≡ S.Signed n
     → signed t s out q .state ≡ sentTo (sequence s) q
 
--- The three openings.
+-- The openings.
 
 -- "Active opening names a SendID .. It gives the outgoing key and, by RecvID, the key asked of the peer." "Opening sets each reference to
 -- that side's ISN; until the peer's ISN is known, it and its reference are 0."
@@ -60,7 +66,7 @@ abbrev pub OpensActively : Type 0
 OpensActively = (t : Tables) (local remote : List ℕ) (localPort remotePort isn sendId : ℕ)
     → openedActively t local remote localPort remotePort isn sendId .answer ≡ D.Done
     → openedActively t local remote localPort remotePort isn sendId .state ≡ record {
-      conn = record { stage = 0; pair = pairOf local remote localPort remotePort; isn = isn; «peer_isn» = 0 };
+      conn = record { stage = 0; way = 0; pair = pairOf local remote localPort remotePort; isn = isn; «peer_isn» = 0 };
       sent = isn;
       seen = 0;
       «send_id» = sendId;
@@ -69,12 +75,26 @@ OpensActively = (t : Tables) (local remote : List ℕ) (localPort remotePort isn
       drops = zeroCounts;
     }
 
+-- by MD5: no IDs
+abbrev pub OpensActivelyMd5 : Type 0
+OpensActivelyMd5 = (t : Tables) (local remote : List ℕ) (localPort remotePort isn : ℕ)
+    → openedActivelyMd5 t local remote localPort remotePort isn .answer ≡ D.Done
+    → openedActivelyMd5 t local remote localPort remotePort isn .state ≡ record {
+      conn = record { stage = 0; way = 1; pair = pairOf local remote localPort remotePort; isn = isn; «peer_isn» = 0 };
+      sent = isn;
+      seen = 0;
+      «send_id» = 0;
+      «ask_id» = 0;
+      accepted = 0;
+      drops = zeroCounts;
+    }
+
 -- "A second call takes the same SYN and our ISN, judges it again and, only on accept, opens with the entry found, then applies the key
--- rule": the SYN's number is the peer's ISN
+-- rule": the SYN's number is the peer's ISN. Ticket 9: a bare SYN goes "by the table that matches"
 abbrev pub passivelyOpened : Tables → Arrival → ℕ → Ids → State
 passivelyOpened t a isn ids =
     record {
-      conn = record { stage = 1; pair = arrivalPair a; isn = isn; «peer_isn» = sequence (a .segment) };
+      conn = record { stage = 1; way = 0; pair = arrivalPair a; isn = isn; «peer_isn» = sequence (a .segment) };
       sent = isn;
       seen = sequence (a .segment);
       «send_id» = nextKey t (arrivalPair a) (rnextKeyId (a .segment)) (ids .send);
@@ -84,21 +104,46 @@ passivelyOpened t a isn ids =
     }
 
 abbrev pub OpensPassively : Type 0
-OpensPassively = (t : Tables) (a : Arrival) (isn : ℕ) (strict : Bool) (e : ℕ) → openedPassively t a isn strict .verdict ≡ Accept e
+OpensPassively = (t : Tables) (a : Arrival) (isn : ℕ) (strict : Bool) (e : ℕ) → synIsMd5 t (arrivalPair a) ≡ false
+    → openedPassively t a isn strict .verdict ≡ Accept e
     → openedPassively t a isn strict .state ≡ passivelyOpened t a isn (recvEntry t (arrivalPair a) (keyId (a .segment)) .entry .ids)
 
--- "An accepted SYN+ACK opens the connection; its sequence number is the peer's ISN"; "the segment that opens is not counted"
-abbrev pub SynAckOpens : Type 0
-SynAckOpens = (t : Tables) (a : Arrival) (q : State) (e : ℕ) → isOpen (q .conn) ≡ false → judged t a q .verdict ≡ Accept e
-    → judged t a q .state ≡ record {
-      conn = record { stage = 1; pair = q .conn .pair; isn = q .conn .isn; «peer_isn» = sequence (a .segment) };
+abbrev pub OpensPassivelyMd5 : Type 0
+OpensPassivelyMd5 = (t : Tables) (a : Arrival) (isn : ℕ) (strict : Bool) (e : ℕ) → synIsMd5 t (arrivalPair a) ≡ true
+    → openedPassively t a isn strict .verdict ≡ Accept e
+    → openedPassively t a isn strict .state ≡ record {
+      conn = record { stage = 1; way = 1; pair = arrivalPair a; isn = isn; «peer_isn» = sequence (a .segment) };
+      sent = isn;
+      seen = sequence (a .segment);
+      «send_id» = 0;
+      «ask_id» = 0;
+      accepted = 0;
+      drops = zeroCounts;
+    }
+
+-- "An accepted SYN+ACK opens the connection; its sequence number is the peer's ISN"; "the segment that opens is not counted". The way
+-- stays.
+abbrev pub synAckOpened : State → Arrival → ℕ → State
+synAckOpened q a sendId =
+    record {
+      conn = record { stage = 1; way = q .conn .way; pair = q .conn .pair; isn = q .conn .isn; «peer_isn» = sequence (a .segment) };
       sent = q .conn .isn;
       seen = sequence (a .segment);
-      «send_id» = nextKey t (q .conn .pair) (rnextKeyId (a .segment)) (q .«send_id»);
+      «send_id» = sendId;
       «ask_id» = q .«ask_id»;
       accepted = 0;
       drops = zeroCounts;
     }
+
+abbrev pub SynAckOpens : Type 0
+SynAckOpens = (t : Tables) (a : Arrival) (q : State) (e : ℕ) → isOpen (q .conn) ≡ false → isMd5 (q .conn) ≡ false
+    → judged t a q .verdict ≡ Accept e
+    → judged t a q .state ≡ synAckOpened q a (nextKey t (q .conn .pair) (rnextKeyId (a .segment)) (q .«send_id»))
+
+-- on the MD5 way both IDs stay
+abbrev pub SynAckOpensMd5 : Type 0
+SynAckOpensMd5 = (t : Tables) (a : Arrival) (q : State) (e : ℕ) → isOpen (q .conn) ≡ false → isMd5 (q .conn) ≡ true
+    → judged t a q .verdict ≡ Accept e → judged t a q .state ≡ synAckOpened q a (q .«send_id»)
 
 -- Judging, once open.
 
@@ -117,9 +162,23 @@ seenTo x t rnext q =
 
 -- the counts stay below 2^64 by their type
 abbrev pub AcceptedOpen : Type 0
-AcceptedOpen = (t : Tables) (a : Arrival) (q : State) (e : ℕ) → isOpen (q .conn) ≡ true → q .accepted < 18446744073709551616
-    → judged t a q .verdict ≡ Accept e
+AcceptedOpen = (t : Tables) (a : Arrival) (q : State) (e : ℕ) → isOpen (q .conn) ≡ true → isMd5 (q .conn) ≡ false
+    → q .accepted < 18446744073709551616 → judged t a q .verdict ≡ Accept e
     → (x : ℕ) × (position (q .seen) (sequence (a .segment)) ≡ At x) × (judged t a q .state ≡ seenTo x t (rnextKeyId (a .segment)) q)
+
+-- Ticket 9, an MD5 acceptance: one more is counted, and nothing else moves
+abbrev pub AcceptedOpenMd5 : Type 0
+AcceptedOpenMd5 = (t : Tables) (a : Arrival) (q : State) (e : ℕ) → isOpen (q .conn) ≡ true → isMd5 (q .conn) ≡ true
+    → q .accepted < 18446744073709551616 → judged t a q .verdict ≡ Accept e
+    → judged t a q .state ≡ record {
+      conn = q .conn;
+      sent = q .sent;
+      seen = q .seen;
+      «send_id» = q .«send_id»;
+      «ask_id» = q .«ask_id»;
+      accepted = countUp (q .accepted);
+      drops = q .drops;
+    }
 
 -- "Nothing else moves it."
 
@@ -142,16 +201,28 @@ DropCounted = (t : Tables) (a : Arrival) (q : State) (i : ℕ) → isOpen (q .co
     → judged t a q .verdict ≡ Drop (20 + i)
     → judged t a q .state ≡ droppedTo (set (q .drops) i (countUp (getD (q .drops) i 0))) q
 
--- Ticket 5: 40 stands behind 29
-abbrev pub Drop40Counted : Type 0
-Drop40Counted = (t : Tables) (a : Arrival) (q : State) → isOpen (q .conn) ≡ true → getD (q .drops) 10 0 < 18446744073709551616
-    → judged t a q .verdict ≡ Drop 40
-    → judged t a q .state ≡ droppedTo (set (q .drops) 10 (countUp (getD (q .drops) 10 0))) q
+-- Behind these, Ticket 5: 40; Ticket 9: 46 and 47. The count of the number n is the one with the index i.
+abbrev pub CountedAt : ℕ → ℕ → Type 0
+CountedAt n i = (t : Tables) (a : Arrival) (q : State) → isOpen (q .conn) ≡ true → getD (q .drops) i 0 < 18446744073709551616
+    → judged t a q .verdict ≡ Drop n
+    → judged t a q .state ≡ droppedTo (set (q .drops) i (countUp (getD (q .drops) i 0))) q
 
--- "A refusal leaves outputs and state alike": a drop below 20 (of those above 29 only 40 is given: RefusedAmong of GivenNumbers.antt), and
--- every drop while opening
+abbrev pub Drop40Counted : Type 0
+Drop40Counted = CountedAt 40 10
+
+abbrev pub Drop46Counted : Type 0
+Drop46Counted = CountedAt 46 11
+
+abbrev pub Drop47Counted : Type 0
+Drop47Counted = CountedAt 47 12
+
+-- "A refusal leaves outputs and state alike": a drop below 20, 45 (of those above 29 only 40, 45, 46 and 47 are given: RefusedAmong of
+-- GivenNumbers.antt), and every drop while opening
 abbrev pub DropUncounted : Type 0
 DropUncounted = (t : Tables) (a : Arrival) (q : State) (n : ℕ) → n < 20 → judged t a q .verdict ≡ Drop n → judged t a q .state ≡ q
+
+abbrev pub Drop45Uncounted : Type 0
+Drop45Uncounted = (t : Tables) (a : Arrival) (q : State) → judged t a q .verdict ≡ Drop 45 → judged t a q .state ≡ q
 
 abbrev pub DropOpening : Type 0
 DropOpening = (t : Tables) (a : Arrival) (q : State) (n : ℕ) → isOpen (q .conn) ≡ false → judged t a q .verdict ≡ Drop n

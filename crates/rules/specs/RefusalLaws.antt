@@ -9,7 +9,7 @@ use borrow.Author.Tests.{ltb-false}
 use lib.Seq.{drop-at}
 use Rattle.keys.specs.declared.entry.Pair.{Pair}
 use Rattle.keys.specs.declared.entry.Entry.{Entry}
-use Rattle.keys.specs.Table.{Tables, checked, sendEntry, recvEntry}
+use Rattle.tables.specs.Tables.{Tables, sendEntry, recvEntry, md5Entry}
 use Rattle.rules.specs.declared.Place.{Place}
 use Rattle.rules.specs.declared.Place.the-variants.{At, Nowhere}
 use Rattle.rules.specs.declared.Outcome.{Outcome}
@@ -20,16 +20,17 @@ use Rattle.rules.specs.declared.State.{State}
 use Rattle.octets.specs.Tests.{first}
 use Rattle.octets.specs.TestLaws.{NoneApplies, none-applied}
 use Rattle.rules.specs.Segment.{keyId}
-use Rattle.rules.specs.Connection.{pairOf, arrivalPair, isOpen, isCounted, slot, countDrop, empty, opening, withDrop, withAsked}
+use Rattle.rules.specs.Connection.{pairOf, arrivalPair, isOpen, isCounted, slot, countDrop, empty, withDrop, withAsked}
 use Rattle.rules.specs.Calls.{check, checkSyn, verdictOf, afterJudging, judged, openedBy, openedPassively, settledBy, unrefused}
-use Rattle.rules.specs.Calls.{openTests, openedWith, openedActively, askTests, asked, outgoing, addedBytes, signTests, checkSign}
+use Rattle.rules.specs.Calls.{openTests, openedActively, openedActivelyMd5, askTests, asked, outgoing, addedOn, signTests, checkSign}
 use Rattle.rules.specs.Calls.{signedSegment, signedBy, outputBy, signed, output}
+use Rattle.rules.specs.Lent.{Lent, tables}
 use Rattle.rules.specs.JudgeLaws.{isBad, refusal-bad}
 use Rattle.rules.specs.SigningLaws.{signs-good}
-use Rattle.rules.specs.DeliveryLaws.{signed-long}
+use Rattle.rules.specs.DeliveryLaws.{signed-long, short-lent}
 use Rattle.rules.specs.History.{judge, sign, ask}
-use Rattle.rules.specs.Refusals.{on, judgeSyn, openPassively, openActively, byVerdict, bySigning, oneMore, RefusalLeaves, PassedEmpty}
-use Rattle.rules.specs.Refusals.{SigningWrites}
+use Rattle.rules.specs.Refusals.{on, judgeSyn, openPassively, openActively, openActivelyMd5, byVerdict, bySigning, oneMore}
+use Rattle.rules.specs.Refusals.{RefusalLeaves, PassedEmpty, SigningWrites}
 
 -- Each kind of answer, by what the tests come to.
 
@@ -55,32 +56,29 @@ settle-left (Good x r) old new n e = let z : _≡_ {A = ℕ} 0 1 = cc in absurd 
 settle-left Passed old new n e = let z : _≡_ {A = ℕ} 0 1 = cc in absurd (omega arith)
 settle-left (Bad m i) old new n e = refl
 
-active-left : (t : Tables) (local remote : List ℕ) (p : Pair) (isn sendId n : ℕ) → openedWith t local remote p isn sendId .answer ≡ D.Refused n
-    → openedWith t local remote p isn sendId .state ≡ empty
-active-left t local remote p isn sendId n e =
-    settle-left (first (openTests t local remote (sendEntry t p sendId)) unrefused) empty (opening p isn sendId (sendEntry t p sendId .entry .ids .recv)) n e
-
 open-left : (t : Tables) (p : Pair) (isn : ℕ) (f : Entry) (o : Outcome) (n : ℕ) → byVerdict (verdictOf o) ≡ D.Refused n → openedBy t p isn f o ≡ empty
 open-left t p isn f (Good x r) n e = let z : _≡_ {A = ℕ} 0 1 = cc in absurd (omega arith)
 open-left t p isn f Passed n e = refl
 open-left t p isn f (Bad m i) n e = refl
 
 pub refusal : RefusalLeaves
-unfolding judged signed output asked openedPassively openedActively
-refusal (on (judge t a) q) n e = record { output = refl; state = judge-left t q (check t (q .conn) (q .seen) a) n e }
-refusal (on (sign t s out) q) n e =
-    let u = sign-left q s out (outgoing t q .entry) (checkSign t s (length out) q) n e in
+unfolding judged signed output asked openedPassively openedActively openedActivelyMd5
+refusal (on (judge b a) q) n e = record { output = refl; state = judge-left (tables b) q (check (tables b) (q .conn) (q .seen) a) n e }
+refusal (on (sign b s out) q) n e =
+    let u = sign-left q s out (outgoing (tables b) q .entry) (checkSign (tables b) s (length out) q) n e in
     record { output = u .0; state = u .1 }
-refusal (on (ask t id) q) n e = record { output = refl; state = settle-left (first (askTests t id (q .conn)) unrefused) q (withAsked id q) n e }
-refusal (judgeSyn t a strict) n e = record { output = refl; state = refl }
-refusal (openPassively t a isn strict) n e =
-    record { output = refl; state = open-left t (arrivalPair a) isn (recvEntry t (arrivalPair a) (keyId (a .segment)) .entry) (checkSyn t a strict) n e }
-refusal (openActively t local remote localPort remotePort isn sendId) n e =
-    record {
-      output = refl;
-      state =
-          active-left t local remote (pairOf local remote localPort remotePort) isn sendId n e;
-    }
+refusal (on (ask b id) q) n e =
+    record { output = refl; state = settle-left (first (askTests (tables b) id (q .conn)) unrefused) q (withAsked id q) n e }
+refusal (judgeSyn b a strict) n e = record { output = refl; state = refl }
+refusal (openPassively b a isn strict) n e =
+    let f = recvEntry (tables b) (arrivalPair a) (keyId (a .segment)) in
+    record { output = refl; state = open-left (tables b) (arrivalPair a) isn (f .entry) (checkSyn (tables b) a strict) n e }
+refusal (openActively b local remote localPort remotePort isn sendId) n e =
+    let f = sendEntry (tables b) (pairOf local remote localPort remotePort) sendId in
+    record { output = refl; state = settle-left (first (openTests (tables b) local remote f) unrefused) empty _ n e }
+refusal (openActivelyMd5 b local remote localPort remotePort isn) n e =
+    let f = md5Entry (tables b) (pairOf local remote localPort remotePort) in
+    record { output = refl; state = settle-left (first (openTests (tables b) local remote f) unrefused) empty _ n e }
 
 pub passed-empty : PassedEmpty
 unfolding openedPassively
@@ -92,26 +90,35 @@ passed-empty t a isn strict e = go (checkSyn t a strict) refl
     go (Bad n i) q = rw q
 
 -- the output, where signing answers with a length
-module _ (t : Tables) (s out : List ℕ) (q : State) where
-  fits : (x r : ℕ) → checkSign t s (length out) q ≡ Good x r → length s + addedBytes (outgoing t q .entry) ≤ length out
-  unfolding checkSign
-  fits x r e = go (none-applied isBad (signTests t s (length out) q (outgoing t q)) _ (rw (refusal-bad (checked t))) (ap isBad e))
-    where
-      go : NoneApplies (signTests t s (length out) q (outgoing t q)) → length s + addedBytes (outgoing t q .entry) ≤ length out
-      go p = ltb-false (length out) (length s + addedBytes (outgoing t q .entry)) (search)
+module _ (b : Lent) (s out : List ℕ) (q : State) where
+  abbrev t : Tables
+  t = tables b
 
-  writes : (n : ℕ) → signed t s out q .answer ≡ S.Signed n → (drop n (output t s out q) ≡ drop n out) × (length (output t s out q) ≡ length out)
+  abbrev bytes : ℕ → List ℕ
+  bytes x = signedSegment (outgoing t q .entry) q x s
+
+  fits : (x r : ℕ) → checkSign t s (length out) q ≡ Good x r → length s + addedOn (q .conn) (outgoing t q .entry) ≤ length out
+  unfolding checkSign
+  fits x r e = go (none-applied isBad (signTests t s (length out) q (outgoing t q)) _ (rw (refusal-bad (t .answer))) (ap isBad e))
+    where
+      go : NoneApplies (signTests t s (length out) q (outgoing t q)) → length s + addedOn (q .conn) (outgoing t q .entry) ≤ length out
+      go p = ltb-false (length out) (length s + addedOn (q .conn) (outgoing t q .entry)) (search)
+
+  writes : (n : ℕ) → signed t s out q .answer ≡ S.Signed n
+      → (drop n (output t s out q) ≡ drop n out) × (length (output t s out q) ≡ length out)
   unfolding signed output
   writes n e = go (checkSign t s (length out) q) refl
     where
-      go : (o : Outcome) → checkSign t s (length out) q ≡ o → (drop n (output t s out q) ≡ drop n out) × (length (output t s out q) ≡ length out)
+      go : (o : Outcome) → checkSign t s (length out) q ≡ o
+          → (drop n (output t s out q) ≡ drop n out) × (length (output t s out q) ≡ length out)
       go (Good x r) f =
-          let k : length s + addedBytes (outgoing t q .entry) ≡ n = cc (rw f at e) in
-          let l = signed-long t s out q (signs-good t s out q x r f .0) x ∙ k in
+          let k : length s + addedOn (q .conn) (outgoing t q .entry) ≡ n = cc (rw f at e) in
+          let g = signs-good t s out q x r f .0 in
+          let l = signed-long (outgoing t q .entry) q x s (short-lent b s out q g) (g .fresh) ∙ k in
           let w = fits x r f in
           rw f (
-            drop-at (signedSegment (outgoing t q .entry) q x s) _ n l ∙ ap (λ (m : ℕ). drop m out) l,
-            length-append (signedSegment (outgoing t q .entry) q x s) _ ∙ (omega (arith, length-drop (length (signedSegment (outgoing t q .entry) q x s)) out)),
+            drop-at (bytes x) _ n l ∙ ap (λ (m : ℕ). drop m out) l,
+            length-append (bytes x) _ ∙ (omega (arith, length-drop (length (bytes x)) out)),
           )
       go Passed f = let z : _≡_ {A = ℕ} 0 1 = cc (rw f at e) in absurd (omega arith)
       go (Bad m i) f = let z : _≡_ {A = ℕ} 0 1 = cc (rw f at e) in absurd (omega arith)

@@ -1,12 +1,12 @@
 -- A refusal changes nothing but the count, as statements: demand 1 of the definitions, stated once for all calls. Document 01, "Numbers
 -- given back": "A refusal leaves outputs and state alike, except that drops 20 to 29 on an open connection add one to that number's count."
--- (Ticket 5: and 40). RefusalLaws proves them.
+-- (Ticket 5: and 40; Ticket 9: and 46, 47). RefusalLaws proves them.
 use Prim.Native.Nat.{ℕ}
 use mathlib.Core.Path.{_≡_}
 use mathlib.Core.Bool.{Bool, cond, _&&_}
 use mathlib.Core.List.{List, []}
 use lib.ListN.{length, drop}
-use Rattle.keys.specs.Table.{Tables}
+use Rattle.tables.specs.Tables.{Tables}
 use Rattle.rules.specs.declared.Verdict.{Verdict}
 use Rattle.rules.specs.declared.Verdict.the-variants.{Accept, Pass, Drop}
 use Rattle.rules.specs.declared.Signing.{Signing}
@@ -15,15 +15,17 @@ use Rattle.rules.specs.declared.Done.{Done}
 use Rattle.rules.specs.declared.Done.the-variants as D
 use Rattle.rules.specs.declared.State.{State}
 use Rattle.rules.specs.Connection.{Arrival, isOpen, isCounted, slot, countAt, empty}
-use Rattle.rules.specs.Calls.{judged, judgedSyn, openedPassively, openedActively, asked, signed, output}
+use Rattle.rules.specs.Calls.{judged, judgedSyn, openedPassively, openedActively, openedActivelyMd5, asked, signed, output}
+use Rattle.rules.specs.Lent.{Lent, tables}
 use Rattle.rules.specs.History.{Call, judge, sign, ask, next}
 
--- Every call, with all that it is given.
+-- Every call, with all that it is given; its tables are any bytes.
 pub data Request : Type 0 where
   on : Call → State → Request
-  judgeSyn : (table : Tables) (arrival : Arrival) (strict : Bool) → Request
-  openPassively : (table : Tables) (arrival : Arrival) (isn : ℕ) (strict : Bool) → Request
-  openActively : (table : Tables) (local remote : List ℕ) (localPort remotePort isn sendId : ℕ) → Request
+  judgeSyn : (lent : Lent) (arrival : Arrival) (strict : Bool) → Request
+  openPassively : (lent : Lent) (arrival : Arrival) (isn : ℕ) (strict : Bool) → Request
+  openActively : (lent : Lent) (local remote : List ℕ) (localPort remotePort isn sendId : ℕ) → Request
+  openActivelyMd5 : (lent : Lent) (local remote : List ℕ) (localPort remotePort isn : ℕ) → Request
 
 -- what it answers: done, or refused with a number. A verdict refuses by a drop, signing by no length.
 abbrev pub byVerdict : Verdict → Done
@@ -36,37 +38,43 @@ bySigning (S.Signed n) = D.Done
 bySigning (S.Refused n) = D.Refused n
 
 abbrev pub reply : Request → Done
-reply (on (judge t a) q) = byVerdict (judged t a q .verdict)
-reply (on (sign t s out) q) = bySigning (signed t s out q .answer)
-reply (on (ask t id) q) = asked t id q .answer
-reply (judgeSyn t a strict) = byVerdict (judgedSyn t a strict .verdict)
-reply (openPassively t a isn strict) = byVerdict (openedPassively t a isn strict .verdict)
-reply (openActively t local remote localPort remotePort isn sendId) = openedActively t local remote localPort remotePort isn sendId .answer
+reply (on (judge b a) q) = byVerdict (judged (tables b) a q .verdict)
+reply (on (sign b s out) q) = bySigning (signed (tables b) s out q .answer)
+reply (on (ask b id) q) = asked (tables b) id q .answer
+reply (judgeSyn b a strict) = byVerdict (judgedSyn (tables b) a strict .verdict)
+reply (openPassively b a isn strict) = byVerdict (openedPassively (tables b) a isn strict .verdict)
+reply (openActively b local remote localPort remotePort isn sendId) =
+    openedActively (tables b) local remote localPort remotePort isn sendId .answer
+reply (openActivelyMd5 b local remote localPort remotePort isn) = openedActivelyMd5 (tables b) local remote localPort remotePort isn .answer
 
 -- the state that it returns; judging without a state returns none, as if it were the empty one
 abbrev pub stateAfter : Request → State
 stateAfter (on c q) = next c q
-stateAfter (judgeSyn t a strict) = empty
-stateAfter (openPassively t a isn strict) = openedPassively t a isn strict .state
-stateAfter (openActively t local remote localPort remotePort isn sendId) =
-    openedActively t local remote localPort remotePort isn sendId .state
+stateAfter (judgeSyn b a strict) = empty
+stateAfter (openPassively b a isn strict) = openedPassively (tables b) a isn strict .state
+stateAfter (openActively b local remote localPort remotePort isn sendId) =
+    openedActively (tables b) local remote localPort remotePort isn sendId .state
+stateAfter (openActivelyMd5 b local remote localPort remotePort isn) =
+    openedActivelyMd5 (tables b) local remote localPort remotePort isn .state
 
 -- the output, before and after; only signing has one
 abbrev pub outputBefore : Request → List ℕ
-outputBefore (on (judge t a) q) = []
-outputBefore (on (sign t s out) q) = out
-outputBefore (on (ask t id) q) = []
-outputBefore (judgeSyn t a strict) = []
-outputBefore (openPassively t a isn strict) = []
-outputBefore (openActively t local remote localPort remotePort isn sendId) = []
+outputBefore (on (judge b a) q) = []
+outputBefore (on (sign b s out) q) = out
+outputBefore (on (ask b id) q) = []
+outputBefore (judgeSyn b a strict) = []
+outputBefore (openPassively b a isn strict) = []
+outputBefore (openActively b local remote localPort remotePort isn sendId) = []
+outputBefore (openActivelyMd5 b local remote localPort remotePort isn) = []
 
 abbrev pub outputAfter : Request → List ℕ
-outputAfter (on (judge t a) q) = []
-outputAfter (on (sign t s out) q) = output t s out q
-outputAfter (on (ask t id) q) = []
-outputAfter (judgeSyn t a strict) = []
-outputAfter (openPassively t a isn strict) = []
-outputAfter (openActively t local remote localPort remotePort isn sendId) = []
+outputAfter (on (judge b a) q) = []
+outputAfter (on (sign b s out) q) = output (tables b) s out q
+outputAfter (on (ask b id) q) = []
+outputAfter (judgeSyn b a strict) = []
+outputAfter (openPassively b a isn strict) = []
+outputAfter (openActively b local remote localPort remotePort isn sendId) = []
+outputAfter (openActivelyMd5 b local remote localPort remotePort isn) = []
 
 -- "add one to that number's count"
 abbrev pub oneMore : ℕ → State → State
@@ -83,12 +91,13 @@ oneMore n q =
 
 -- the state that a refusal with the number n leaves; "An opening refused .. returns the empty state"
 abbrev pub left : Request → ℕ → State
-left (on (judge t a) q) n = cond (isOpen (q .conn) && isCounted n) (oneMore n q) q
-left (on (sign t s out) q) n = q
-left (on (ask t id) q) n = q
-left (judgeSyn t a strict) n = empty
-left (openPassively t a isn strict) n = empty
-left (openActively t local remote localPort remotePort isn sendId) n = empty
+left (on (judge b a) q) n = cond (isOpen (q .conn) && isCounted n) (oneMore n q) q
+left (on (sign b s out) q) n = q
+left (on (ask b id) q) n = q
+left (judgeSyn b a strict) n = empty
+left (openPassively b a isn strict) n = empty
+left (openActively b local remote localPort remotePort isn sendId) n = empty
+left (openActivelyMd5 b local remote localPort remotePort isn) n = empty
 
 pub record Unchanged (c : Request) (n : ℕ) : Type 0 where
   pub output : outputAfter c ≡ outputBefore c
@@ -105,5 +114,5 @@ PassedEmpty = (t : Tables) (a : Arrival) (isn : ℕ) (strict : Bool) → openedP
 
 -- "Signing writes only the signed length's bytes of the output."
 abbrev pub SigningWrites : Type 0
-SigningWrites = (t : Tables) (s out : List ℕ) (q : State) (n : ℕ) → signed t s out q .answer ≡ S.Signed n
-    → (drop n (output t s out q) ≡ drop n out) × (length (output t s out q) ≡ length out)
+SigningWrites = (b : Lent) (s out : List ℕ) (q : State) (n : ℕ) → signed (tables b) s out q .answer ≡ S.Signed n
+    → (drop n (output (tables b) s out q) ≡ drop n out) × (length (output (tables b) s out q) ≡ length out)

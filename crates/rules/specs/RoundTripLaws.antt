@@ -1,91 +1,25 @@
--- Signed bytes as they arrive, with any checksum and any ports in them, read by the receiver's definitions.
-use Prim.Native.Nat.{ℕ, zero, suc, _+_, _-_, _*_, _/_, _%_, _^_, _≤_, _<_}
-use mathlib.Core.Path.{_≡_, refl, ap, ap₂, sym, _∙_, subst, subst⁻¹}
+-- TCP-AO put into a segment, as it arrives, with any checksum and any ports in it, read by the receiver's definitions.
+use Prim.Native.Nat.{ℕ, _+_, _-_, _/_}
+use mathlib.Core.Path.{_≡_, refl, ap, ap₂, sym, _∙_, subst⁻¹}
 use mathlib.Core.Bool.{Bool, true, false, cond}
-use mathlib.Core.List.{List, [], _∷_, _++_, append-assoc, append-nil}
+use mathlib.Core.List.{List, [], _∷_, _++_, append-assoc}
 use native.Mathlib.Omega.{arith}
-use lib.ListN.{length, getD, take, drop, replicate, length-append, length-take, length-drop, length-replicate, take-append-drop}
-use lib.Seq.{drop-cons, take-at, take-append-add, drop-append-add, take-append-seam, drop-append-seam}
+use lib.ListN.{length, getD, take, drop, replicate, length-append, length-replicate}
+use lib.Seq.{take-at, drop-drop, getD-drop, drop-append-add, drop-append-seam}
 use Rattle.wire.specs.Header.{sourcePort, destinationPort, sequence, headerEnd, syn, ack, area}
 use Rattle.wire.specs.Options.{optionsOf}
-use Rattle.wire.specs.OptionLaws.{ao-alone}
 use Rattle.wire.specs.declared.options.Seen.{Seen}
-use Rattle.wire.specs.declared.options.Options.{Options}
-use Rattle.wire.specs.declared.options.Options.the-variants.{Malformed, Found}
+use Rattle.wire.specs.declared.options.Options.the-variants.{Found}
 use Rattle.octets.specs.Octets.{bytes32}
 use Rattle.octets.specs.Each.{Octets}
 use Rattle.keys.specs.declared.entry.Secret.{Secret}
 use Rattle.keys.specs.Entry.{allOptions}
 use Rattle.rules.specs.declared.Hidden.{Hidden}
 use Rattle.rules.specs.Mac.{Flow, pseudoHeader, blankIf, portsBlanked, zeroed, coveredHeader, front, message}
-use Rattle.rules.specs.Segment.{malformed, ao, md5, keyId, rnextKeyId, macIn, inserted, withOption, padding, optionOf, optionBytes, signedWith, Whole}
+use Rattle.rules.specs.Segment.{malformed, ao, md5, keyId, rnextKeyId, macIn, padding, optionOf, optionBytes, signedWith, Whole}
 use Rattle.rules.specs.Ends.{rechecked, withPorts}
 use Rattle.rules.specs.PortLaws.{Ports, portsOf, written, unhidden, unhidden-same}
-
--- a header's twenty fixed bytes, by name, so that what is read of them computes: those behind the ports
-pub record Head : Type 0 where
-  pub b4 : ℕ
-  pub b5 : ℕ
-  pub b6 : ℕ
-  pub b7 : ℕ
-  pub b8 : ℕ
-  pub b9 : ℕ
-  pub b10 : ℕ
-  pub b11 : ℕ
-  pub b12 : ℕ
-  pub b13 : ℕ
-  pub b14 : ℕ
-  pub b15 : ℕ
-  pub b16 : ℕ
-  pub b17 : ℕ
-  pub b18 : ℕ
-  pub b19 : ℕ
-
--- the header with w words more and another checksum
-abbrev cells : Ports → Head → ℕ → ℕ → ℕ → List ℕ
-cells u h w c d =
-    u .b0 ∷ u .b1 ∷ u .b2 ∷ u .b3 ∷ h .b4 ∷ h .b5 ∷ h .b6 ∷ h .b7 ∷ h .b8 ∷ h .b9 ∷ h .b10 ∷ h .b11 ∷ (h .b12 + 16 * w) ∷ h .b13 ∷ h .b14 ∷ h .b15 ∷ c ∷ d
-    ∷ h .b18 ∷ h .b19 ∷ []
-
-abbrev fixed : Ports → Head → List ℕ
-fixed u h =
-    u .b0 ∷ u .b1 ∷ u .b2 ∷ u .b3 ∷ h .b4 ∷ h .b5 ∷ h .b6 ∷ h .b7 ∷ h .b8 ∷ h .b9 ∷ h .b10 ∷ h .b11 ∷ h .b12 ∷ h .b13 ∷ h .b14 ∷ h .b15 ∷ h .b16 ∷ h .b17
-    ∷ h .b18 ∷ h .b19 ∷ []
-
-abbrev headOf : List ℕ → Head
-headOf s =
-    record {
-      b4 = getD s 4 0;
-      b5 = getD s 5 0;
-      b6 = getD s 6 0;
-      b7 = getD s 7 0;
-      b8 = getD s 8 0;
-      b9 = getD s 9 0;
-      b10 = getD s 10 0;
-      b11 = getD s 11 0;
-      b12 = getD s 12 0;
-      b13 = getD s 13 0;
-      b14 = getD s 14 0;
-      b15 = getD s 15 0;
-      b16 = getD s 16 0;
-      b17 = getD s 17 0;
-      b18 = getD s 18 0;
-      b19 = getD s 19 0;
-    }
-
--- n elements of s from i on, one by one, and the rest
-spread : ℕ → ℕ → List ℕ → List ℕ
-spread zero i s = drop i s
-spread (suc n) i s = getD s i 0 ∷ spread n (suc i) s
-
-spread-all : (n i : ℕ) (s : List ℕ) → n + i ≤ length s → spread n i s ≡ drop i s
-unfolding spread
-spread-all zero i s e = refl
-spread-all (suc n) i s e = rw (spread-all n (suc i) s (omega arith)) (sym (drop-cons s i 0 (omega arith)))
-
-shape : (s : List ℕ) → 20 ≤ length s → fixed (portsOf s) (headOf s) ++ drop 20 s ≡ s
-unfolding spread
-shape s e = spread-all 20 0 s (omega arith)
+use Rattle.rules.specs.InsertedLaws.{Head, cells, headOf, Fresh, Put, put, put-again, only}
 
 ports-cells : (v : Hidden) (u : Ports) (h : Head) (w c d : ℕ) (l : List ℕ)
     → portsBlanked v (cells u h w c d ++ l) ≡ cells (unhidden v u) h w c d ++ l
@@ -127,12 +61,13 @@ length-option k r m = omega (arith, length-append m (replicate (padding (length 
 pub whole-words : (n : ℕ) → Whole (optionBytes n)
 whole-words n = omega arith
 
--- what the MAC covers of a segment, where the MAC has n bytes and TCP-AO with it `added`
-abbrev covered : Ports → Head → List ℕ → List ℕ → Secret → Flow → ℕ → ℕ → ℕ → ℕ → ℕ → List ℕ
-covered u h options rest s f extension k r n added =
-    bytes32 extension ++ pseudoHeader (f .source) (f .destination) (length (fixed u h ++ (options ++ rest)) + added)
-    ++ shortened (allOptions s) n
-    (cells u h (added / 4) 0 0 ++ ((29 ∷ (4 + n) ∷ k ∷ r ∷ replicate n 0) ++ (replicate (padding n) 1 ++ options))) ++ rest
+-- what the MAC covers of the segment s with the ports u, where the MAC has n bytes and TCP-AO with it `added`
+abbrev covered : Ports → List ℕ → Secret → Flow → ℕ → ℕ → ℕ → ℕ → ℕ → List ℕ
+covered u s key f extension k r n added =
+    bytes32 extension ++ pseudoHeader (f .source) (f .destination) (length s + added)
+    ++ shortened (allOptions key) n
+    (cells u (headOf s) (added / 4) 0 0 ++ ((29 ∷ (4 + n) ∷ k ∷ r ∷ replicate n 0) ++ (replicate (padding n) 1 ++ area s)))
+    ++ drop (headerEnd s) s
 
 -- TCP-AO of k, r and m, and what stands behind it
 before : (k r : ℕ) (m l : List ℕ)
@@ -152,227 +87,97 @@ zeroed-option u h w c d k r m options =
     behind : List ℕ
     behind = replicate (padding (length m)) 1 ++ options
 
--- A segment of the ports u, the header h, the options and the data. It arrives with the checksum c d and an option behind byte 20.
-module _ (u : Ports) (h : Head) (options rest : List ℕ) where
-  abbrev plain : List ℕ
-  plain = fixed u h ++ (options ++ rest)
+module _ (s : List ℕ) (fresh : Fresh s) (k r : ℕ) (m : List ℕ) where
+  abbrev ours : List ℕ
+  ours = optionOf k r m
 
-  module _ (whole : headerEnd plain ≡ 20 + length options) where
-    plain-header : take (headerEnd plain) plain ≡ fixed u h ++ options
-    plain-header =
-        ap (λ (n : ℕ). take n plain) whole ∙ take-append-add (fixed u h) (options ++ rest) (length options)
-        ∙ ap (λ (l : List ℕ). fixed u h ++ l) (take-append-seam options rest)
+  pub whole-option : Whole (length ours)
+  whole-option = subst⁻¹ Whole (length-option k r m) (whole-words (length m))
 
-    plain-data : drop (headerEnd plain) plain ≡ rest
-    plain-data =
-        ap (λ (n : ℕ). drop n plain) whole ∙ drop-append-add (fixed u h) (options ++ rest) (length options)
-        ∙ drop-append-seam options rest
+  -- b is s with this option, the ports u and the checksum c d
+  module _ (u : Ports) (c d : ℕ) (b : List ℕ) (p : Put s ours u c d b) where
+    abbrev alone : Seen
+    alone = record { md5 = record { count = 0; at = 0; len = 0 }; ao = record { count = 1; at = 0; len = 4 + length m } }
 
-    -- any option
-    module _ (c d : ℕ) (opt : List ℕ) where
-      abbrev words : ℕ
-      words = length opt / 4
+    options-arrived : optionsOf (area b) ≡ Found alone
+    options-arrived =
+        only s fresh 29 (4 + length m) (padding (length m)) (k ∷ r ∷ m) (area b) (omega arith) (omega arith) (omega arith) (p .its-area)
 
-      abbrev arrived : List ℕ
-      arrived = cells u h words c d ++ (opt ++ (options ++ rest))
+    at-option : (i : ℕ) → getD b (20 + i) 0 ≡ getD (ours ++ drop 20 s) i 0
+    at-option i = sym (getD-drop 20 b i 0) ∙ ap (λ (l : List ℕ). getD l i 0) (p .behind)
 
-      inserts : withOption opt plain ≡ cells u h words 0 0 ++ (opt ++ (options ++ rest))
-      unfolding withOption inserted
-      inserts =
-          ap₂ (λ (a b : List ℕ). inserted opt a ++ b) plain-header plain-data
-          ∙ ap (λ (l : List ℕ). cells u h words 0 0 ++ l) (append-assoc opt options rest)
+    carried-mac : take (4 + length m - 4) (drop 24 b) ≡ m
+    carried-mac =
+        ap (take (4 + length m - 4)) (sym (drop-drop 4 20 b) ∙ ap (drop 4) (p .behind ∙ before k r m (drop 20 s)))
+        ∙ take-at m (replicate (padding (length m)) 1 ++ drop 20 s) (4 + length m - 4) (omega arith)
 
-      length-arrived : length arrived ≡ length plain + length opt
-      length-arrived = omega (arith, length-append opt (options ++ rest), length-append options rest)
+    reads-of : Reads b k r m
+    reads-of =
+        record {
+          formed = rw options-arrived;
+          one = rw options-arrived;
+          no-md5 = rw options-arrived;
+          key = rw options-arrived (at-option 2);
+          next = rw options-arrived (at-option 3);
+          mac = rw options-arrived carried-mac;
+        }
 
-      module _ (even : Whole (length opt)) where
-        end-arrived : headerEnd arrived ≡ headerEnd plain + length opt
-        end-arrived = omega arith
+    arrived-of : Arrived s b k r m
+    arrived-of =
+        record {
+          reads = reads-of;
+          its-length = p .its-length ∙ ap (λ (n : ℕ). length s + n) (length-option k r m);
+          its-end = p .its-end ∙ ap (λ (n : ℕ). headerEnd s + n) (length-option k r m);
+          number = p .number;
+          its-syn = p .its-syn;
+          its-ack = p .its-ack;
+        }
 
-        at-end : headerEnd arrived ≡ 20 + length (opt ++ options)
-        at-end = omega (arith, end-arrived, whole, length-append opt options)
+    -- what is covered: a matter of the MAC's length, and of ports only where they are not hidden
+    message-of : (key : Secret) (v : Hidden) (f : Flow) (extension : ℕ) → key .«mac_bytes» ≡ length m
+        → message key v f extension 20 b ≡ covered (unhidden v u) s key f extension k r (length m) (optionBytes (length m))
+    unfolding message front coveredHeader
+    message-of key v f extension e =
+        ap₂ (λ (h z : List ℕ). front key v f extension 20 (length b) h ++ z) (p .its-header) (p .its-data)
+        ∙ ap (λ (n : ℕ). front key v f extension 20 n (cells u (headOf s) words c d ++ (ours ++ area s)) ++ rest) (p .its-length)
+        ∙ ap (λ (l : List ℕ). starts ++ coveredHeader (allOptions key) 20 (key .«mac_bytes») l ++ rest)
+        (ports-cells v u (headOf s) words c d (ours ++ area s))
+        ∙ ap (λ (n : ℕ). starts ++ coveredHeader (allOptions key) 20 n (cells (unhidden v u) (headOf s) words c d ++ (ours ++ area s)) ++ rest) e
+        ∙ ap (λ (z : List ℕ). starts ++ shortened (allOptions key) (length m) z ++ rest)
+        (zeroed-option (unhidden v u) (headOf s) words c d k r m (area s))
+        ∙ ap (covered (unhidden v u) s key f extension k r (length m)) (length-option k r m)
+      where
+        words : ℕ
+        words = length ours / 4
 
-        header-arrived : take (headerEnd arrived) arrived ≡ cells u h words c d ++ (opt ++ options)
-        header-arrived =
-            ap (λ (n : ℕ). take n arrived) at-end
-            ∙ ap (λ (l : List ℕ). take (20 + length (opt ++ options)) (cells u h words c d ++ l)) (sym (append-assoc opt options rest))
-            ∙ take-append-add (cells u h words c d) (opt ++ options ++ rest) (length (opt ++ options))
-            ∙ ap (λ (l : List ℕ). cells u h words c d ++ l) (take-append-seam (opt ++ options) rest)
+        rest : List ℕ
+        rest = drop (headerEnd s) s
 
-        data-arrived : drop (headerEnd arrived) arrived ≡ rest
-        data-arrived =
-            ap (λ (n : ℕ). drop n arrived) at-end
-            ∙ ap (λ (l : List ℕ). drop (20 + length (opt ++ options)) (cells u h words c d ++ l)) (sym (append-assoc opt options rest))
-            ∙ drop-append-add (cells u h words c d) (opt ++ options ++ rest) (length (opt ++ options))
-            ∙ drop-append-seam (opt ++ options) rest
+        starts : List ℕ
+        starts = bytes32 extension ++ pseudoHeader (f .source) (f .destination) (length s + length ours)
 
-        area-arrived : area arrived ≡ opt ++ options
-        area-arrived =
-            let e : headerEnd arrived - 20 ≡ length (opt ++ options) = omega (arith, at-end) in
-            ap (λ (n : ℕ). take n (opt ++ (options ++ rest))) e
-            ∙ ap (take (length (opt ++ options))) (sym (append-assoc opt options rest))
-            ∙ take-append-seam (opt ++ options) rest
+  -- it arrives with the ports sp and dp and the checksum c d
+  pub arrival : (sp dp c d : ℕ) → Arrived s (rechecked c d (withPorts sp dp (signedWith k r m s))) k r m
+  arrival sp dp c d = arrived-of (written sp dp) c d _ (put-again s fresh ours whole-option sp dp c d)
 
-    module _ (c d k r : ℕ) (m : List ℕ) where
-      abbrev ours : List ℕ
-      ours = optionOf k r m
+  pub length-signed : length (signedWith k r m s) ≡ length s + optionBytes (length m)
+  length-signed = put s fresh ours whole-option .its-length ∙ ap (λ (n : ℕ). length s + n) (length-option k r m)
 
-      abbrev came : List ℕ
-      came = arrived c d ours
+-- The MAC covers the same bytes at both ends, if the ports that are not hidden are those that were signed.
+pub covers : (s : List ℕ) → Fresh s → (k r : ℕ) (m : List ℕ) (sp dp c d : ℕ) (key : Secret) (v : Hidden) (f : Flow) (extension : ℕ)
+    → key .«mac_bytes» ≡ length m → Octets s → (v .source ≡ false → sp ≡ sourcePort s) → (v .destination ≡ false → dp ≡ destinationPort s)
+    → message key v f extension 20 (rechecked c d (withPorts sp dp (signedWith k r m s)))
+    ≡ message key v f extension 20 (signedWith k r (replicate (key .«mac_bytes») 0) s)
+covers s fresh k r m sp dp c d key v f extension e octets source destination =
+    message-of s fresh k r m (written sp dp) c d _ (put-again s fresh (optionOf k r m) (whole-option s fresh k r m) sp dp c d) key v f extension e
+    ∙ ap (λ (u : Ports). covered u s key f extension k r (length m) (optionBytes (length m))) (unhidden-same v sp dp s octets source destination)
+    ∙ ap (λ (n : ℕ). covered (unhidden v (portsOf s)) s key f extension k r n (optionBytes n)) (sym (n-zeros ∙ e))
+    ∙ sym
+    (message-of s fresh k r zeros (portsOf s) 0 0 _ (put s fresh (optionOf k r zeros) (whole-option s fresh k r zeros)) key v f extension
+    (sym n-zeros))
+  where
+    zeros : List ℕ
+    zeros = replicate (key .«mac_bytes») 0
 
-      module _ (even : Whole (length ours)) where
-        -- the options before TCP-AO was put there have neither kind
-        module _ (e : Seen) (old : optionsOf options ≡ Found e) (noMd5 : e .md5 .count ≡ 0) (noAo : e .ao .count ≡ 0) where
-          abbrev alone : Seen
-          alone = record { md5 = record { count = 0; at = 0; len = 0 }; ao = record { count = 1; at = 0; len = 4 + length m } }
-
-          options-arrived : optionsOf (area came) ≡ Found alone
-          options-arrived =
-              ap optionsOf (area-arrived c d ours even ∙ before k r m options)
-              ∙ ao-alone (4 + length m) (padding (length m)) (k ∷ r ∷ m) options e (omega arith) (omega arith) old noMd5 noAo
-
-          carried-mac : take (4 + length m - 4) (drop 24 came) ≡ m
-          carried-mac =
-              ap (λ (l : List ℕ). take (4 + length m - 4) (drop 4 l)) (before k r m (options ++ rest))
-              ∙ take-at m (replicate (padding (length m)) 1 ++ (options ++ rest)) (4 + length m - 4) (omega arith)
-
-          reads : Reads came k r m
-          reads =
-              record {
-                formed = rw options-arrived;
-                one = rw options-arrived;
-                no-md5 = rw options-arrived;
-                key = rw options-arrived;
-                next = rw options-arrived;
-                mac = rw options-arrived carried-mac;
-              }
-
-        -- what is covered: a matter of the MAC's length, and of ports only where they are not hidden
-        message-arrived : (s : Secret) (v : Hidden) (f : Flow) (extension : ℕ) → s .«mac_bytes» ≡ length m
-            → message s v f extension 20 came
-            ≡ covered (unhidden v u) h options rest s f extension k r (length m) (optionBytes (length m))
-        unfolding message front coveredHeader
-        message-arrived s v f extension e =
-            ap₂ (λ (a b : List ℕ). front s v f extension 20 (length came) a ++ b) (header-arrived c d ours even) (data-arrived c d ours even)
-            ∙ ap (λ (n : ℕ). front s v f extension 20 n (cells u h (words c d ours) c d ++ (ours ++ options)) ++ rest)
-            (length-arrived c d ours)
-            ∙ ap (λ (l : List ℕ). starts ++ coveredHeader (allOptions s) 20 (s .«mac_bytes») l ++ rest)
-            (ports-cells v u h (words c d ours) c d (ours ++ options))
-            ∙ ap (λ (n : ℕ). starts ++ coveredHeader (allOptions s) 20 n (cells (unhidden v u) h (words c d ours) c d ++ (ours ++ options)) ++ rest) e
-            ∙ ap (λ (z : List ℕ). starts ++ shortened (allOptions s) (length m) z ++ rest)
-            (zeroed-option (unhidden v u) h (words c d ours) c d k r m options)
-            ∙ ap (covered (unhidden v u) h options rest s f extension k r (length m)) (length-option k r m)
-          where
-            starts : List ℕ
-            starts = bytes32 extension ++ pseudoHeader (f .source) (f .destination) (length plain + length ours)
-
--- what signing needs of a segment
-pub record Fresh (s : List ℕ) : Type 0 where
-  pub long : 20 ≤ length s
-  pub low : 20 ≤ headerEnd s
-  pub inside : headerEnd s ≤ length s
-  pub formed : malformed s ≡ false
-  pub no-ao : ao s .count ≡ 0
-  pub no-md5 : md5 s .count ≡ 0
-
-module _ (s : List ℕ) (fresh : Fresh s) where
-  abbrev options : List ℕ
-  options = area s
-
-  abbrev rest : List ℕ
-  rest = drop (headerEnd s - 20) (drop 20 s)
-
-  -- the segment with the ports u
-  abbrev old : Ports → List ℕ
-  old u = plain u (headOf s) options rest
-
-  is-plain : old (portsOf s) ≡ s
-  is-plain =
-      ap (λ (l : List ℕ). fixed (portsOf s) (headOf s) ++ l) (take-append-drop (headerEnd s - 20) (drop 20 s)) ∙ shape s (fresh .long)
-
-  is-whole : headerEnd (old (portsOf s)) ≡ 20 + length options
-  is-whole = omega (arith, length-take (headerEnd s - 20) (drop 20 s), length-drop 20 s, fresh .long, fresh .low, fresh .inside)
-
-  module _ (k r : ℕ) (m : List ℕ) where
-    whole-option : Whole (length (optionOf k r m))
-    whole-option = subst⁻¹ Whole (length-option k r m) (whole-words (length m))
-
-    signs : signedWith k r m (old (portsOf s)) ≡ arrived (portsOf s) (headOf s) options rest is-whole 0 0 (optionOf k r m)
-    signs = inserts (portsOf s) (headOf s) options rest is-whole 0 0 (optionOf k r m)
-
-    pub length-signed : length (signedWith k r m s) ≡ length s + optionBytes (length m)
-    length-signed =
-        subst (λ (z : List ℕ). length (signedWith k r m z) ≡ length z + optionBytes (length m)) is-plain
-        (ap length signs
-        ∙ length-arrived (portsOf s) (headOf s) options rest is-whole 0 0 (optionOf k r m)
-        ∙ ap (λ (n : ℕ). length (old (portsOf s)) + n) (length-option k r m))
-
-    -- signing leaves the ports
-    pub ports-signed : portsOf (signedWith k r m s) ≡ portsOf s
-    ports-signed = subst (λ (z : List ℕ). portsOf (signedWith k r m z) ≡ portsOf z) is-plain (ap portsOf signs)
-
-    -- it arrives with the ports sp and dp and the checksum c d
-    module _ (sp dp c d : ℕ) where
-      abbrev arrives : List ℕ → List ℕ
-      arrives z = rechecked c d (withPorts sp dp (signedWith k r m z))
-
-      arrives-as : arrives (old (portsOf s)) ≡ arrived (written sp dp) (headOf s) options rest is-whole c d (optionOf k r m)
-      arrives-as = ap (λ (l : List ℕ). rechecked c d (withPorts sp dp l)) signs
-
-      pub arrival : Arrived s (arrives s) k r m
-      arrival = subst (λ (z : List ℕ). Arrived z (arrives z) k r m) is-plain (go (optionsOf (area s)) refl)
-        where
-          go : (o : Options) → optionsOf (area s) ≡ o → Arrived (old (portsOf s)) (arrives (old (portsOf s))) k r m
-          go Malformed e = let z : _≡_ {A = ℕ} 0 1 = cc (rw e at (fresh .formed)) in absurd (omega arith)
-          go (Found x) e =
-              subst⁻¹ (λ (b : List ℕ). Arrived (old (portsOf s)) b k r m) arrives-as
-              (record {
-                reads =
-                    reads (written sp dp) (headOf s) options rest is-whole c d k r m whole-option x e (rw e at (fresh .no-md5))
-                    (rw e at (fresh .no-ao));
-                its-length =
-                    length-arrived (written sp dp) (headOf s) options rest is-whole c d (optionOf k r m)
-                    ∙ ap (λ (n : ℕ). length (old (portsOf s)) + n) (length-option k r m);
-                its-end =
-                    end-arrived (written sp dp) (headOf s) options rest is-whole c d (optionOf k r m) whole-option
-                    ∙ ap (λ (n : ℕ). headerEnd (old (portsOf s)) + n) (length-option k r m);
-                number = refl;
-                its-syn = refl;
-                its-ack = refl;
-              })
-
-      -- what the MAC covers of it
-      message-came : (key : Secret) (v : Hidden) (f : Flow) (extension : ℕ) → key .«mac_bytes» ≡ length m
-          → message key v f extension 20 (arrives s)
-          ≡ covered (unhidden v (written sp dp)) (headOf s) options rest key f extension k r (length m) (optionBytes (length m))
-      message-came key v f extension e =
-          sym (ap (λ (z : List ℕ). message key v f extension 20 (arrives z)) is-plain)
-          ∙ ap (message key v f extension 20) arrives-as
-          ∙ message-arrived (written sp dp) (headOf s) options rest is-whole c d k r m whole-option key v f extension e
-
-    -- and of what is signed
-    message-signed : (key : Secret) (v : Hidden) (f : Flow) (extension : ℕ) → key .«mac_bytes» ≡ length m
-        → message key v f extension 20 (signedWith k r m s)
-        ≡ covered (unhidden v (portsOf s)) (headOf s) options rest key f extension k r (length m) (optionBytes (length m))
-    message-signed key v f extension e =
-        sym (ap (λ (z : List ℕ). message key v f extension 20 (signedWith k r m z)) is-plain)
-        ∙ ap (message key v f extension 20) signs
-        ∙ message-arrived (portsOf s) (headOf s) options rest is-whole 0 0 k r m whole-option key v f extension e
-
-  -- The MAC covers the same bytes at both ends, if the ports that are not hidden are those that were signed.
-  pub covers : (k r : ℕ) (m : List ℕ) (sp dp c d : ℕ) (key : Secret) (v : Hidden) (f : Flow) (extension : ℕ) → key .«mac_bytes» ≡ length m
-      → Octets s → (v .source ≡ false → sp ≡ sourcePort s) → (v .destination ≡ false → dp ≡ destinationPort s)
-      → message key v f extension 20 (rechecked c d (withPorts sp dp (signedWith k r m s)))
-      ≡ message key v f extension 20 (signedWith k r (replicate (key .«mac_bytes») 0) s)
-  covers k r m sp dp c d key v f extension e octets source destination =
-      message-came k r m sp dp c d key v f extension e
-      ∙ ap (λ (u : Ports). covered u (headOf s) options rest key f extension k r (length m) (optionBytes (length m)))
-      (unhidden-same v sp dp s octets source destination)
-      ∙ ap (λ (n : ℕ). covered (unhidden v (portsOf s)) (headOf s) options rest key f extension k r n (optionBytes n)) (sym (n-zeros ∙ e))
-      ∙ sym (message-signed k r zeros key v f extension (sym n-zeros))
-    where
-      zeros : List ℕ
-      zeros = replicate (key .«mac_bytes») 0
-
-      n-zeros : length zeros ≡ key .«mac_bytes»
-      n-zeros = length-replicate (key .«mac_bytes») 0
+    n-zeros : length zeros ≡ key .«mac_bytes»
+    n-zeros = length-replicate (key .«mac_bytes») 0

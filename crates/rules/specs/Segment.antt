@@ -1,9 +1,10 @@
--- Document 01, "The option in a segment": what a segment's TCP-AO says. Every reader is total: where there is no TCP-AO, or the options are
--- malformed, it reads the place 0 of the option area, and an earlier line of document 01's table decides.
+-- Document 01, "The option in a segment": what a segment's TCP-AO says; document 02, Ticket 9: and its MD5 option (RFC 2385). Every reader
+-- is total: where there is no such option, or the options are malformed, it reads the place 0 of the option area, and an earlier line of
+-- document 01's table decides.
 use Prim.Native.Nat.{ℕ, _+_, _-_, _*_, _/_, _%_}
 use mathlib.Core.Path.{_≡_}
 use mathlib.Core.Bool.{Bool, not, _&&_}
-use mathlib.Core.List.{List, _∷_, _++_}
+use mathlib.Core.List.{List, [], _∷_, _++_}
 use lib.ListN.{length, getD, take, drop, replicate}
 use Rattle.wire.specs.Header.{headerEnd, area, syn, ack}
 use Rattle.wire.specs.Options.{optionsOf, isMalformed, aoIn, md5In}
@@ -31,6 +32,13 @@ rnextKeyId s = getD s (aoAt s + 3) 0
 
 abbrev pub macIn : List ℕ → List ℕ
 macIn s = take (ao s .len - 4) (drop (aoAt s + 4) s)
+
+-- RFC 2385, section 3.0: the MD5 option is "Kind=19, Length=18, MD5 digest"; "The MD5 digest is always 16 bytes in length"
+abbrev pub md5At : List ℕ → ℕ
+md5At s = 20 + md5 s .at
+
+abbrev pub digestIn : List ℕ → List ℕ
+digestIn s = take 16 (drop (md5At s + 2) s)
 
 -- "a bare SYN (SYN set, ACK clear)"
 abbrev pub isBareSyn : List ℕ → Bool
@@ -71,3 +79,14 @@ Whole n = 4 * (n / 4) ≡ n
 -- "the data offset rises by the words of the padded option"
 abbrev pub signedWith : ℕ → ℕ → List ℕ → List ℕ → List ℕ
 signedWith k r m s = withOption (optionOf k r m) s
+
+-- Ticket 9: "The signer puts it after byte 20 with two kind 1 bytes behind it": the MD5 option with the digest d
+abbrev pub md5Option : List ℕ → List ℕ
+md5Option d = (19 ∷ 18 ∷ d) ++ (1 ∷ 1 ∷ [])
+
+-- how many bytes that has: "which 32 counts"
+abbrev pub md5OptionBytes : ℕ
+md5OptionBytes = 20
+
+abbrev pub digestedWith : List ℕ → List ℕ → List ℕ
+digestedWith d s = withOption (md5Option d) s

@@ -1,7 +1,8 @@
 -- Document 01's sentences, said of the definitions once more and apart from them: the table of numbers row by row, and bytes as numerals.
--- A definition and the code that is proved equal to it could be wrong alike; then they contradict a sentence here. SentenceLaws proves
--- each, PositionLaws `PlaceAnswers`.
-use Prim.Native.Nat.{ℕ, _+_, _*_, _/_, _%_, _<_}
+-- A definition and the code that is proved equal to it could be wrong alike; then they contradict a sentence here. Here is the TCP-AO way,
+-- and what both ways share; Md5Sentences.antt has the MD5 way of document 02, Ticket 9. SentenceLaws proves each, PositionLaws
+-- `PlaceAnswers`.
+use Prim.Native.Nat.{ℕ, _+_, _-_, _*_, _/_, _%_, _<_}
 use mathlib.Core.Path.{_≡_}
 use mathlib.Core.Bool.{Bool, true, false, cond, not, _&&_}
 use mathlib.Core.List.{List, [], _∷_, _++_, map}
@@ -17,8 +18,11 @@ use Rattle.keys.specs.declared.entry.Entry.{Entry}
 use Rattle.keys.specs.declared.entry.Secret.{Secret}
 use Rattle.keys.specs.declared.table.Found.{Found}
 use Rattle.keys.specs.Algorithm.{macBytes}
-use Rattle.keys.specs.Entry.{Item, knownKind, familyOf, body, secretOf, isFamily, keyOf, allOptions}
+use Rattle.keys.specs.Entry.{Item, knownKind, familyOf, body, secretOf, entryOf, isFamily, keyOf, allOptions}
+use Rattle.keys.specs.declared.table.TableKind.the-variants.{Keys}
 use Rattle.keys.specs.Table as K
+use Rattle.tables.specs.declared.Index.{Index}
+use Rattle.tables.specs.Tables.{Tables, sendEntry, recvEntry, anyEntry}
 use Rattle.rules.specs.declared.Place.{Place}
 use Rattle.rules.specs.declared.Place.the-variants.{At}
 use Rattle.rules.specs.declared.Outcome.{Outcome}
@@ -33,10 +37,11 @@ use Rattle.rules.specs.Ends.{rechecked}
 use Rattle.rules.specs.declared.Hidden.{Hidden}
 use Rattle.rules.specs.Mac.{Flow, blanked, context, trafficKey, pseudoHeader, portsBlanked, coveredHeader, message, segmentMac}
 use Rattle.rules.specs.Segment.{malformed, ao, md5, aoAt, keyId, rnextKeyId, macIn, isBareSyn, signedWith}
-use Rattle.rules.specs.Connection.{Arrival, sized, arrivalPair, localAddress, remoteAddress, isOpen, arriving, leaving, arrivingSyn}
-use Rattle.rules.specs.Connection.{placeOn, located, value, extensionOf, bump}
-use Rattle.rules.specs.Calls.{isRefused, refusal, check, checkSyn, unrefused, openTests, askTests, checkSign, signedSegment}
-use Rattle.rules.specs.Answers.{answer, verdictAnswer, placeAnswer}
+use Rattle.rules.specs.Connection.{Arrival, sized, arrivalPair, localAddress, remoteAddress, isOpen, isMd5, arriving, leaving}
+use Rattle.rules.specs.Connection.{arrivingSyn, pairOf, placeOn, located, value, extensionOf, bump, opening, empty}
+use Rattle.rules.specs.Calls.{isRefused, refusal, synIsMd5, check, checkSyn, unrefused, settledBy, openedActively, askTests}
+use Rattle.rules.specs.Calls.{checkSign, signedSegment}
+use Rattle.rules.specs.Answers.{Answer, answer, verdictAnswer, placeAnswer}
 
 -- The table of numbers. "The first that applies, in this order, is given."
 
@@ -45,12 +50,15 @@ pub record NumberRow : Type 0 where
   pub gives : Outcome
   pub tests : List Bool
 
-abbrev pub row : ℕ → List Bool → NumberRow
-row n l = record { gives = Bad n 0; tests = l }
+abbrev pub bad : ℕ → Outcome
+bad n = Bad n (record { table = 0; entry = 0 })
 
--- the row of 10 to 17, with the entry's index
-abbrev pub entriesRow : K.Tables → NumberRow
-entriesRow t = record { gives = refusal (K.checked t); tests = isRefused (K.checked t) ∷ [] }
+abbrev pub row : ℕ → List Bool → NumberRow
+row n l = record { gives = bad n; tests = l }
+
+-- the row of 10 to 17 and, Ticket 9, of 45, with the entry's table and index
+abbrev pub entriesRow : Tables → NumberRow
+entriesRow t = record { gives = refusal (t .answer); tests = isRefused (t .answer) ∷ [] }
 
 abbrev pub firstOf : List NumberRow → Outcome → Outcome
 firstOf [] o = o
@@ -76,106 +84,137 @@ wrongMac e f x s = not (sameBytes (macIn s) (segmentMac (e .secret) (hidesArrivi
 abbrev pub wrongSum : Arrival → Bool
 wrongSum a = not (eqb (onesSum (pseudoHeader (a .source) (a .destination) (length (a .segment)) ++ a .segment)) 65535)
 
--- Judging with a state, its connection l.
-abbrev pub judgeRows : K.Tables → Connection → Found → Place → Arrival → List NumberRow
-judgeRows t l found x a =
+-- 22: "two TCP-AO, or TCP-AO and MD5 together"; Ticket 9: "Two kind 19 give 22"
+abbrev pub tooMany : List ℕ → List Bool
+tooMany s = ltb 1 (ao s .count) ∷ (ltb 0 (ao s .count) && ltb 0 (md5 s .count)) ∷ ltb 1 (md5 s .count) ∷ []
+
+-- Judging with a state, its connection l: before the signature, by either way,
+abbrev pub arrivalRows : Tables → Connection → Arrival → List NumberRow
+arrivalRows t l a =
     row 18 (not (isFamily (l .pair .family)) ∷ [])
     ∷ row 19 (not (sized (a .source) (a .destination)) ∷ [])
     ∷ entriesRow t
     ∷ row 20 (badSize (a .segment))
     ∷ row 40 (wrongSum a ∷ [])
     ∷ row 21 (malformed (a .segment) ∷ [])
-    ∷ row 22 (ltb 1 (ao (a .segment) .count) ∷ (ltb 0 (ao (a .segment) .count) && ltb 0 (md5 (a .segment) .count)) ∷ [])
+    ∷ row 22 (tooMany (a .segment))
     ∷ row 23
     (not (sameBytes (a .source) (remoteAddress (l .pair)))
     ∷ not (sameBytes (a .destination) (localAddress (l .pair)))
     ∷ not (eqb (sourcePort (a .segment)) (l .pair .«remote_port»))
     ∷ not (eqb (destinationPort (a .segment)) (l .pair .«local_port»)) ∷ [])
     ∷ row 24 (cond (isOpen l) (isBareSyn (a .segment)) (not (syn (a .segment) && ack (a .segment))) ∷ [])
-    ∷ row 25 (eqb (ao (a .segment) .count) 0 ∷ [])
+    ∷ []
+
+-- and TCP-AO's
+abbrev pub judgeRows : Tables → Connection → Found → Place → Arrival → List NumberRow
+judgeRows t l found x a =
+    arrivalRows t l a
+    ++ (row 25 (eqb (ao (a .segment) .count) 0 ∷ [])
     ∷ row 26 (not (found .there) ∷ [])
     ∷ row 27 (not (eqb (ao (a .segment) .len) (4 + found .entry .secret .«mac_bytes»)) ∷ [])
     ∷ row 28 (not (located x) ∷ [])
     ∷ row 29 (wrongMac (found .entry) (arriving l (a .segment)) x (a .segment) ∷ [])
-    ∷ []
+    ∷ [])
 
 -- the entry for its KeyID is found by RecvID
 abbrev pub JudgeTable : Type 0
-JudgeTable = (t : K.Tables) (l : Connection) (reference : ℕ) (a : Arrival)
+JudgeTable = (t : Tables) (l : Connection) (reference : ℕ) (a : Arrival) → isMd5 l ≡ false
     → check t l reference a
-    ≡ firstOf (judgeRows t l (K.recvEntry t (l .pair) (keyId (a .segment))) (placeOn l reference (sequence (a .segment))) a)
+    ≡ firstOf (judgeRows t l (recvEntry t (l .pair) (keyId (a .segment))) (placeOn l reference (sequence (a .segment))) a)
     (Good (value (placeOn l reference (sequence (a .segment)))) (rnextKeyId (a .segment)))
 
 -- A bare SYN, without a state: "25 if any entry matches the pair, otherwise pass"; document 02, Ticket 2: "drop 26 is given whenever any
 -- entry matches the pair and none has the KeyID; the setting decides only where no entry matches the pair"
-abbrev pub synRows : K.Tables → Bool → Found → Arrival → List NumberRow
-synRows t strict found a =
+abbrev pub bareRows : Tables → Arrival → List NumberRow
+bareRows t a =
     row 19 (not (sized (a .source) (a .destination)) ∷ [])
     ∷ entriesRow t
     ∷ row 20 (badSize (a .segment))
     ∷ row 40 (wrongSum a ∷ [])
     ∷ row 21 (malformed (a .segment) ∷ [])
-    ∷ row 22 (ltb 1 (ao (a .segment) .count) ∷ (ltb 0 (ao (a .segment) .count) && ltb 0 (md5 (a .segment) .count)) ∷ [])
+    ∷ row 22 (tooMany (a .segment))
     ∷ row 24 (not (isBareSyn (a .segment)) ∷ [])
-    ∷ record { gives = cond (K.anyEntry t (arrivalPair a)) (Bad 25 0) Passed; tests = eqb (ao (a .segment) .count) 0 ∷ [] }
-    ∷ record {
-      gives = cond (K.anyEntry t (arrivalPair a)) (Bad 26 0) (cond strict (Bad 26 0) Passed);
-      tests = not (found .there) ∷ [];
-    }
-    ∷ row 27 (not (eqb (ao (a .segment) .len) (4 + found .entry .secret .«mac_bytes»)) ∷ [])
-    ∷ row 29 (wrongMac (found .entry) (arrivingSyn a) (At (sequence (a .segment))) (a .segment) ∷ [])
     ∷ []
 
+abbrev pub synRows : Tables → Bool → Found → Arrival → List NumberRow
+synRows t strict found a =
+    bareRows t a
+    ++ (record { gives = cond (anyEntry t (arrivalPair a)) (bad 25) Passed; tests = eqb (ao (a .segment) .count) 0 ∷ [] }
+    ∷ record { gives = cond (anyEntry t (arrivalPair a)) (bad 26) (cond strict (bad 26) Passed); tests = not (found .there) ∷ [] }
+    ∷ row 27 (not (eqb (ao (a .segment) .len) (4 + found .entry .secret .«mac_bytes»)) ∷ [])
+    ∷ row 29 (wrongMac (found .entry) (arrivingSyn a) (At (sequence (a .segment))) (a .segment) ∷ [])
+    ∷ [])
+
+-- Ticket 9: "by the table that matches, else as before"
 abbrev pub SynTable : Type 0
-SynTable = (t : K.Tables) (a : Arrival) (strict : Bool)
+SynTable = (t : Tables) (a : Arrival) (strict : Bool) → synIsMd5 t (arrivalPair a) ≡ false
     → checkSyn t a strict
-    ≡ firstOf (synRows t strict (K.recvEntry t (arrivalPair a) (keyId (a .segment))) a)
+    ≡ firstOf (synRows t strict (recvEntry t (arrivalPair a) (keyId (a .segment))) a)
     (Good (sequence (a .segment)) (rnextKeyId (a .segment)))
 
 -- Ticket 4: the words of an option that has n bytes of MAC, padded "to the next multiple of four"
 abbrev pub optionWords : ℕ → ℕ
 optionWords n = (4 + n + 3) / 4
 
--- Signing the segment s into an output of `room` bytes, under the entry that is found for the outgoing SendID: its option adds w words.
-abbrev pub signRows : K.Tables → List ℕ → ℕ → State → Place → ℕ → List NumberRow
-signRows t s room q x w =
+-- Signing the segment s into an output of `room` bytes: by either way, whether an entry is there, that the place is wrong, and how many
+-- words the option adds.
+abbrev pub signRows : Tables → List ℕ → ℕ → State → Bool → List Bool → ℕ → List NumberRow
+signRows t s room q there misplaced w =
     row 18 (not (isFamily (q .conn .pair .family)) ∷ [])
     ∷ entriesRow t
     ∷ row 30 (badSize s)
     ∷ row 31 (malformed s ∷ ltb 0 (ao s .count) ∷ ltb 0 (md5 s .count) ∷ [])
     ∷ row 33 (not (eqb (sourcePort s) (q .conn .pair .«local_port»)) ∷ not (eqb (destinationPort s) (q .conn .pair .«remote_port»)) ∷ [])
     ∷ row 34 (cond (isOpen (q .conn)) (isBareSyn s) (not (isBareSyn s)) ∷ [])
-    ∷ row 35 (not (K.sendEntry t (q .conn .pair) (q .«send_id») .there) ∷ [])
+    ∷ row 35 (not there ∷ [])
     ∷ row 32 (ltb 15 (dataOffset s + w) ∷ ltb 65535 (length s + 4 * w) ∷ [])
-    ∷ row 36 (not (located x) ∷ (syn s && not (eqb (value x) (q .conn .isn))) ∷ [])
+    ∷ row 36 misplaced
     ∷ row 37 (ltb room (length s + 4 * w) ∷ [])
     ∷ []
 
+-- 36: "no position, or a SYN (bare or with ACK) whose position is not our ISN"
+abbrev pub noPlace : State → Place → List ℕ → List Bool
+noPlace q x s = not (located x) ∷ (syn s && not (eqb (value x) (q .conn .isn))) ∷ []
+
+-- under the entry that is found for the outgoing SendID
 abbrev pub SignTable : Type 0
-SignTable = (t : K.Tables) (s : List ℕ) (room : ℕ) (q : State)
+SignTable = (t : Tables) (s : List ℕ) (room : ℕ) (q : State) → isMd5 (q .conn) ≡ false
     → checkSign t s room q
     ≡ firstOf
-    (signRows t s room q (placeOn (q .conn) (q .sent) (sequence s))
-    (optionWords (K.sendEntry t (q .conn .pair) (q .«send_id») .entry .secret .«mac_bytes»)))
+    (signRows t s room q (sendEntry t (q .conn .pair) (q .«send_id») .there) (noPlace q (placeOn (q .conn) (q .sent) (sequence s)) s)
+    (optionWords (sendEntry t (q .conn .pair) (q .«send_id») .entry .secret .«mac_bytes»)))
     (Good (value (placeOn (q .conn) (q .sent) (sequence s))) (q .«ask_id»))
 
--- 35: "no entry matching the pair has the outgoing SendID (opening ..) or the RecvID to ask (operator call)"
-abbrev pub OpenTable : Type 0
-OpenTable = (t : K.Tables) (local remote : List ℕ) (p : Pair) (sendId : ℕ)
-    → first (openTests t local remote (K.sendEntry t p sendId)) unrefused
-    ≡ firstOf (row 19 (not (sized local remote) ∷ []) ∷ entriesRow t ∷ row 35 (not (K.sendEntry t p sendId .there) ∷ []) ∷ []) unrefused
+-- Opening actively. 35: "no entry matching the pair has the outgoing SendID (opening ..)"; Ticket 9: or, by MD5, none matches the pair.
+abbrev pub openRows : Tables → List ℕ → List ℕ → Found → List NumberRow
+openRows t local remote found = row 19 (not (sized local remote) ∷ []) ∷ entriesRow t ∷ row 35 (not (found .there) ∷ []) ∷ []
 
+-- "Active opening names a SendID; its entry must match the pair. It gives the outgoing key and, by RecvID, the key asked of the peer."
+abbrev pub OpenActiveTable : Type 0
+OpenActiveTable = (t : Tables) (local remote : List ℕ) (localPort remotePort isn sendId : ℕ)
+    → openedActively t local remote localPort remotePort isn sendId
+    ≡ settledBy (firstOf (openRows t local remote (sendEntry t (pairOf local remote localPort remotePort) sendId)) unrefused) empty
+    (opening 0 (pairOf local remote localPort remotePort) isn sendId
+    (sendEntry t (pairOf local remote localPort remotePort) sendId .entry .ids .recv))
+
+-- 35: no entry matching the pair has "the RecvID to ask (operator call)"; Ticket 9, of an MD5 connection: "asking: always 35"
 abbrev pub AskTable : Type 0
-AskTable = (t : K.Tables) (id : ℕ) (l : Connection)
+AskTable = (t : Tables) (id : ℕ) (l : Connection)
     → first (askTests t id l) unrefused
     ≡ firstOf
-    (row 18 (not (isFamily (l .pair .family)) ∷ []) ∷ entriesRow t ∷ row 35 (not (K.recvEntry t (l .pair) id .there) ∷ []) ∷ []) unrefused
+    (row 18 (not (isFamily (l .pair .family)) ∷ []) ∷ entriesRow t ∷ row 35 (isMd5 l ∷ not (recvEntry t (l .pair) id .there) ∷ []) ∷ [])
+    unrefused
 
 -- "12, 11, 10", then 13 to 17: the numbers of the entry with the index i, in order
 abbrev pub EntryOrder : Type 0
 EntryOrder = (limit i : ℕ) (before : List Entry) (x : Item)
-    → map (λ (r : Test ℕ). r .gives) (K.loadTests limit i before x)
+    → map (λ (r : Test ℕ). r .gives) (K.loadTests Keys limit i before x)
     ≡ 12 ∷ 11 ∷ 10 ∷ 13 ∷ 13 ∷ 13 ∷ 13 ∷ 13 ∷ 14 ∷ 14 ∷ 15 ∷ 15 ∷ 15 ∷ 15 ∷ 16 ∷ 16 ∷ 16 ∷ 17 ∷ []
+
+-- an entry of kind k that has at byte n the key length 2, behind it 7, 8 and 9, and zeros elsewhere
+abbrev pub keyed : ℕ → ℕ → List ℕ
+keyed k n = (k ∷ replicate (n - 1) 0) ++ ((2 ∷ 7 ∷ 8 ∷ 9 ∷ []) ++ replicate 77 0)
 
 -- The key table's bytes as numerals: "kind 4 (IPv4) has 103 bytes, kind 6 (IPv6) 127"; Ticket 4: "kinds 5 and 7, like 4 and 6 with one more
 -- byte, 4 to 16, before the key length"; "MAC bytes (12 and 12)", and 12 of algorithm 3, where the kind has no such byte.
@@ -188,6 +227,9 @@ pub record EntryBytes : Type 0 where
   pub key-lengths : (e : List ℕ) → map (λ (k : ℕ). secretOf k e .«key_len») (4 ∷ 5 ∷ 6 ∷ 7 ∷ [])
       ≡ getD e 23 0 ∷ getD e 24 0 ∷ getD e 47 0 ∷ getD e 48 0 ∷ []
   pub twelve : map macBytes (1 ∷ 2 ∷ 3 ∷ []) ≡ 12 ∷ 12 ∷ 12 ∷ []
+  -- the key: as many bytes as its length says, behind it
+  pub keys : map (λ (e : List ℕ). keyOf (entryOf e .secret)) (keyed 4 23 ∷ keyed 5 24 ∷ keyed 6 47 ∷ keyed 7 48 ∷ [])
+      ≡ (7 ∷ 8 ∷ []) ∷ (7 ∷ 8 ∷ []) ∷ (7 ∷ 8 ∷ []) ∷ (7 ∷ 8 ∷ []) ∷ []
 
 -- 13: "flags or algorithm not listed": Ticket 10 lists the flags up to 7, Ticket 13 algorithm 3; Ticket 4: "also covers the new byte". Of
 -- flags, algorithm and MAC length, what an entry gets for these three; 0 is nothing.
@@ -202,9 +244,9 @@ pub record Listed : Type 0 where
 
 -- Answers. "A verdict is accept with its extension, pass, or drop with a number": accept has the number 0, pass 1.
 pub record AnswerNumbers : Type 0 where
-  pub accept : (e i : ℕ) → verdictAnswer (Accept e) i ≡ answer 0 e
-  pub pass : (i : ℕ) → verdictAnswer Pass i ≡ answer 1 0
-  pub drop : (n i : ℕ) → verdictAnswer (Drop n) i ≡ answer n i
+  pub accept : (e : ℕ) (i : Index) → verdictAnswer (Accept e) i ≡ record { number = 0; table = 0; value = e }
+  pub pass : (i : Index) → verdictAnswer Pass i ≡ record { number = 1; table = 0; value = 0 }
+  pub drop : (n : ℕ) (i : Index) → verdictAnswer (Drop n) i ≡ record { number = n; table = i .table; value = i .entry }
 
 -- "Otherwise the answer is 28 or 36.": a position's answer has that number exactly where the row of 28 or 36 applies, and else the position
 -- that the rest of the call goes by
@@ -231,10 +273,10 @@ ends =
     }
 
 abbrev pub openEnd : Connection
-openEnd = record { stage = 1; pair = ends; isn = 100; «peer_isn» = 4294967280 }
+openEnd = record { stage = 1; way = 0; pair = ends; isn = 100; «peer_isn» = 4294967280 }
 
 abbrev pub openingEnd : Connection
-openingEnd = record { stage = 0; pair = ends; isn = 100; «peer_isn» = 0 }
+openingEnd = record { stage = 0; way = 0; pair = ends; isn = 100; «peer_isn» = 0 }
 
 -- "The context is source address, destination address, source port, destination port, source ISN, destination ISN"
 abbrev pub Context : Type 0
@@ -313,7 +355,7 @@ pub record SegmentMacs : Type 0 where
 
 -- What is signed: the MAC of the segment with zeros for it; ports and addresses are sent as they are, whatever is hidden from the MAC.
 abbrev pub SignedAs : Type 0
-SignedAs = (e : Entry) (q : State) (x : ℕ) (s : List ℕ)
+SignedAs = (e : Entry) (q : State) (x : ℕ) (s : List ℕ) → isMd5 (q .conn) ≡ false
     → signedSegment e q x s
     ≡ withChecksum (localAddress (q .conn .pair)) (remoteAddress (q .conn .pair))
     (signedWith (q .«send_id») (q .«ask_id»)

@@ -5,14 +5,14 @@ use mathlib.Core.List.{List, [], _∷_, _++_, append-nil, append-assoc}
 use native.Mathlib.Omega.{arith}
 use native.Mathlib.Numerals.{add-one}
 use lib.ListN.{length, getD, set, take, drop, replicate, length-append, length-take, length-drop}
-use lib.Seq.{paste, take-at, drop-at, take-paste, drop-paste, take-length, take-add, take-all, take-suc-set, drop-drop}
+use lib.Seq.{paste, take-at, drop-at, take-paste, drop-paste, take-length, take-add, take-all, take-suc-set, set-at, drop-drop}
 use Rattle.octets.specs.Octets.{get16, bytes16, bytes32, bytes64}
 use Rattle.keys.specs.Entry.{padded}
 use Rattle.octets.specs.Each.{Octets}
 use Rattle.rules.specs.Connection.{slots}
 use Rattle.rules.specs.declared.Connection.{Connection}
 use Rattle.rules.specs.declared.State.{State}
-use Rattle.states.specs.Layout.{familyAt, sendIdAt, askIdAt, localPortAt, remotePortAt, localAt, remoteAt, sentAt, seenAt, acceptedAt, dropsAt, stateBytes, get64, wordsAt, wordBytes, decodePair, decodeConnection, decodeOf, encodeOf}
+use Rattle.states.specs.Layout.{familyAt, sendIdAt, askIdAt, localPortAt, remotePortAt, localAt, remoteAt, sentAt, seenAt, acceptedAt, dropsAt, wayAt, stateBytes, get64, wordsAt, wordBytes, decodePair, decodeConnection, decodeOf, encodeOf}
 use Rattle.states.specs.LayoutLaws.{headOf, encode-decode}
 use Rattle.states.specs.WordLaws.{length-words}
 
@@ -81,19 +81,20 @@ put p v z o q at n m e h l k r = (
   length-append p v ∙ (λ i. h i + l i),
 )
 
-pub all-put : (f l r n d o₁ o₂ o₃ o₄ o₅ : List ℕ) → length f ≡ 16 → length l ≡ 16 → length r ≡ 16 → length n ≡ 3 → length d ≡ slots
+pub all-put : (f l r n d o₁ o₂ o₃ o₄ o₅ : List ℕ) (w : ℕ) → length f ≡ 16 → length l ≡ 16 → length r ≡ 16 → length n ≡ 3 → length d ≡ slots
     → o₁ ≡ paste (replicate stateBytes 0) 0 f (length f) → o₂ ≡ paste o₁ localAt l (length l) → o₃ ≡ paste o₂ remoteAt r (length r)
     → o₄ ≡ paste o₃ sentAt (wordBytes n) (8 * length n) → o₅ ≡ paste o₄ dropsAt (wordBytes d) (8 * length d)
-    → o₅ ≡ f ++ (l ++ (r ++ (wordBytes n ++ wordBytes d)))
-all-put f l r n d o₁ o₂ o₃ o₄ o₅ hf hl hr hn hd e₁ e₂ e₃ e₄ e₅ =
+    → set o₅ wayAt w ≡ f ++ (l ++ (r ++ (wordBytes n ++ (wordBytes d ++ (w ∷ [])))))
+all-put f l r n d o₁ o₂ o₃ o₄ o₅ w hf hl hr hn hd e₁ e₂ e₃ e₄ e₅ =
     let p₁ = put [] f (replicate stateBytes 0) (replicate stateBytes 0) o₁ 0 16 (length f) refl refl hf refl e₁ in
     let p₂ = put f l (replicate (stateBytes - localAt) 0) o₁ o₂ localAt 16 (length l) (p₁ .0) hf hl refl e₂ in
     let p₃ = put (f ++ l) r (replicate (stateBytes - remoteAt) 0) o₂ o₃ remoteAt 16 (length r) (p₂ .0) (p₂ .1) hr refl e₃ in
     let p₄ = put ((f ++ l) ++ r) (wordBytes n) (replicate (stateBytes - sentAt) 0) o₃ o₄ sentAt 24 (8 * length n)
     (p₃ .0) (p₃ .1) (length-words n ∙ ap (λ (k : ℕ). 8 * k) hn) (sym (length-words n)) e₄ in
-    let p₅ = put (((f ++ l) ++ r) ++ wordBytes n) (wordBytes d) (replicate (8 * slots) 0) o₄ o₅ dropsAt (8 * slots) (8 * length d)
-    (p₄ .0) (p₄ .1) (length-words d ∙ ap (λ (k : ℕ). 8 * k) hd) (sym (length-words d)) e₅ in
-    p₅ .0 ∙ append-nil ((((f ++ l) ++ r) ++ wordBytes n) ++ wordBytes d) ∙ simp append-assoc
+    let p₅ = put (((f ++ l) ++ r) ++ wordBytes n) (wordBytes d) (replicate (stateBytes - dropsAt) 0) o₄ o₅ dropsAt (8 * slots)
+    (8 * length d) (p₄ .0) (p₄ .1) (length-words d ∙ ap (λ (k : ℕ). 8 * k) hd) (sym (length-words d)) e₅ in
+    let p : List ℕ = (((f ++ l) ++ r) ++ wordBytes n) ++ wordBytes d in
+    ap (λ (o : List ℕ). set o wayAt w) (p₅ .0) ∙ set-at p 0 [] w wayAt (p₅ .1) ∙ simp append-assoc
 
 -- sixteen bytes fill a field
 filled : (b x : List ℕ) (at : ℕ) → at + 16 ≤ length b → x ≡ padded (take 16 (drop at b)) → x ≡ take 16 (drop at b)

@@ -1,5 +1,5 @@
 -- A connection's state as bytes: docs/BOUNDARY.md, "The state". Integers are big-endian. Every string of so many bytes is a state.
--- Fields that later requests add come behind these, and counts behind the counts: what stands here keeps its place.
+-- Fields that later requests add come behind these: what stands here keeps its place.
 use Prim.Native.Nat.{ℕ, zero, suc, _+_, _*_, _^_}
 use mathlib.Core.List.{List, [], _∷_, _++_}
 use mathlib.Core.Bool.{Bool}
@@ -55,8 +55,11 @@ acceptedAt = 64
 abbrev pub dropsAt : ℕ
 dropsAt = 72
 
+abbrev pub wayAt : ℕ
+wayAt = 176
+
 abbrev pub stateBytes : ℕ
-stateBytes = dropsAt + 8 * slots
+stateBytes = 177
 
 -- whether a buffer has a state's length
 abbrev pub isState : List ℕ → Bool
@@ -90,7 +93,14 @@ decodePair b =
     }
 
 unfoldable pub decodeConnection : List ℕ → Connection
-decodeConnection b = record { stage = getD b stageAt 0; pair = decodePair b; isn = get32 b isnAt; «peer_isn» = get32 b peerIsnAt }
+decodeConnection b =
+    record {
+      stage = getD b stageAt 0;
+      way = getD b wayAt 0;
+      pair = decodePair b;
+      isn = get32 b isnAt;
+      «peer_isn» = get32 b peerIsnAt;
+    }
 
 unfoldable pub decodeOf : List ℕ → State
 decodeOf b =
@@ -128,7 +138,8 @@ rows s =
     ∷ row sentAt (bytes64 (s .sent))
     ∷ row seenAt (bytes64 (s .seen))
     ∷ row acceptedAt (bytes64 (s .accepted))
-    ∷ row dropsAt (wordBytes (s .drops)) ∷ []
+    ∷ row dropsAt (wordBytes (s .drops))
+    ∷ row wayAt (s .conn .way ∷ []) ∷ []
 
 unfoldable pub joined : List Row → List ℕ
 joined [] = []

@@ -3,7 +3,7 @@
 -- `state::decode` repeat both laws without these.
 use Prim.Native.Nat.{ℕ, _+_, _*_, _^_, _≤_, _<_}
 use mathlib.Core.Path.{_≡_, refl, sym, ap, _∙_}
-use mathlib.Core.List.{List, [], _∷_, _++_, append-nil}
+use mathlib.Core.List.{List, [], _∷_, _++_}
 use native.Mathlib.Omega.{arith}
 use lib.ListN.{length, getD, take, drop, length-drop, drop-of-length-le, take-append-drop}
 use lib.Seq.{take-at, drop-at, drop-cons, drop-drop, getD-drop}
@@ -12,7 +12,7 @@ use Rattle.octets.specs.Each.{Octets}
 use Rattle.rules.specs.declared.State.{State}
 use Rattle.rules.specs.Connection.{slots}
 use Rattle.rules.specs.Ends.{Typed}
-use Rattle.states.specs.Layout.{familyAt, stageAt, sendIdAt, askIdAt, localPortAt, remotePortAt, isnAt, peerIsnAt, localAt, remoteAt, sentAt, seenAt, acceptedAt, dropsAt, stateBytes, get64, wordsAt, wordBytes, decodePair, decodeConnection, decodeOf, Row, rows, joined, encodeOf}
+use Rattle.states.specs.Layout.{familyAt, stageAt, sendIdAt, askIdAt, localPortAt, remotePortAt, isnAt, peerIsnAt, localAt, remoteAt, sentAt, seenAt, acceptedAt, dropsAt, wayAt, stateBytes, get64, wordsAt, wordBytes, decodePair, decodeConnection, decodeOf, Row, rows, joined, encodeOf}
 use Rattle.states.specs.WordLaws.{back16, back32, back64, from16, from32, from64, forth16, forth32, forth64, length-words, words-back, words-from, words-forth}
 
 -- What every value of the type `State` has: its arrays are full, and each number is within its width.
@@ -25,7 +25,7 @@ pub record Value (s : State) : Type 0 where
 
 -- A state's bytes.
 
--- as the parts that the code puts together: what stands before the addresses, both addresses, three numbers, the counts
+-- as the parts that the code puts together: what stands before the addresses, both addresses, three numbers, the counts, the way
 abbrev pub headOf : State → List ℕ
 headOf s =
     s .conn .pair .family
@@ -38,8 +38,11 @@ headOf s =
 abbrev pub numbersOf : State → List ℕ
 numbersOf s = s .sent ∷ s .seen ∷ s .accepted ∷ []
 
+abbrev pub fromDrops : State → List ℕ
+fromDrops s = wordBytes (s .drops) ++ (s .conn .way ∷ [])
+
 abbrev pub fromNumbers : State → List ℕ
-fromNumbers s = wordBytes (numbersOf s) ++ wordBytes (s .drops)
+fromNumbers s = wordBytes (numbersOf s) ++ fromDrops s
 
 abbrev pub fromRemote : State → List ℕ
 fromRemote s = s .conn .pair .remote ++ fromNumbers s
@@ -49,7 +52,7 @@ fromLocal s = s .conn .pair .local ++ fromRemote s
 
 pub parts : (s : State) → encodeOf s ≡ headOf s ++ fromLocal s
 unfolding encodeOf joined rows wordBytes
-parts s = ap (λ (l : List ℕ). headOf s ++ (s .conn .pair .local ++ (s .conn .pair .remote ++ (wordBytes (numbersOf s) ++ l)))) (append-nil (wordBytes (s .drops)))
+parts s = refl
 
 -- each field begins where the one before ends, at the place that is named for it, and the last ends at the state's length
 abbrev pub Placed : ℕ → List Row → ℕ → Type 0
@@ -63,7 +66,7 @@ in-place s v =
     let b = v .typed .remote in
     let c = length-words (s .drops) in
     let d = v .typed .counts in
-    (refl, (refl, (refl, (refl, (refl, (refl, (refl, (refl, (refl, (omega arith, (omega arith, (omega arith, (omega arith, (omega arith, omega arith))))))))))))))
+    (refl, (refl, (refl, (refl, (refl, (refl, (refl, (refl, (refl, (omega arith, (omega arith, (omega arith, (omega arith, (omega arith, (omega arith, omega arith)))))))))))))))
 
 -- "reading and writing it back gives the same bytes" ..
 
@@ -103,7 +106,8 @@ module _ (b : List ℕ) (whole : length b ≡ stateBytes) (o : Octets b) where
       (glue b _ _ sentAt 8 (eight sentAt (omega arith))
       (glue b _ _ seenAt 8 (eight seenAt (omega arith))
       (glue b _ _ acceptedAt 8 (eight acceptedAt (omega arith))
-      (glue b _ _ dropsAt (8 * slots) (words-forth slots b dropsAt o (omega arith)) (sym (drop-of-length-le b {i = stateBytes} (omega arith))))))))))))))))
+      (glue b _ _ dropsAt (8 * slots) (words-forth slots b dropsAt o (omega arith))
+      (glue b _ _ wayAt 1 (byte wayAt (omega arith)) (sym (drop-of-length-le b {i = stateBytes} (omega arith)))))))))))))))))
 
 -- .. and writing and reading it back the same state
 
@@ -116,6 +120,13 @@ module _ (s : State) (v : Value s) where
       sym (drop-drop k 32 (fromLocal s))
       ∙ ap (drop k) (sym (drop-drop 16 16 (fromLocal s)) ∙ ap (drop 16) remote-from ∙ drop-at (s .conn .pair .remote) (fromNumbers s) 16 (v .typed .remote))
 
+  drops-long : length (wordBytes (s .drops)) ≡ 8 * slots
+  drops-long = length-words (s .drops) ∙ ap (λ (k : ℕ). 8 * k) (v .typed .counts)
+
+  way-from : drop (24 + 8 * slots) (fromNumbers s) ≡ s .conn .way ∷ []
+  unfolding wordBytes
+  way-from = drop-at (wordBytes (s .drops)) (s .conn .way ∷ []) (8 * slots) drops-long
+
   read : decodeOf (headOf s ++ fromLocal s) ≡ s
   unfolding decodeOf decodeConnection decodePair wordBytes
   read i =
@@ -123,6 +134,7 @@ module _ (s : State) (v : Value s) where
         conn =
             record {
               stage = s .conn .stage;
+              way = (sym (getD-drop wayAt (headOf s ++ fromLocal s) 0 0) ∙ ap (λ (l : List ℕ). getD l 0 0) (numbers-from 128 ∙ way-from)) i;
               pair =
                   record {
                     family = s .conn .pair .family;
@@ -139,7 +151,7 @@ module _ (s : State) (v : Value s) where
         «send_id» = s .«send_id»;
         «ask_id» = s .«ask_id»;
         accepted = (from64 (headOf s ++ fromLocal s) acceptedAt ∙ ap (λ (l : List ℕ). get64 l 0) (numbers-from 16) ∙ back64 (s .accepted) (v .accepted)) i;
-        drops = (words-from slots (headOf s ++ fromLocal s) dropsAt 0 ∙ ap (λ (l : List ℕ). wordsAt slots l 0) (numbers-from 24) ∙ (rw (v .typed .counts) at (words-back [] (s .drops) (v .drops)))) i;
+        drops = (words-from slots (headOf s ++ fromLocal s) dropsAt 0 ∙ ap (λ (l : List ℕ). wordsAt slots l 0) (numbers-from 24) ∙ (rw (v .typed .counts) at (words-back [] (s .drops) (s .conn .way ∷ []) (v .drops)))) i;
       }
 
   pub decode-encode : decodeOf (encodeOf s) ≡ s

@@ -102,14 +102,17 @@ unfolding wordBytes
 length-words [] = refl
 length-words (x ∷ l) = length-append (bytes64 x) (wordBytes l) ∙ ap (λ (n : ℕ). 8 + n) (length-words l) ∙ (let e : 8 + 8 * length l ≡ 8 * suc (length l) = omega arith in e)
 
-pub words-back : (p l : List ℕ) → ((i : ℕ) → getD l i 0 < 2 ^ 64) → wordsAt (length l) (p ++ wordBytes l) (length p) ≡ l
+-- read where they were written, between p and r
+pub words-back : (p l r : List ℕ) → ((i : ℕ) → getD l i 0 < 2 ^ 64) → wordsAt (length l) (p ++ (wordBytes l ++ r)) (length p) ≡ l
 unfolding wordsAt wordBytes
-words-back p [] h = refl
-words-back p (x ∷ l) h =
-    let first : get64 (p ++ (bytes64 x ++ wordBytes l)) (length p) ≡ x =
-    from64 _ (length p) ∙ ap (λ (r : List ℕ). get64 r 0) (drop-at p (bytes64 x ++ wordBytes l) (length p) refl) ∙ back64 x (h 0) in
-    let rest : wordsAt (length l) (p ++ (bytes64 x ++ wordBytes l)) (length p + 8) ≡ l =
-    sym (λ i. wordsAt (length l) (append-assoc p (bytes64 x) (wordBytes l) i) (length-append p (bytes64 x) i)) ∙ words-back (p ++ bytes64 x) l (λ k. h (suc k)) in
+words-back p [] r h = refl
+words-back p (x ∷ l) r h =
+    let tail : List ℕ = bytes64 x ++ (wordBytes l ++ r) in
+    let first : get64 (p ++ tail) (length p) ≡ x =
+    from64 _ (length p) ∙ ap (λ (q : List ℕ). get64 q 0) (drop-at p tail (length p) refl) ∙ back64 x (h 0) in
+    let rest : wordsAt (length l) (p ++ tail) (length p + 8) ≡ l =
+    sym (λ i. wordsAt (length l) (append-assoc p (bytes64 x) (wordBytes l ++ r) i) (length-append p (bytes64 x) i))
+    ∙ words-back (p ++ bytes64 x) l r (λ k. h (suc k)) in
     λ i. first i ∷ rest i
 
 pub words-from : (n : ℕ) (b : List ℕ) (at k : ℕ) → wordsAt n b (at + k) ≡ wordsAt n (drop at b) k

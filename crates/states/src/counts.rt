@@ -13,12 +13,19 @@ pub fn bump(n: u64) -> u64
     if n < 18446744073709551615 { n + 1 } else { n }
 }
 
-// "drops 20 to 29 on an open connection add one to that number's count": the place of a number's count, if it has one. 40 stands behind 29.
+// "drops 20 to 29 on an open connection add one to that number's count": the place of a number's count, if it has one. Behind 29 stand 40
+// (document 02, Ticket 5), 46 and 47 (Ticket 9).
 fn slot(n: u8) -> Place
     ensures { λ r. ⌜ r ≡ slotOf n ⌝ }
 {
     if n == 40 {
         return Place::At(10);
+    }
+    if n == 46 {
+        return Place::At(11);
+    }
+    if n == 47 {
+        return Place::At(12);
     }
     if n < 20 {
         return Place::Nowhere;

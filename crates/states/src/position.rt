@@ -5,6 +5,7 @@ ghost use Prim.Native.Nat.{ℕ};
 ghost use Rattle.rules.specs.Answers.{placeAnswer, positionNumber};
 ghost use Rattle.rules.specs.Position.{position};
 ghost use Rattle.rules.specs.Connection.{placeOn, value, extensionOf};
+use crate::writers::is_md5;
 use crate::writers::is_open;
 use rules::Connection;
 use rules::Place;
@@ -34,14 +35,18 @@ pub fn locate(reference: u64, s: u32) -> Place
     Place::Nowhere
 }
 
-// "A bare SYN and the SYN+ACK that opens have .. their own number as position; once open, every segment goes by its position."
+// "A bare SYN and the SYN+ACK that opens have .. their own number as position; once open, every segment goes by its position." Document 02,
+// Ticket 9: on an MD5 connection every segment has its own number.
 pub fn place_on(conn: Connection, reference: u64, number: u32) -> Place
     ensures { λ r. ⌜ r ≡ placeOn conn reference number ⌝ }
 {
-    if is_open(conn) {
-        return locate(reference, number);
+    if !is_open(conn) {
+        return Place::At(number as u64);
     }
-    Place::At(number as u64)
+    if is_md5(conn) {
+        return Place::At(number as u64);
+    }
+    locate(reference, number)
 }
 
 // The position, where there is one.

@@ -1,7 +1,7 @@
 // A connection's state as bytes and back: docs/BOUNDARY.md, "The state".
 // Every value of the type is a state, and so is every string of STATE_BYTES bytes; `decode` assumes that it gets so many.
 ghost use mathlib.Core.Path.{_≡_};
-ghost use mathlib.Core.List.{_++_};
+ghost use mathlib.Core.List.{[], _∷_, _++_};
 ghost use Prim.Native.Nat.{_+_, _*_, _≤_};
 ghost use lib.ListN.{length};
 ghost use lib.Seq.{paste};
@@ -44,8 +44,10 @@ const ACCEPTED: usize = 64;
 
 const DROPS: usize = 72;
 
+const WAY: usize = 176;
+
 // How long a state is: `stateBytes` of specs/Layout.
-pub const STATE_BYTES: usize = DROPS + 8 * SLOTS;
+pub const STATE_BYTES: usize = 177;
 
 // Numbers of eight bytes each, written one behind the other from `at` on.
 fn words_at(out: &mut [u8], at: usize, words: &[u64])
@@ -97,8 +99,9 @@ fn join(
     remote: [u8; 16],
     numbers: [u64; 3],
     drops: [u64; SLOTS],
+    way: u8,
 ) -> [u8; STATE_BYTES]
-    ensures { λ r. ⌜ r ≡ head ++ (local ++ (remote ++ (wordBytes numbers ++ wordBytes drops))) ⌝ }
+    ensures { λ r. ⌜ r ≡ head ++ (local ++ (remote ++ (wordBytes numbers ++ (wordBytes drops ++ (way ∷ []))))) ⌝ }
 {
     let mut out = [0u8; STATE_BYTES];
     octets::copy_at(&mut out, 0, &head);
@@ -106,6 +109,7 @@ fn join(
     octets::copy_at(&mut out, REMOTE, &remote);
     words_at(&mut out, SENT, &numbers);
     words_at(&mut out, DROPS, &drops);
+    out[WAY] = way;
     out
 }
 
@@ -119,7 +123,7 @@ pub fn encode(s: State) -> [u8; STATE_BYTES]
     let remote = pair.remote;
     let numbers = [s.sent, s.seen, s.accepted];
     let drops = s.drops;
-    join(head(s), local, remote, numbers, drops)
+    join(head(s), local, remote, numbers, drops, conn.way)
 }
 
 // The number in the eight bytes from `at` on.
@@ -152,6 +156,7 @@ fn conn_from(bytes: &[u8]) -> Connection
     let pair = pair_from(bytes);
     Connection {
         stage: bytes[STAGE],
+        way: bytes[WAY],
         pair,
         isn: octets::load32(bytes, ISN),
         peer_isn: octets::load32(bytes, PEER_ISN),

@@ -1,13 +1,13 @@
-// Who writes a connection's state: document 01, "Positions", "A connection's life" and "Numbers given back". Every other function
-// passes the state on as it is. Assumes only of an address that becomes part of a pair that it has at most sixteen bytes: the callers have
-// tested 19.
+// Who writes a connection's state: document 01, "Positions", "A connection's life" and "Numbers given back"; document 02, Ticket 9. Every
+// other function passes the state on as it is. Assumes only of an address that becomes part of a pair that it has at most sixteen bytes:
+// the callers have tested 19.
 ghost use mathlib.Core.Path.{_≡_};
 ghost use Prim.Native.Nat.{_≤_};
 ghost use lib.ListN.{length, take};
 ghost use Rattle.wire.specs.Bytes.{sameBytes};
 ghost use Rattle.keys.specs.Entry.{width, padded};
-ghost use Rattle.rules.specs.Connection.{pairOf, isOpen, opened as openedOf, opening as openingOf, empty as emptyState, withAccepted};
-ghost use Rattle.rules.specs.Connection.{withDrop, withSent, withAsked};
+ghost use Rattle.rules.specs.Connection.{pairOf, isOpen, isMd5, opened as openedOf, opening as openingOf, empty as emptyState};
+ghost use Rattle.rules.specs.Connection.{withAccepted, withCounted, withDrop, withSent, withAsked};
 use crate::counts::bump;
 use crate::counts::count_drop;
 use crate::counts::larger;
@@ -66,12 +66,20 @@ pub fn is_open(conn: Connection) -> bool
     conn.stage == 1
 }
 
+// "A connection goes by the way it was opened": way 1 is MD5, every other value TCP-AO.
+pub fn is_md5(conn: Connection) -> bool
+    ensures { λ r. ⌜ r ≡ isMd5 conn ⌝ }
+{
+    conn.way == 1
+}
+
 // "Opening sets each reference to that side's ISN"; of the counts, "All are 0 at opening; the segment that opens is not counted."
-pub fn opened(pair: Pair, isn: u32, peer_isn: u32, send_id: u8, ask_id: u8) -> State
-    ensures { λ r. ⌜ r ≡ openedOf pair isn «peer_isn» «send_id» «ask_id» ⌝ }
+pub fn opened(way: u8, pair: Pair, isn: u32, peer_isn: u32, send_id: u8, ask_id: u8) -> State
+    ensures { λ r. ⌜ r ≡ openedOf way pair isn «peer_isn» «send_id» «ask_id» ⌝ }
 {
     let conn = Connection {
         stage: 1,
+        way,
         pair,
         isn,
         peer_isn,
@@ -88,10 +96,10 @@ pub fn opened(pair: Pair, isn: u32, peer_isn: u32, send_id: u8, ask_id: u8) -> S
 }
 
 // "until the peer's ISN is known, it and its reference are 0"
-pub fn opening(pair: Pair, isn: u32, send_id: u8, ask_id: u8) -> State
-    ensures { λ r. ⌜ r ≡ openingOf pair isn «send_id» «ask_id» ⌝ }
+pub fn opening(way: u8, pair: Pair, isn: u32, send_id: u8, ask_id: u8) -> State
+    ensures { λ r. ⌜ r ≡ openingOf way pair isn «send_id» «ask_id» ⌝ }
 {
-    let mut q = opened(pair, isn, 0, send_id, ask_id);
+    let mut q = opened(way, pair, isn, 0, send_id, ask_id);
     q.conn.stage = 0;
     q
 }
@@ -107,7 +115,7 @@ pub fn empty() -> State
         local: [0; 16],
         remote: [0; 16],
     };
-    opening(pair, 0, 0, 0)
+    opening(0, pair, 0, 0, 0)
 }
 
 // An accepted segment at position x, once open: "sets its direction's reference to the larger of the old one and X".
@@ -117,6 +125,15 @@ pub fn with_accepted(x: u64, send_id: u8, q: State) -> State
     let mut next = q;
     next.seen = larger(q.seen, x);
     next.send_id = send_id;
+    next.accepted = bump(q.accepted);
+    next
+}
+
+// Document 02, Ticket 9, an accepted MD5 segment, once open: "neither it nor signing moves a reference".
+pub fn with_counted(q: State) -> State
+    ensures { λ r. ⌜ r ≡ withCounted q ⌝ }
+{
+    let mut next = q;
     next.accepted = bump(q.accepted);
     next
 }

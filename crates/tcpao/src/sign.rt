@@ -5,41 +5,62 @@ ghost use mathlib.Core.Path.{_≡_};
 ghost use mathlib.Core.List.{_++_};
 ghost use Prim.Native.Nat.{_+_, _≤_};
 ghost use lib.ListN.{length};
+ghost use Rattle.tables.specs.Tables.{tablesOf};
 ghost use Rattle.rules.specs.Answers.{signingAnswer, signedNumber};
-ghost use Rattle.rules.specs.Calls.{written, signed, output};
+ghost use Rattle.rules.specs.Calls.{outgoing as outgoingOf, afterSigning, written, signed, output};
 ghost use Rattle.rules.specs.declared.Signing.the-variants as S;
 ghost use Rattle.tcpao.specs.SignBegin.{SignBegins, Writable, finished};
 use crate::sign_begun::SignBegun;
 use crate::sign_begun::nothing;
 use crate::sign_begun::ready;
-use checks::signing::added_bytes;
+use crate::sign_begun::ready_md5;
+use checks::signing::added_on;
 use checks::signing::input_faults;
 use checks::signing::sign_faults;
+use keys::table::Found;
+use rules::NO_INDEX;
 use rules::Outcome;
 use rules::Signed;
 use rules::Signing;
 use rules::State;
+use states::writers::is_md5;
+use states::writers::is_open;
 use states::writers::with_sent;
+use tables::Index;
 use wire::header::header_of;
 
-// All that needs no data: every number, and what waits for the data. `room` is the output's length.
-pub fn begin(table: &[u8], segment: &[u8], room: usize, state: State) -> SignBegun
-    ensures { λ r. ⌜ SignBegins (now (table .entry)) (now (segment .entry)) room state r ⌝ }
+// The entry signed under: the outgoing key's; by MD5 the one that matches the pair.
+fn outgoing(keys: &[u8], md5: &[u8], state: State) -> Found
+    ensures { λ r. ⌜ r ≡ outgoingOf (tablesOf (now (keys .entry)) (now (md5 .entry))) state ⌝ }
 {
     let conn = state.conn;
-    let input = input_faults(table, segment, conn);
+    if is_md5(conn) {
+        return tables::find_md5(keys, md5, conn.pair);
+    }
+    tables::find_send(keys, md5, conn.pair, state.send_id)
+}
+
+// All that needs no data: every number, and what waits for the data. `room` is the output's length.
+pub fn begin(keys: &[u8], md5: &[u8], segment: &[u8], room: usize, state: State) -> SignBegun
+    ensures { λ r. ⌜ SignBegins (tablesOf (now (keys .entry)) (now (md5 .entry))) (now (segment .entry)) room state r ⌝ }
+{
+    let conn = state.conn;
+    let input = input_faults(keys, md5, segment, conn);
     let Outcome::Good(_, _) = input else {
         return nothing(input);
     };
     let header = header_of(segment, segment.len());
-    let found = keys::table::find_send(table, conn.pair, state.send_id);
+    let found = outgoing(keys, md5, state);
     let entry = found.entry;
     let secret = entry.secret;
-    let added = added_bytes(secret.mac_bytes);
+    let added = added_on(conn, secret.mac_bytes);
     let outcome = sign_faults(room, added, found.there, state, header);
     let Outcome::Good(x, _) = outcome else {
         return nothing(outcome);
     };
+    if is_md5(conn) {
+        return ready_md5(x, secret, state, header.end, segment);
+    }
     ready(x, added, secret, state, header.end, segment)
 }
 
@@ -63,8 +84,19 @@ fn finish(begun: SignBegun, segment: &[u8], out: &mut [u8])
     lay(out, &header[..whole], &segment[end..]);
 }
 
+// Ticket 9: "after opening neither it nor signing moves a reference".
+fn after_signing(x: u64, state: State) -> State
+    ensures { λ r. ⌜ r ≡ afterSigning x state ⌝ }
+{
+    let conn = state.conn;
+    if is_open(conn) && is_md5(conn) {
+        return state;
+    }
+    with_sent(x, state)
+}
+
 // "A refusal leaves outputs and state alike".
-fn refused(n: u8, i: usize, state: State) -> Signed
+fn refused(n: u8, i: Index, state: State) -> Signed
     ensures { λ r. ⌜ r ≡ record { answer = S.Refused n; index = i; state = state } ⌝ }
 {
     Signed {
@@ -75,13 +107,14 @@ fn refused(n: u8, i: usize, state: State) -> Signed
 }
 
 // The answer with the new state, and every byte of the output.
-pub fn sign(table: &[u8], segment: &[u8], out: &mut [u8], state: State) -> Signed
-    ensures answer { λ r. ⌜ r ≡ signed (now (table .entry)) (now (segment .entry)) (now (out .entry)) state ⌝ }
-    ensures storage { λ _. ⌜ now (out .exit) ≡ output (now (table .entry)) (now (segment .entry)) (now (out .entry)) state ⌝ }
+pub fn sign(keys: &[u8], md5: &[u8], segment: &[u8], out: &mut [u8], state: State) -> Signed
+    ensures answer { λ r. ⌜ r ≡ signed (tablesOf (now (keys .entry)) (now (md5 .entry))) (now (segment .entry)) (now (out .entry)) state ⌝ }
+    ensures storage { λ _. ⌜ now (out .exit) ≡ output (tablesOf (now (keys .entry)) (now (md5 .entry)))
+        (now (segment .entry)) (now (out .entry)) state ⌝ }
     ensures number { λ r. ⌜ signingAnswer (r .answer) (r .index)
-        ≡ signedNumber (now (table .entry)) (now (segment .entry)) (now (out .entry)) state ⌝ }
+        ≡ signedNumber (tablesOf (now (keys .entry)) (now (md5 .entry))) (now (segment .entry)) (now (out .entry)) state ⌝ }
 {
-    let begun = begin(table, segment, out.len(), state);
+    let begun = begin(keys, md5, segment, out.len(), state);
     let outcome = begun.outcome;
     let added = begun.added;
     match outcome {
@@ -89,11 +122,11 @@ pub fn sign(table: &[u8], segment: &[u8], out: &mut [u8], state: State) -> Signe
             finish(begun, segment, out);
             Signed {
                 answer: Signing::Signed(segment.len() + added),
-                index: 0,
-                state: with_sent(x, state),
+                index: NO_INDEX,
+                state: after_signing(x, state),
             }
         }
-        Outcome::Passed => refused(0, 0, state),
+        Outcome::Passed => refused(0, NO_INDEX, state),
         Outcome::Bad(n, i) => refused(n, i, state),
     }
 }

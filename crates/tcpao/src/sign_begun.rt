@@ -7,15 +7,15 @@ ghost use mathlib.Core.Bool.{cond};
 ghost use Prim.Native.Nat.{_+_, _*_, _/_, _≤_, _<_};
 ghost use lib.ListN.{length, getD, replicate};
 ghost use Rattle.wire.specs.Header.{headerEnd};
-ghost use Rattle.rules.specs.Segment.{inserted, optionOf, optionBytes};
+ghost use Rattle.rules.specs.Segment.{inserted, optionBytes};
 ghost use Rattle.rules.specs.Mac.{pseudoHeader};
 ghost use Rattle.rules.specs.Connection.{isOpen, leaving, localAddress, remoteAddress};
 ghost use Rattle.checksum.specs.Running.{begun, added as addedTo};
 ghost use Rattle.traffic.specs.Padded.{padded};
 ghost use Rattle.traffic.specs.Flow.{flowOf};
 ghost use Rattle.traffic.specs.MacContext.{macView};
-ghost use Rattle.tcpao.specs.SignedBytes.{headBytes, Room, Signable};
-ghost use Rattle.tcpao.specs.SignBegin.{Starts, Fed, checkedHeader, ended};
+ghost use Rattle.tcpao.specs.SignedBytes.{aoForm, md5Form, headBytes, blankOption, Room, Signable};
+ghost use Rattle.tcpao.specs.SignBegin.{aoFront, md5Front, macPlace, Starts, Fed, checkedHeader, ended};
 use checks::begun::mac_length;
 use checksum::Sum;
 use keys::entry::Pair;
@@ -29,11 +29,12 @@ use traffic::context::MacContext;
 use traffic::context::unused;
 use traffic::flow::Flow;
 
-// The outcome: a number, or the position with the asked RecvID. Where it is Good: how many bytes signing adds; the signed header with zeros
-// for MAC and checksum, in an array that has room for the longest; the MAC after its front, to be cut to so many bytes; and the checksum's
-// sum after the pseudo-header. Else these mean nothing.
+// The outcome: a number, or the position with the asked RecvID. Where it is Good: the way (1 is MD5); how many bytes signing adds; the
+// signed header with zeros for MAC and checksum, in an array that has room for the longest; the MAC after its front, to be cut to so many
+// bytes; and the checksum's sum after the pseudo-header. Else these mean nothing.
 pub struct SignBegun {
     pub outcome: Outcome,
+    pub way: u8,
     pub added: usize,
     pub header: [u8; 60],
     pub mac: MacContext,
@@ -47,6 +48,7 @@ pub(crate) fn nothing(outcome: Outcome) -> SignBegun
 {
     SignBegun {
         outcome,
+        way: 0,
         added: 0,
         header: [0u8; 60],
         mac: unused(),
@@ -90,10 +92,10 @@ fn leaving_sum(pair: Pair, len: usize) -> Sum
     traffic::sums::pseudo_sum(&source[..w], &destination[..w], len)
 }
 
-// The header's first 20 bytes with so many words more, and the first four of a TCP-AO whose MAC has n bytes.
-fn head_of(header: &[u8], words: u8, key_id: u8, rnext_key_id: u8, n: u8) -> [u8; 24]
-    requires { ⌜ (20 ≤ length (now header)) × (getD (now header) 12 0 + 16 * words < 256) × (n ≤ 16) ⌝ }
-    ensures { λ r. ⌜ r ≡ headBytes words «key_id» «rnext_key_id» n (now (header .entry)) ⌝ }
+// The header's first 20 bytes with so many words more, and the first four of an option.
+fn head_of(header: &[u8], words: u8, kind: u8, len: u8, third: u8, fourth: u8) -> [u8; 24]
+    requires { ⌜ (20 ≤ length (now header)) × (getD (now header) 12 0 + 16 * words < 256) ⌝ }
+    ensures { λ r. ⌜ r ≡ headBytes words kind len third fourth (now (header .entry)) ⌝ }
 {
     let checksum: u8 = 0;
     [
@@ -117,28 +119,57 @@ fn head_of(header: &[u8], words: u8, key_id: u8, rnext_key_id: u8, n: u8) -> [u8
         checksum,
         header[18],
         header[19],
-        29,
-        4 + n,
-        key_id,
-        rnext_key_id,
+        kind,
+        len,
+        third,
+        fourth,
     ]
 }
 
-// The signed header with zeros for the MAC's n bytes and the checksum: TCP-AO stands behind byte 20, its padding and then the old options
-// behind it.
-fn blank_header(header: &[u8], added: usize, key_id: u8, rnext_key_id: u8, n: u8) -> [u8; 60]
-    requires { ⌜ Room (now header) added n ⌝ }
-    ensures { λ r. ⌜ r ≡ padded 60 (inserted (optionOf «key_id» «rnext_key_id» (replicate n 0)) (now (header .entry))) ⌝ }
+// The signed header with zeros behind the option's first four bytes and for the checksum: the option of `len` bytes stands behind byte 20,
+// its padding and then the old options behind it.
+fn blank_header(header: &[u8], added: usize, kind: u8, len: u8, third: u8, fourth: u8) -> [u8; 60]
+    requires { ⌜ Room (now header) added len ⌝ }
+    ensures { λ r. ⌜ r ≡ padded 60 (inserted (blankOption kind len third fourth added) (now (header .entry))) ⌝ }
 {
     let words = (added / 4) as u8;
-    let head = head_of(header, words, key_id, rnext_key_id, n);
+    let head = head_of(header, words, kind, len, third, fourth);
     let padding = [1u8; 3];
-    let used = 4 + n as usize;
+    let used = len as usize;
     let mut h = [0u8; 60];
     octets::copy_at(&mut h, 0, &head);
     octets::copy_at(&mut h, 20 + used, &padding[..added - used]);
     octets::copy_at(&mut h, 20 + added, &header[20..]);
     h
+}
+
+// Behind 37, by MD5, at its number x, under the entry's secret.
+pub(crate) fn ready_md5(
+    x: u64,
+    secret: Secret,
+    state: State,
+    end: usize,
+    segment: &[u8],
+) -> SignBegun
+    requires { ⌜ Signable (now segment) md5Form × (end ≡ headerEnd (now segment)) ⌝ }
+    ensures { λ r. ⌜ Starts x md5Form (md5Front secret state (now (segment .entry))) state (now (segment .entry)) r ⌝ }
+{
+    let header = blank_header(&segment[..end], 20, 19, 18, 0, 0);
+    let whole = end + 20;
+    let len = segment.len() + 20;
+    let conn = state.conn;
+    let flow = leaving_flow(conn);
+    let mac = traffic::digest::begin(secret, flow, len, &header[..whole]);
+    let sum = leaving_sum(conn.pair, len);
+    SignBegun {
+        outcome: Outcome::Good(x, state.ask_id),
+        way: 1,
+        added: 20,
+        header,
+        mac,
+        mac_bytes: 16,
+        sum,
+    }
 }
 
 // Behind 37, at position x, under the outgoing key's secret; the old header ends at `end`. "KeyID is the outgoing SendID, RNextKeyID the
@@ -151,12 +182,20 @@ pub(crate) fn ready(
     end: usize,
     segment: &[u8],
 ) -> SignBegun
-    requires { ⌜ Signable (now segment) secret × (end ≡ headerEnd (now segment)) × (added ≡ optionBytes (secret .«mac_bytes»)) ⌝ }
-    ensures { λ r. ⌜ Starts x secret state (now (segment .entry)) r ⌝ }
+    requires { ⌜ Signable (now segment) (aoForm secret state) × (end ≡ headerEnd (now segment)) × (added ≡ optionBytes
+        (secret .«mac_bytes»)) ⌝ }
+    ensures { λ r. ⌜ Starts x (aoForm secret state) (aoFront x secret state (now (segment .entry))) state (now (segment .entry)) r ⌝ }
 {
     let n = secret.mac_bytes;
     let more = added as usize;
-    let header = blank_header(&segment[..end], more, state.send_id, state.ask_id, n);
+    let header = blank_header(
+        &segment[..end],
+        more,
+        29,
+        4 + n,
+        state.send_id,
+        state.ask_id,
+    );
     let whole = end + more;
     let len = segment.len() + more;
     let conn = state.conn;
@@ -167,6 +206,7 @@ pub(crate) fn ready(
     let sum = leaving_sum(conn.pair, len);
     SignBegun {
         outcome: Outcome::Good(x, state.ask_id),
+        way: 0,
         added: more,
         header,
         mac,
@@ -186,6 +226,16 @@ fn with_checksum(header: [u8; 60], sum: Sum) -> [u8; 60]
     h
 }
 
+// Where the MAC stands: behind the four bytes of TCP-AO, or the two of the MD5 option.
+fn mac_place(way: u8) -> usize
+    ensures { λ r. ⌜ r ≡ macPlace way ⌝ }
+{
+    if way == 1 {
+        return 22;
+    }
+    24
+}
+
 impl SignBegun {
     // The next piece of the data.
     pub fn data(self, data: &[u8]) -> Self
@@ -196,6 +246,7 @@ impl SignBegun {
         let mac = self.mac;
         SignBegun {
             outcome,
+            way: self.way,
             added: self.added,
             header,
             mac: mac.update(data),
@@ -212,7 +263,7 @@ impl SignBegun {
         let mac = self.mac;
         let n = mac_length(self.mac_bytes);
         let tag = mac.finish();
-        octets::copy_at(&mut header, 24, &tag[..n]);
+        octets::copy_at(&mut header, mac_place(self.way), &tag[..n]);
         with_checksum(header, self.sum)
     }
 }

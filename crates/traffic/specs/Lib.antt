@@ -4,3 +4,4 @@ pub mod Flow
 pub mod MacContext
 pub mod MacContextLaws
 pub mod TagLaws
+pub mod DigestLaws

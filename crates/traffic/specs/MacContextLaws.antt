@@ -7,16 +7,18 @@ use lib.ListN.{length, take, replicate}
 use lib.Seq.{take-at}
 use native.Mathlib.Omega.{arith}
 use lib.Dec.{eqb}
+use Rattle.mac.specs.Blocks as hash
+use Rattle.mac.specs.BlocksLaws as hashes
 use Rattle.mac.specs.Hmac.{hmacSha1, hmacSha256, hmacStart}
 use Rattle.mac.specs.HmacLaws.{hmacAbsorb-append, hmacSha1-message, length-hmacSha1, hmacSha256-message, length-hmacSha256}
 use Rattle.mac.specs.HashContexts.{partsOf, digestBytes}
 use Rattle.mac.specs.declared.hash_algorithm.HashAlgorithm.{HashAlgorithm}
-use Rattle.mac.specs.declared.hash_algorithm.HashAlgorithm.the-variants.{Sha1, Sha256}
+use Rattle.mac.specs.declared.hash_algorithm.HashAlgorithm.the-variants.{Sha1, Sha256, Md5}
 use Rattle.mac.specs.Cmac.{cmac, start}
 use Rattle.mac.specs.CmacLaws.{absorb-append, finished-absorb, length-cmac}
 use Rattle.rules.specs.Mac.{applied}
 use Rattle.traffic.specs.Padded.{padded, digestRoom}
-use Rattle.traffic.specs.MacContext.{MacView, Hmac, Cmac, keyFor, macStart, macAbsorb, macFinished}
+use Rattle.traffic.specs.MacContext.{MacView, Hmac, Cmac, Digest, keyFor, macStart, macAbsorb, macFinished}
 
 -- nothing stands behind what has the length already
 pub padded-full : (n : ℕ) (l : List ℕ) → length l ≡ n → padded n l ≡ l
@@ -28,6 +30,7 @@ pub macAbsorb-append : (v : MacView) (a b : List ℕ) → macAbsorb v (a ++ b) �
 unfolding macAbsorb
 macAbsorb-append (Hmac h v) a b = ap (Hmac h) (hmacAbsorb-append (partsOf h) v a b)
 macAbsorb-append (Cmac v) a b = ap Cmac (absorb-append v a b)
+macAbsorb-append (Digest v k) a b = ap (λ (u : hash.View). Digest u k) (hashes.absorb-append (partsOf Md5) v a b)
 
 -- the hash, and the key's length, by which algorithm it is: 1, 3, or neither
 abbrev hashBy : Bool → HashAlgorithm

@@ -60,7 +60,7 @@ fn derived(algorithm: u8, key: &[u8], input: &[u8]) -> [u8; DIGEST_ROOM]
 }
 
 // How many bytes the master key has: what its length says, but never more than there are.
-fn key_bytes(len: u8) -> usize
+pub(crate) fn key_bytes(len: u8) -> usize
     ensures { λ r. ⌜ r ≡ min len 80 ⌝ }
 {
     if len < 80 { len as usize } else { 80 }

@@ -40,7 +40,7 @@ pub(crate) fn length_and_next_header(len: usize) -> [u8; 8]
 }
 
 // "the IP pseudo-header as for the checksum, with the whole segment's length"
-fn push_pseudo_header(a: Assembled, flow: Flow, len: usize) -> Assembled
+pub(crate) fn push_pseudo_header(a: Assembled, flow: Flow, len: usize) -> Assembled
     requires { ⌜ a .len + 40 ≤ 104 ⌝ }
     ensures { λ r. ⌜ Pushed a (pseudoHeader (flowOf flow .source) (flowOf flow .destination) len) r ⌝ }
 {

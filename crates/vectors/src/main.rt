@@ -19,7 +19,7 @@ enum Suite {
 
 fn judged(suite: Suite, line: &[u8], key: [u8; 16]) -> bool {
     match suite {
-        Suite::Hash(hash) => suites::fips180(hash, line),
+        Suite::Hash(hash) => suites::hash(hash, line),
         Suite::Hmac(hash) => suites::hmac(hash, line),
         Suite::Fips197 => suites::fips197(line),
         Suite::Rfc4493 => suites::rfc4493(line, key),
@@ -67,6 +67,7 @@ fn main() {
     let t = Tally::new();
     let t = run(Suite::Hash(HashAlgorithm::Sha1), b"fips180.txt", t);
     let t = run(Suite::Hash(HashAlgorithm::Sha256), b"fips180-256.txt", t);
+    let t = run(Suite::Hash(HashAlgorithm::Md5), b"rfc1321.txt", t);
     let t = run(Suite::Fips197, b"fips197.txt", t);
     let t = run(Suite::Hmac(HashAlgorithm::Sha1), b"rfc2202.txt", t);
     let t = run(Suite::Hmac(HashAlgorithm::Sha256), b"rfc4231.txt", t);

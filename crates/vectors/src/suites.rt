@@ -7,12 +7,11 @@ use columns::lines::column;
 use columns::lines::ends;
 use columns::report::text;
 use columns::report::unreadable;
-use mac::hash_algorithm::DIGEST_ROOM;
 use mac::hash_algorithm::HashAlgorithm;
 use wire::bytes::same;
 
-// FIPS 180-4, SHA-1 or SHA-256. Columns: message, digest.
-pub fn fips180(hash: HashAlgorithm, line: &[u8]) -> bool {
+// FIPS 180-4, SHA-1 or SHA-256, and RFC 1321, MD5. Columns: message, digest.
+pub fn hash(hash: HashAlgorithm, line: &[u8]) -> bool {
     let w = column(line, 1);
     if !hex::fits(w, 32) || !ends(line, 2) {
         return unreadable(line);
@@ -37,41 +36,21 @@ fn sized(hash: HashAlgorithm, n: u64) {
     match hash {
         HashAlgorithm::Sha1 => report::sized(b"SHA-1", n),
         HashAlgorithm::Sha256 => report::sized(b"SHA-256", n),
+        HashAlgorithm::Md5 => report::sized(b"MD5", n),
     }
-}
-
-// A digest of twenty bytes, out of the room that there is for both.
-fn first_twenty(d: [u8; DIGEST_ROOM]) -> [u8; 20] {
-    [
-        d[0],
-        d[1],
-        d[2],
-        d[3],
-        d[4],
-        d[5],
-        d[6],
-        d[7],
-        d[8],
-        d[9],
-        d[10],
-        d[11],
-        d[12],
-        d[13],
-        d[14],
-        d[15],
-        d[16],
-        d[17],
-        d[18],
-        d[19],
-    ]
 }
 
 fn million(hash: HashAlgorithm, want: &[u8]) -> bool {
     let got = pieces::million(hash);
-    match hash {
-        HashAlgorithm::Sha1 => report::result(&first_twenty(got), true, want),
-        HashAlgorithm::Sha256 => report::result(&got, true, want),
+    front(&got, hash.digest_bytes(), want)
+}
+
+// A digest of n bytes, at the front of the room that there is for all.
+fn front(room: &[u8], n: usize, want: &[u8]) -> bool {
+    if room.len() < n {
+        return false;
     }
+    report::result(&room[0..n], true, want)
 }
 
 // By the one call on the whole message, and in pieces.
@@ -83,6 +62,10 @@ fn digest(hash: HashAlgorithm, message: &[u8], want: &[u8]) -> bool {
         }
         HashAlgorithm::Sha256 => {
             let got = mac::sha256::sha256(message);
+            report::result(&got, pieces::hash(hash, message, &got), want)
+        }
+        HashAlgorithm::Md5 => {
+            let got = mac::md5::md5(message);
             report::result(&got, pieces::hash(hash, message, &got), want)
         }
     }
@@ -142,6 +125,8 @@ fn code(hash: HashAlgorithm, key: &[u8], message: &[u8], want: &[u8]) -> bool {
             let agree = pieces::hmac(hash, key, message, &got);
             shown(&got, agree, want)
         }
+        // No list of HMAC-MD5 is run.
+        HashAlgorithm::Md5 => false,
     }
 }
 

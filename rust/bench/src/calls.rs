@@ -1,10 +1,10 @@
-//! Signing and judging: against the reference, against the two MACs and the checksum that they need, and of a
-//! wrong checksum against judging a right one.
+//! Signing and judging: against the reference, against the two MACs and the checksum that they need, of a
+//! wrong checksum against judging a right one, and by TCP MD5 against the digest and the checksum.
 
-use crate::connection::{open, segment, Keys, KEY};
+use crate::connection::{open, open_md5, segment, Keys, KEY};
 use crate::timing::{Limit, Outcome, Table};
 use crate::{count, SIZES};
-use bench::{aes128_cmac, hmac_sha1, hmac_sha256, Bytes, REFERENCE};
+use bench::{aes128_cmac, hmac_sha1, hmac_sha256, md5, Bytes, REFERENCE};
 use kit::{Boundary, End};
 use std::hint::black_box;
 
@@ -26,14 +26,24 @@ struct Exchange {
 
 impl Exchange {
     fn new(algorithm: u8, keys: Keys, n: usize) -> Exchange {
-        let mut signer = open(0, algorithm, keys);
+        let ends = [open(0, algorithm, keys), open(1, algorithm, keys)];
+        Exchange::between(ends, n, 16)
+    }
+
+    /// By TCP MD5, one entry.
+    fn by_md5(n: usize) -> Exchange {
+        Exchange::between([open_md5(0), open_md5(1)], n, 20)
+    }
+
+    /// Of a segment of n bytes, to which signing adds so many.
+    fn between([mut signer, judge]: [End; 2], n: usize, added: usize) -> Exchange {
         let segment = segment(n);
-        let mut signed = vec![0; n + 16];
+        let mut signed = vec![0; n + added];
         let answer = signer.sign_into(&segment, &mut signed);
         assert_eq!(answer, (signed.len() as u64) << 32);
         Exchange {
             signer,
-            judge: open(1, algorithm, keys),
+            judge,
             segment,
             signed,
         }
@@ -162,8 +172,8 @@ pub fn against_macs_256() -> Outcome {
 fn against_macs_of(algorithms: &[Algorithm], limit: Limit) -> Outcome {
     const BYTES: usize = 1_400;
     let mut table = Table::new(
-        "Whole calls on 1,400 bytes against what they need: two MACs, by the archive, and the checksum, by\n\
-         plain Rust (one entry has the limit).",
+        "Whole calls on 1,400 bytes, with an empty MD5 table, against what they need: two MACs, by the archive,\n\
+         and the checksum, by plain Rust (one entry has the limit).",
         "call, MAC, entries",
         "needed",
         ROUNDS,
@@ -197,6 +207,52 @@ fn against_macs_of(algorithms: &[Algorithm], limit: Limit) -> Outcome {
                 &mut needed,
             );
         }
+    }
+    table.end()
+}
+
+/// By TCP MD5 a call needs one digest and the checksum.
+pub fn md5_against_digest() -> Outcome {
+    let mut table = Table::new(
+        "Whole calls by TCP MD5, one entry, against what they need: the digest, by the archive, and the\n\
+         checksum, by plain Rust (1,400 bytes have the limit).",
+        "call, bytes",
+        "needed",
+        ROUNDS,
+        Limit {
+            rows: "whole calls by TCP MD5 by their digest and the checksum",
+            ratio: 1.3,
+            wanted: false,
+        },
+    );
+    for n in SIZES {
+        let mut ours = Exchange::by_md5(n);
+        let mut reference = ours.by(REFERENCE);
+        compare(&mut ours, &mut reference);
+        let covered = Bytes(6).take(12 + n + KEY.len());
+        let mut needed = || {
+            let covered = black_box(&covered);
+            let mut digest = [0; 16];
+            md5(covered, &mut digest);
+            black_box(digest);
+            let (source, destination) = covered[..8].split_at(4);
+            black_box(plain::checksum::sum(source, destination, &covered[12..]));
+        };
+        let label = |call| format!("{call:<5} {n:>6}");
+        table.row(
+            &label("sign"),
+            n == 1_400,
+            count(n),
+            &mut || assert_eq!(black_box(&mut ours).sign() & 255, 0),
+            &mut needed,
+        );
+        table.row(
+            &label("judge"),
+            n == 1_400,
+            count(n),
+            &mut || assert_eq!(black_box(&mut ours).judge() & 255, 0),
+            &mut needed,
+        );
     }
     table.end()
 }

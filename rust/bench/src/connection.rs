@@ -101,6 +101,24 @@ pub fn open(here: usize, algorithm: u8, keys: Keys) -> End {
     end
 }
 
+/// One end of the connection by TCP MD5, with one entry and no key table.
+pub fn open_md5(here: usize) -> End {
+    let mut end = open(here, 1, Keys::One);
+    let entry = Entry {
+        key: KEY.to_vec(),
+        ..Entry::md5(&end.pair.local, &end.pair.remote)
+    };
+    end.table.clear();
+    end.md5 = entry.bytes();
+    end.set(State {
+        outgoing_send_id: 0,
+        asked_recv_id: 0,
+        way: 1,
+        ..end.state()
+    });
+    end
+}
+
 /// A segment of n bytes that end 0 may sign: no options, ACK.
 pub fn segment(n: usize) -> Vec<u8> {
     Segment {

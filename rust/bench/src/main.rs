@@ -18,16 +18,18 @@ fn count(n: usize) -> usize {
 }
 
 fn main() -> ExitCode {
-    let [hashes, hashes_256, cmac, by_tables] = messages::run();
+    let [hashes, hashes_256, md5, cmac, by_tables] = messages::run();
     let outcomes = [
         hashes,
         hashes_256,
+        md5,
         cmac,
         by_tables,
         calls::against_reference(),
         calls::against_macs(),
         calls::against_macs_256(),
         calls::checksum_against_judging(),
+        calls::md5_against_digest(),
         tables::against_hmac(),
         tables::against_reference(),
     ];

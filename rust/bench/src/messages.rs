@@ -1,8 +1,8 @@
-//! SHA-1, SHA-256, HMAC with both and AES-CMAC against plain Rust, and AES-CMAC against T-tables.
+//! SHA-1, SHA-256, HMAC with both, MD5 and AES-CMAC against plain Rust, and AES-CMAC against T-tables.
 
 use crate::timing::{Limit, Outcome, Table};
 use crate::{count, SIZES};
-use bench::{aes128_cmac, hmac_sha1, hmac_sha256, sha1, sha256, Bytes};
+use bench::{aes128_cmac, hmac_sha1, hmac_sha256, md5, sha1, sha256, Bytes};
 use std::hint::black_box;
 
 const ROUNDS: usize = 201;
@@ -54,6 +54,14 @@ const HASHES_256: [Pair; 2] = [
     },
 ];
 
+const MD5: Pair = Pair {
+    name: "MD5",
+    ours: |_, message, out| {
+        md5(message, out);
+    },
+    plain: |_, message, out| out[..16].copy_from_slice(&plain::md5::md5(message)),
+};
+
 const CMAC: Pair = Pair {
     name: "AES-CMAC",
     ours: |key, message, out| {
@@ -77,7 +85,8 @@ fn compare() -> usize {
     for n in (0..=2_000).chain(SIZES) {
         let key: [u8; 16] = bytes.take(16).try_into().unwrap();
         let message = bytes.take(n);
-        for pair in HASHES.iter().chain(&HASHES_256).chain([&CMAC, &BY_TABLES]) {
+        let hashes = HASHES.iter().chain(&HASHES_256);
+        for pair in hashes.chain([&MD5, &CMAC, &BY_TABLES]) {
             let (mut ours, mut plain) = ([0; 32], [0; 32]);
             (pair.ours)(&key, &message, &mut ours);
             (pair.plain)(&key, &message, &mut plain);
@@ -132,6 +141,18 @@ fn hashes_256() -> Outcome {
     measure(table, &HASHES_256, 0)
 }
 
+/// A short message is mostly the call and has no limit.
+fn md5_alone() -> Outcome {
+    let limit = Limit {
+        rows: "MD5 of 1,400 bytes and more by plain Rust",
+        ratio: 1.15,
+        wanted: true,
+    };
+    let title = "MD5 against plain Rust (rust/plain; 1,400 bytes and more have the limit).";
+    let table = Table::new(title, "function, bytes", "plain", ROUNDS, limit);
+    measure(table, &[MD5], 1_400)
+}
+
 fn cmac() -> Outcome {
     let limit = Limit {
         rows: "AES-CMAC by plain Rust",
@@ -156,8 +177,14 @@ fn cmac_by_tables() -> Outcome {
     measure(table, &[BY_TABLES], 1_400)
 }
 
-pub fn run() -> [Outcome; 4] {
+pub fn run() -> [Outcome; 5] {
     let inputs = compare();
     println!("{inputs} messages give the same by the archive and by plain Rust.");
-    [hashes(), hashes_256(), cmac(), cmac_by_tables()]
+    [
+        hashes(),
+        hashes_256(),
+        md5_alone(),
+        cmac(),
+        cmac_by_tables(),
+    ]
 }

@@ -1,5 +1,5 @@
-//! Checking a key table of 64 entries, against one HMAC-SHA-1 of 1,400 bytes and against the
-//! reference.
+//! Checking a key table of 64 entries, by itself and beside an MD5 table of 64, against one HMAC-SHA-1 of
+//! 1,400 bytes and against the reference.
 
 use crate::connection::{anybody, KEY};
 use crate::timing::{Limit, Outcome, Table};
@@ -8,6 +8,8 @@ use kit::{Boundary, Entry, Side};
 use std::hint::black_box;
 
 const ROUNDS: usize = 201;
+/// The row of both tables.
+const BOTH: &str = "IPv4, different IDs; 64 MD5 peers";
 /// Calls to a round.
 const COUNT: usize = 10;
 
@@ -58,6 +60,23 @@ const TABLES: [Entries; 4] = [
     },
 ];
 
+/// Beside the first of them, 64 peers by TCP MD5: each entry is compared with all before it, and then with all
+/// of the key table. The key table's entries are for anybody from elsewhere.
+fn both() -> [Vec<u8>; 2] {
+    let key = |i| Entry {
+        remote: Side::any(4).prefix(&[10, 0, 0, 0], 8),
+        ..anybody().ids(i, 100 + i)
+    };
+    let md5 = |i| Entry {
+        key: KEY.to_vec(),
+        ..Entry::md5(&[192, 0, 2, 1], &[192, 0, 2, i])
+    };
+    [
+        (0..64).flat_map(|i| key(i).bytes()).collect(),
+        (64..128).flat_map(|i| md5(i).bytes()).collect(),
+    ]
+}
+
 /// A host's IPv6 address whose last byte is given.
 fn host(last: u8) -> Side {
     let mut address = b"\x20\x01\x0d\xb8 IPv6 host ".to_vec();
@@ -84,9 +103,12 @@ pub fn against_hmac() -> Outcome {
     );
     for entries in &TABLES {
         let bytes = entries.bytes();
-        let mut ours = || check(ARCHIVE, &bytes);
+        let mut ours = || check(ARCHIVE, &bytes, &[]);
         table.row(entries.name, true, COUNT, &mut ours, &mut hmac);
     }
+    let [keys, md5] = both();
+    let mut ours = || check(ARCHIVE, &keys, &md5);
+    table.row(BOTH, false, COUNT, &mut ours, &mut hmac);
     table.end()
 }
 
@@ -106,13 +128,18 @@ pub fn against_reference() -> Outcome {
     for (i, entries) in TABLES.iter().enumerate() {
         let bytes = entries.bytes();
         let limited = i < 3;
-        let mut ours = || check(ARCHIVE, &bytes);
-        let mut reference = || check(REFERENCE, &bytes);
+        let mut ours = || check(ARCHIVE, &bytes, &[]);
+        let mut reference = || check(REFERENCE, &bytes, &[]);
         table.row(entries.name, limited, COUNT, &mut ours, &mut reference);
     }
+    let [keys, md5] = both();
+    let mut ours = || check(ARCHIVE, &keys, &md5);
+    let mut reference = || check(REFERENCE, &keys, &md5);
+    table.row(BOTH, false, COUNT, &mut ours, &mut reference);
     table.end()
 }
 
-fn check(boundary: Boundary, table: &[u8]) {
-    assert_eq!((boundary.check_table)(black_box(table)), 64 << 32);
+fn check(boundary: Boundary, keys: &[u8], md5: &[u8]) {
+    let answer = (boundary.check_table)(black_box(keys), black_box(md5));
+    assert_eq!(answer, 64 << 32);
 }

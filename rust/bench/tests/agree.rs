@@ -1,7 +1,7 @@
 //! The archive's calls on messages against plain Rust: on messages of every length to 300 bytes, on keys of
 //! every length to 100, and on buffers, keys and blocks of wrong lengths, which must stay as they are.
 
-use bench::{aes128, aes128_cmac, hmac_sha1, hmac_sha256, sha1, sha256, Bytes};
+use bench::{aes128, aes128_cmac, hmac_sha1, hmac_sha256, md5, sha1, sha256, Bytes};
 
 /// Calls with a buffer of `room` bytes: `want` stands at its front if it has room, and the rest stays.
 fn check(room: usize, can: bool, want: &[u8], call: impl Fn(&mut [u8]) -> u64) {
@@ -33,6 +33,9 @@ fn messages() {
         check(32, true, &plain::sha256::sha256(&message), |out| {
             sha256(&message, out)
         });
+        check(19, true, &plain::md5::md5(&message), |out| {
+            md5(&message, out)
+        });
         check(35, true, &plain::hmac::hmac_sha256(&key, &message), |out| {
             hmac_sha256(&key, &message, out)
         });
@@ -59,6 +62,9 @@ fn long_messages() {
         });
         check(32, true, &plain::sha256::sha256(&message), |out| {
             sha256(&message, out)
+        });
+        check(19, true, &plain::md5::md5(&message), |out| {
+            md5(&message, out)
         });
         check(16, true, &plain::cmac::cmac(&key, &message), |out| {
             aes128_cmac(&key, &message, out)
@@ -111,6 +117,7 @@ fn wrong_lengths() {
         check(room, true, &plain::hmac::hmac_sha256(&key, &block), |out| {
             hmac_sha256(&key, &block, out)
         });
+        check(room, true, &plain::md5::md5(&block), |out| md5(&block, out));
         check(room, true, &tag, |out| aes128_cmac(&key, &block, out));
         check(room, true, &cipher, |out| aes128(&key, &block, out));
         for n in (0..40).filter(|n| *n != 16) {

@@ -5,12 +5,14 @@ use crate::numbers::possible;
 use crate::prng::Prng;
 use crate::segments::{self, any_header};
 use crate::states::{distance, number};
-use crate::tables::{self, id, matches};
-use kit::segment::{ao, ACK, SYN};
+use crate::tables::{self, id, matches, md5_matches};
+use kit::entry::table;
+use kit::segment::{ao, md5, ACK, SYN};
 use kit::{Call, Entry, Function, Pair, Segment, State};
 use reference::mac::Ends;
+use reference::md5_table::Lent;
 
-/// The numbers aimed at. 10 stands for 10 to 17.
+/// The numbers aimed at. 10 stands for 10 to 17, and 110 for the MD5 table's.
 pub struct Aim(Vec<u8>);
 
 impl Aim {
@@ -21,7 +23,7 @@ impl Aim {
         let numbers: Vec<u8> = possible(function)
             .iter()
             .copied()
-            .filter(|number| !(0..=1).contains(number) && !(11..=17).contains(number))
+            .filter(|number| !matches!(number, 0 | 1 | 11..=17 | 111..=117))
             .collect();
         Aim((0..count).map(|_| random.pick(&numbers)).collect())
     }
@@ -34,13 +36,14 @@ impl Aim {
 /// One end as a call sees it.
 pub struct At<'a> {
     pub keys: &'a [Entry],
-    pub table: &'a [u8],
+    pub md5: &'a [Entry],
     pub state: &'a [u8],
 }
 
 impl At<'_> {
     fn call(&self, function: Function) -> Call {
-        let mut call = Call::new(function, self.table);
+        let mut call = Call::new(function, &table(self.keys));
+        call.md5 = table(self.md5);
         if function.takes_state() {
             call.state = self.state.to_vec();
         }
@@ -55,6 +58,19 @@ fn matching<'k>(random: &mut Prng, keys: &'k [Entry], pair: &Pair) -> Option<&'k
         return Some(good[random.below(good.len())]);
     }
     (!keys.is_empty()).then(|| &keys[random.below(keys.len())])
+}
+
+/// The MD5 entry that matches the pair, if there is one; otherwise any.
+fn md5_matching(random: &mut Prng, md5: &[Entry], pair: &Pair) -> Option<Entry> {
+    let good = md5.iter().find(|entry| md5_matches(entry, pair));
+    let any = || (!md5.is_empty()).then(|| &md5[random.below(md5.len())]);
+    good.or_else(any).cloned()
+}
+
+/// The MD5 table without what matches the pair: 26, or 35.
+fn without_match(md5: &[Entry], pair: &Pair) -> Vec<u8> {
+    let other = |entry: &&Entry| !md5_matches(entry, pair);
+    md5.iter().filter(other).flat_map(Entry::bytes).collect()
 }
 
 /// A KeyID for 26, most times: one off an entry's RecvID, its SendID, or any.
@@ -95,6 +111,24 @@ pub fn open_active(random: &mut Prng, at: &At, pair: &Pair, isn: u32, aim: &Aim)
     finished(random, call, at, aim)
 }
 
+pub fn open_active_md5(random: &mut Prng, at: &At, pair: &Pair, isn: u32, aim: &Aim) -> Call {
+    let mut call = at.call(Function::OpenActiveMd5);
+    let mut pair = pair.clone();
+    if aim.has(35) {
+        if random.one_in(2) {
+            call.md5 = without_match(at.md5, &pair);
+        } else {
+            other_pair(random, &mut pair);
+        }
+    }
+    call.source = pair.local;
+    call.destination = pair.remote;
+    call.local_port = pair.local_port;
+    call.remote_port = pair.remote_port;
+    call.isn = isn;
+    finished(random, call, at, aim)
+}
+
 pub fn ask(random: &mut Prng, at: &At, aim: &Aim) -> Call {
     let mut call = at.call(Function::Ask);
     let pair = State::read(at.state).map(|state| state.pair());
@@ -109,6 +143,8 @@ pub fn ask(random: &mut Prng, at: &At, aim: &Aim) -> Call {
 /// What an arriving segment is judged by.
 struct Arrival {
     pair: Pair,
+    /// Whether MD5 is due.
+    by_md5: bool,
     sequence: u32,
     extension: u32,
     source_isn: u32,
@@ -132,6 +168,7 @@ pub fn syn(random: &mut Prng, function: Function, at: &At, pair: &Pair, aim: &Ai
         SYN
     };
     let arrival = Arrival {
+        by_md5: at.md5.iter().any(|entry| md5_matches(entry, &pair)),
         pair,
         sequence,
         extension: 0,
@@ -167,6 +204,7 @@ pub fn judge(random: &mut Prng, at: &At, aim: &Aim) -> Call {
     let sequence = x as u32;
     let arrival = Arrival {
         pair: state.pair(),
+        by_md5: state.goes_by_md5(),
         sequence,
         extension: (x >> 32) as u32,
         source_isn: if state.is_open() {
@@ -198,13 +236,17 @@ fn near(random: &mut Prng, reference: u64, outside: bool) -> u64 {
     reference.wrapping_add(way as u64)
 }
 
-/// A call with an arriving segment that carries the MAC of an entry here.
-fn arriving(random: &mut Prng, function: Function, at: &At, arrival: Arrival, aim: &Aim) -> Call {
-    let mut pair = arrival.pair.clone();
-    if aim.has(23) || random.one_in(50) {
-        other_pair(random, &mut pair);
-    }
+/// The options that a segment is signed by, TCP-AO or MD5 or both, and the keys of the MAC and the digest.
+struct Signature {
+    options: Vec<Vec<u8>>,
+    key: Option<Entry>,
+    md5: Option<Entry>,
+    /// Whether what is in other options makes no difference to them.
+    left_out: bool,
+}
 
+/// Where TCP-AO is due.
+fn signed_by_ao(random: &mut Prng, at: &At, arrival: &Arrival, aim: &Aim) -> Signature {
     let key = matching(random, at.keys, &arrival.pair).cloned();
     let key_id = match &key {
         Some(key) if !aim.has(26) => key.recv_id,
@@ -230,11 +272,77 @@ fn arriving(random: &mut Prng, function: Function, at: &At, arrival: Arrival, ai
         };
         options.insert(random.below(options.len() + 1), second);
     } else if aim.has(25) {
-        options.extend((0..random.below(3)).map(|_| segments::md5(random)));
+        // Or two, which are 22.
+        let count = random.pick(&[0, 1, 1, 1, 2]);
+        options.extend((0..count).map(|_| segments::md5(random)));
     }
+    Signature {
+        options,
+        left_out: key.as_ref().is_some_and(|key| !key.covers_options()),
+        key,
+        md5: md5_matching(random, at.md5, &arrival.pair),
+    }
+}
+
+/// Where MD5 is due.
+fn signed_by_md5(random: &mut Prng, at: &At, arrival: &Arrival, aim: &Aim) -> Signature {
+    let key = matching(random, at.keys, &arrival.pair).cloned();
+    let length = if aim.has(27) {
+        random.pick(&[2, 3, 16, 17, 17, 19, 19, 20])
+    } else {
+        18
+    };
+    let key_id = key.as_ref().map_or(0, |key| key.recv_id);
+    let ao_length = key.as_ref().map_or(16, Entry::ao_length);
+    let by_ao = ao(
+        random.pick(&[4, 16, ao_length, ao_length]),
+        key_id,
+        id(random),
+    );
+    let mut options = vec![];
+    if aim.has(46) {
+        options.push(by_ao.clone());
+    } else if !aim.has(47) {
+        options.push(md5(length));
+    }
+    if aim.has(22) {
+        let second = match random.below(3) {
+            0 => by_ao,
+            1 => md5(2),
+            _ => segments::md5(random),
+        };
+        let room = options.iter().map(Vec::len).sum::<usize>() + second.len() <= 40;
+        let second = if room { second } else { md5(2) };
+        options.insert(random.below(options.len() + 1), second);
+    }
+    Signature {
+        options,
+        key,
+        md5: md5_matching(random, at.md5, &arrival.pair),
+        left_out: true,
+    }
+}
+
+/// A call with an arriving segment that carries the MAC, or the digest, of an entry here.
+fn arriving(random: &mut Prng, function: Function, at: &At, arrival: Arrival, aim: &Aim) -> Call {
+    let mut pair = arrival.pair.clone();
+    if aim.has(23) || random.one_in(50) {
+        other_pair(random, &mut pair);
+    }
+    let Signature {
+        mut options,
+        key,
+        md5,
+        left_out,
+    } = if arrival.by_md5 {
+        signed_by_md5(random, at, &arrival, aim)
+    } else {
+        signed_by_ao(random, at, &arrival, aim)
+    };
+
     // Where the MAC leaves options out, now and then one by which 0000 and FFFF are both right.
-    let left_out = key.as_ref().is_some_and(|key| !key.covers_options());
-    let balanced = left_out && length <= 32 && random.one_in(6);
+    let room = options.iter().map(Vec::len).sum::<usize>() <= 32;
+    let balanced = left_out && room && random.one_in(6);
     if balanced && options.len() < 2 {
         options.push(segments::WORD.to_vec());
     }
@@ -280,6 +388,9 @@ fn arriving(random: &mut Prng, function: Function, at: &At, arrival: Arrival, ai
         }
         segments::seal(&mut segment, key, &ends, extension);
     }
+    if let Some(md5) = &md5 {
+        segments::seal_md5(&mut segment, md5, &pair.remote, &pair.local);
+    }
     if aim.has(29) {
         random.flip(&mut segment[18..]);
     }
@@ -295,6 +406,9 @@ fn arriving(random: &mut Prng, function: Function, at: &At, arrival: Arrival, ai
     }
 
     let mut call = at.call(function);
+    if arrival.by_md5 && aim.has(26) {
+        call.md5 = without_match(at.md5, &arrival.pair);
+    }
     call.source = pair.remote;
     call.destination = pair.local;
     call.segment = segment;
@@ -330,11 +444,16 @@ pub fn sign(random: &mut Prng, at: &At, aim: &Aim) -> Call {
         state.outgoing_send_id = any.map_or(state.outgoing_send_id, |key| key.send_id);
     }
     let key = good.find(of_id(state.outgoing_send_id));
-    let added = key.map_or(16, Entry::added);
+    let by_md5 = state.goes_by_md5();
+    let added = match key {
+        _ if by_md5 => 20,
+        Some(key) => key.added(),
+        None => 16,
+    };
 
     let (sequence, flags) = if state.is_open() {
         let x = near(random, state.signing_reference, aim.has(36));
-        let syn_ack = random.one_in(6);
+        let syn_ack = random.one_in(if by_md5 { 3 } else { 6 });
         let sequence = if syn_ack && !aim.has(36) {
             state.our_isn
         } else {
@@ -360,7 +479,7 @@ pub fn sign(random: &mut Prng, at: &At, aim: &Aim) -> Call {
     }
     let free = 40 - added;
     // Where the MAC leaves options out, now and then one by which the checksum will be 0000.
-    let left_out = key.is_some_and(|key| !key.covers_options());
+    let left_out = by_md5 || key.is_some_and(|key| !key.covers_options());
     let balanced = left_out && options.is_empty() && random.one_in(8);
     if balanced {
         options.push(segments::WORD.to_vec());
@@ -377,7 +496,7 @@ pub fn sign(random: &mut Prng, at: &At, aim: &Aim) -> Call {
             let more = random.below(added / 4);
             area.resize(free + random.pick(&[4, 4 + 4 * more]), 1);
         } else {
-            // The result is too long, often by less than what pads TCP-AO.
+            // The result is too long, often by less than what pads TCP-AO or MD5.
             data.resize(most + random.pick(&[1, 1, 2, 3, 16]), 7);
         }
     }
@@ -392,7 +511,7 @@ pub fn sign(random: &mut Prng, at: &At, aim: &Aim) -> Call {
     }
     .bytes();
     if balanced {
-        balance_signed(&mut segment, &state, at.table);
+        balance_signed(&mut segment, &state, at);
     }
     if aim.has(33) {
         random.flip(&mut segment[0..4]);
@@ -403,8 +522,12 @@ pub fn sign(random: &mut Prng, at: &At, aim: &Aim) -> Call {
 
     let signed = segment.len() + added;
     let room = if aim.has(37) {
-        // Often room for TCP-AO alone, and not for what pads it.
-        let unpadded = key.map_or(16, |key| key.ao_length().into());
+        // Often room for TCP-AO or MD5 alone, and not for what pads it.
+        let unpadded = match key {
+            _ if by_md5 => 18,
+            Some(key) => key.ao_length().into(),
+            None => 16,
+        };
         let any = random.below(signed);
         random.pick(&[0, signed - 1, segment.len() + unpadded.min(added - 1), any])
     } else {
@@ -412,6 +535,9 @@ pub fn sign(random: &mut Prng, at: &At, aim: &Aim) -> Call {
     };
 
     let mut call = at.call(Function::Sign);
+    if by_md5 && aim.has(35) {
+        call.md5 = without_match(at.md5, &pair);
+    }
     call.state = state.bytes();
     call.segment = segment;
     call.out = random.bytes(room.min(70_000));
@@ -420,10 +546,12 @@ pub fn sign(random: &mut Prng, at: &At, aim: &Aim) -> Call {
 
 /// Chooses the bytes of the option that is there for it so that the checksum of what is signed is 0000: by
 /// signing it once, since this only aims.
-fn balance_signed(segment: &mut [u8], state: &State, table: &[u8]) {
+fn balance_signed(segment: &mut [u8], state: &State, at: &At) {
     let bytes = state.bytes();
     let state = reference::State::from_bytes(&bytes).unwrap();
-    let Ok(signed) = reference::calls::sign(table, segment, usize::MAX, &state) else {
+    let (keys, md5) = (&table(at.keys)[..], &table(at.md5)[..]);
+    let Ok(signed) = reference::calls::sign(&Lent { keys, md5 }, segment, usize::MAX, &state)
+    else {
         return;
     };
     let checksum = u16::from_be_bytes([signed.segment[16], signed.segment[17]]);
@@ -454,8 +582,16 @@ fn finished(random: &mut Prng, mut call: Call, at: &At, aim: &Aim) -> Call {
         call.source.resize(one, 1);
         call.destination.resize(other, 1);
     }
+    let (mut keys, mut md5) = (at.keys.to_vec(), at.md5.to_vec());
+    if aim.has(45) {
+        tables::overlapping(random, &mut keys, &mut md5);
+        (call.table, call.md5) = (table(&keys), table(&md5));
+    }
     if aim.has(10) {
-        call.table = tables::spoilt(random, at.keys);
+        call.table = tables::spoilt(random, &keys);
+    }
+    if aim.has(110) {
+        call.md5 = tables::spoilt_md5(random, &md5);
     }
     if random.one_in(30) {
         disturb(random, &mut call);
@@ -474,7 +610,14 @@ fn finished(random: &mut Prng, mut call: Call, at: &At, aim: &Aim) -> Call {
 
 /// Changes bits anywhere, or puts any bytes in the place of a part.
 fn disturb(random: &mut Prng, call: &mut Call) {
-    for part in [&mut call.table, &mut call.state, &mut call.segment] {
+    let Call {
+        table,
+        md5,
+        state,
+        segment,
+        ..
+    } = call;
+    for part in [table, md5, state, segment] {
         if part.is_empty() {
             continue;
         }

@@ -1,10 +1,11 @@
 //! What a run has met: each number of each call, and situations that no number tells.
 
-use crate::numbers::{possible, ALL};
+use crate::md5::ByMd5;
+use crate::numbers::{named, possible, ALL, OF_MD5};
 use crate::translation::{Rewritten, Translation};
 use crate::unknown::{Matched, Unknown};
 use kit::segment::summed;
-use kit::Function::{Judge, JudgeSyn, OpenPassive};
+use kit::Function::{Ask, Judge, JudgeSyn, OpenPassive, Sign};
 use kit::{Call, Function, Outcome};
 use reference::segment::{read_options, AoOption, Header};
 use reference::state::{State, COUNTED};
@@ -39,6 +40,8 @@ struct Seen<'a> {
     unknown: Option<Unknown>,
     /// Of a segment that the other end signed and in which something was translated on the way.
     rewritten: Option<Over>,
+    /// Of a call where MD5 is due, or that has MD5 entries.
+    by_md5: ByMd5,
 }
 
 /// What was translated on the way of a segment, and the entry by which it was accepted or dropped with 29.
@@ -114,7 +117,7 @@ enum Asked {
 
 type Situation = (&'static str, fn(&Seen) -> bool);
 
-const SITUATIONS: [Situation; 164] = [
+const SITUATIONS: [Situation; 236] = [
     ("accepted at the reference: repeated", |seen| {
         seen.open(|a, reference| a.position == reference)
     }),
@@ -551,6 +554,224 @@ const SITUATIONS: [Situation; 164] = [
         let refused = seen.call.function == Function::Sign && seen.outcome.number() == 33;
         refused && seen.with_key(|key| key.local_nat || key.remote_nat)
     }),
+    ("accepted by MD5 once open, IPv4", |seen| {
+        seen.md5(Judge, 0, |m| m.open) && seen.family(4)
+    }),
+    ("accepted by MD5 while opening, IPv4", |seen| {
+        seen.md5(Judge, 0, |m| !m.open) && seen.family(4)
+    }),
+    ("judge_syn, accepted by MD5, IPv4", |seen| {
+        seen.md5(JudgeSyn, 0, |_| seen.call.source.len() == 4)
+    }),
+    ("open_passive, accepted by MD5, IPv4", |seen| {
+        seen.md5(OpenPassive, 0, |_| seen.call.source.len() == 4)
+    }),
+    ("signed by MD5 once open, IPv4", |seen| {
+        seen.md5(Sign, 0, |m| m.open) && seen.family(4)
+    }),
+    ("signed by MD5 while opening, IPv4", |seen| {
+        seen.md5(Sign, 0, |m| !m.open) && seen.family(4)
+    }),
+    ("accepted by MD5 once open, IPv6", |seen| {
+        seen.md5(Judge, 0, |m| m.open) && seen.family(6)
+    }),
+    ("accepted by MD5 while opening, IPv6", |seen| {
+        seen.md5(Judge, 0, |m| !m.open) && seen.family(6)
+    }),
+    ("judge_syn, accepted by MD5, IPv6", |seen| {
+        seen.md5(JudgeSyn, 0, |_| seen.call.source.len() == 16)
+    }),
+    ("open_passive, accepted by MD5, IPv6", |seen| {
+        seen.md5(OpenPassive, 0, |_| seen.call.source.len() == 16)
+    }),
+    ("signed by MD5 once open, IPv6", |seen| {
+        seen.md5(Sign, 0, |m| m.open) && seen.family(6)
+    }),
+    ("signed by MD5 while opening, IPv6", |seen| {
+        seen.md5(Sign, 0, |m| !m.open) && seen.family(6)
+    }),
+    ("accepted by MD5, not at byte 20", |seen| {
+        seen.md5(Judge, 0, |m| m.at != 20)
+    }),
+    ("accepted by MD5 where the number has no position", |seen| {
+        seen.md5(Judge, 0, |m| m.open && !m.position)
+    }),
+    ("accepted by MD5, a reference from 2^32 on", |seen| {
+        seen.md5(Judge, 0, |m| {
+            m.open && seen.before.arriving_reference >> 32 > 0
+        })
+    }),
+    ("accepted by MD5, a key of 1 byte", |seen| {
+        seen.md5(Judge, 0, |m| m.key_bytes == 1)
+    }),
+    ("accepted by MD5, a key of 80 bytes", |seen| {
+        seen.md5(Judge, 0, |m| m.key_bytes == 80)
+    }),
+    ("accepted by MD5, the count at its stop", |seen| {
+        seen.md5(Judge, 0, |m| m.open && seen.before.accepted == u64::MAX)
+    }),
+    ("accepted by MD5 while opening, IDs not 0", |seen| {
+        seen.md5(Judge, 0, |m| !m.open && seen.before.asked_recv_id != 0)
+    }),
+    ("accepted by MD5, an odd length", |seen| {
+        seen.md5(Judge, 0, |_| seen.call.segment.len() % 2 == 1)
+    }),
+    ("accepted by MD5, FFFF where 0000 would do", |seen| {
+        seen.md5(Judge, 0, |_| seen.field() == Some(0xffff))
+    }),
+    ("accepted on a way above 1", |seen| {
+        seen.not_md5(0, |m| m.open && seen.before.way > 1)
+    }),
+    ("accepted while opening on a way above 1", |seen| {
+        seen.not_md5(0, |m| !m.open && seen.before.way > 1)
+    }),
+    ("46 once open", |seen| seen.md5(Judge, 46, |m| m.open)),
+    ("46 while opening", |seen| seen.md5(Judge, 46, |m| !m.open)),
+    ("46, the count at its stop", |seen| {
+        seen.md5(Judge, 46, |m| m.open && seen.before.drops[11] == u64::MAX)
+    }),
+    ("46 where no MD5 entry matches", |seen| {
+        seen.md5(Judge, 46, |m| m.key_bytes == 0)
+    }),
+    ("47 once open", |seen| seen.md5(Judge, 47, |m| m.open)),
+    ("47 while opening", |seen| seen.md5(Judge, 47, |m| !m.open)),
+    ("47, the count at its stop", |seen| {
+        seen.md5(Judge, 47, |m| m.open && seen.before.drops[12] == u64::MAX)
+    }),
+    ("47 where no MD5 entry matches", |seen| {
+        seen.md5(Judge, 47, |m| m.key_bytes == 0)
+    }),
+    ("46 of a segment whose MAC is right", |seen| {
+        seen.md5(Judge, 46, |m| m.mac_right)
+    }),
+    ("25 of a segment whose digest is right", |seen| {
+        seen.not_md5(25, |m| m.digest_right)
+    }),
+    ("25 of a segment with MD5", |seen| {
+        seen.not_md5(25, |m| m.count == 1)
+    }),
+    ("22 by two MD5 where MD5 is due", |seen| {
+        seen.md5(Judge, 22, |m| m.count >= 2 && !m.ao)
+    }),
+    ("22 by two MD5 where TCP-AO is due", |seen| {
+        seen.not_md5(22, |m| m.count >= 2 && !m.ao)
+    }),
+    ("22 by MD5 and TCP-AO where MD5 is due", |seen| {
+        seen.md5(Judge, 22, |m| m.count >= 1 && m.ao)
+    }),
+    ("26 by MD5", |seen| seen.md5(Judge, 26, |_| true)),
+    ("27 by MD5, 17 bytes", |seen| {
+        seen.md5(Judge, 27, |m| m.length == 17)
+    }),
+    ("27 by MD5, 19 bytes", |seen| {
+        seen.md5(Judge, 27, |m| m.length == 19)
+    }),
+    ("judge_syn, 27 by MD5", |seen| {
+        seen.md5(JudgeSyn, 27, |_| true)
+    }),
+    ("open_passive, 27 by MD5", |seen| {
+        seen.md5(OpenPassive, 27, |_| true)
+    }),
+    ("29 by MD5", |seen| seen.md5(Judge, 29, |_| true)),
+    ("judge_syn, 29 by MD5", |seen| {
+        seen.md5(JudgeSyn, 29, |_| true)
+    }),
+    ("open_passive, 29 by MD5", |seen| {
+        seen.md5(OpenPassive, 29, |_| true)
+    }),
+    ("judge_syn, 46 with the setting pass", |seen| {
+        seen.md5(JudgeSyn, 46, |_| seen.call.byte == 0)
+    }),
+    ("judge_syn, 47 with the setting pass", |seen| {
+        seen.md5(JudgeSyn, 47, |_| seen.call.byte == 0)
+    }),
+    ("judge_syn, a SYN with MD5 passes", |seen| {
+        seen.call.function == JudgeSyn && seen.outcome.number() == 1 && seen.by_md5.count == 1
+    }),
+    ("judge_syn, 25 of a SYN with MD5", |seen| {
+        seen.call.function == JudgeSyn && seen.outcome.number() == 25 && seen.by_md5.count == 1
+    }),
+    ("signed by MD5 where the number has no position", |seen| {
+        seen.md5(Sign, 0, |m| m.open && !m.position)
+    }),
+    ("signed by MD5, a SYN+ACK beside the reference", |seen| {
+        seen.md5(Sign, 0, |m| {
+            m.open && m.syn && seen.before.signing_reference >> 32 > 0
+        })
+    }),
+    (
+        "signed by MD5, a SYN, the reference below our ISN",
+        |seen| {
+            seen.md5(Sign, 0, |m| {
+                !m.open && seen.before.signing_reference < u64::from(seen.before.our_isn)
+            })
+        },
+    ),
+    ("signed by MD5, options behind", |seen| {
+        seen.md5(Sign, 0, |m| m.offset > 5)
+    }),
+    ("signed by MD5, the checksum 0000", |seen| {
+        seen.md5(Sign, 0, |_| seen.outcome.out[16..18] == [0, 0])
+    }),
+    ("signed by MD5, an odd length", |seen| {
+        seen.md5(Sign, 0, |_| seen.call.segment.len() % 2 == 1)
+    }),
+    (
+        "32 by MD5, the data offset at most 15 but for the padding",
+        |seen| seen.md5(Sign, 32, |m| m.offset == 11),
+    ),
+    (
+        "32 by MD5, at most 65,535 bytes but for the padding",
+        |seen| {
+            seen.md5(Sign, 32, |m| {
+                m.offset <= 10 && seen.call.segment.len() <= 65_517
+            })
+        },
+    ),
+    ("35 by MD5", |seen| seen.md5(Sign, 35, |_| true)),
+    ("35 by MD5 of a segment too large", |seen| {
+        seen.md5(Sign, 35, |m| m.offset > 10)
+    }),
+    ("36 by MD5 once open", |seen| seen.md5(Sign, 36, |m| m.open)),
+    ("36 by MD5 while opening", |seen| {
+        seen.md5(Sign, 36, |m| !m.open)
+    }),
+    ("37 by MD5, room but for the padding", |seen| {
+        seen.md5(Sign, 37, |_| {
+            seen.call.out.len() >= seen.call.segment.len() + 18
+        })
+    }),
+    ("ask, 35 by MD5 of a RecvID that the pair has", |seen| {
+        seen.md5(Ask, 35, |_| seen.state_entry(seen.call.byte, |_| true))
+    }),
+    ("a table of 64 MD5 entries, not refused", |seen| {
+        seen.by_md5.entries == 64
+    }),
+    ("45 at entry 0", |seen| {
+        seen.forty_five(|_| seen.outcome.value() == 0)
+    }),
+    ("45 at a later entry", |seen| {
+        seen.forty_five(|_| seen.outcome.value() > 0)
+    }),
+    ("45 with a key entry of another index", |seen| {
+        seen.forty_five(|m| m.overlaps > 1)
+    }),
+    ("45, several MD5 entries overlap", |seen| {
+        seen.forty_five(|m| m.overlapping > 1)
+    }),
+    ("45 beside a segment of a bad length", |seen| {
+        seen.forty_five(|_| {
+            seen.call.function == Judge && Header::read(&seen.call.segment).is_none()
+        })
+    }),
+    (
+        "the MD5 table refused behind an entry that 45 is for",
+        |seen| seen.by_md5.refused_behind,
+    ),
+    ("both tables refused", |seen| seen.by_md5.both_refused),
+    ("tables of two families that would overlap in one", |seen| {
+        seen.by_md5.other_family
+    }),
 ];
 
 /// Whether something was translated on both sides.
@@ -599,7 +820,29 @@ impl<'a> Seen<'a> {
             accepted: accepts.then(|| accepted(call, outcome, &before)).flatten(),
             unknown: Unknown::of(call, outcome),
             rewritten: Over::of(call, way, outcome),
+            by_md5: ByMd5::of(call, outcome),
         }
+    }
+
+    /// Whether MD5 is due, and this call gave this number, with such a segment and state.
+    fn md5(&self, function: Function, number: u8, which: impl Fn(&ByMd5) -> bool) -> bool {
+        let here = self.call.function == function && self.outcome.number() == number;
+        here && self.by_md5.due && which(&self.by_md5)
+    }
+
+    /// Whether TCP-AO is due on this connection, and judging gave this number.
+    fn not_md5(&self, number: u8, which: impl Fn(&ByMd5) -> bool) -> bool {
+        let judged = self.call.function == Judge && self.outcome.number() == number;
+        judged && !self.by_md5.due && which(&self.by_md5)
+    }
+
+    /// Whether the table was refused with 45 so.
+    fn forty_five(&self, which: impl Fn(&ByMd5) -> bool) -> bool {
+        self.outcome.number() == 45 && which(&self.by_md5)
+    }
+
+    fn family(&self, family: u8) -> bool {
+        self.before.family == family
     }
 
     /// Whether a segment in which something was translated got this number, and so.
@@ -798,6 +1041,14 @@ fn accepted(call: &Call, outcome: &Outcome, before: &State) -> Option<Accepted> 
     })
 }
 
+/// A number as it is printed.
+fn shown(number: u8) -> String {
+    match number {
+        110..=117 => format!("MD5 {}", number - OF_MD5),
+        number => number.to_string(),
+    }
+}
+
 /// The place of a number in [`ALL`]; the place behind it is for numbers that are not there.
 fn place(number: u8) -> usize {
     ALL.iter().position(|n| *n == number).unwrap_or(ALL.len())
@@ -805,7 +1056,7 @@ fn place(number: u8) -> usize {
 
 impl Counts {
     pub fn add(&mut self, call: &Call, way: Option<Translation>, outcome: &Outcome) {
-        self.numbers[call.function as usize][place(outcome.number())] += 1;
+        self.numbers[call.function as usize][place(named(outcome))] += 1;
         let seen = Seen::new(call, way, outcome);
         for (count, (_, which)) in self.situations.iter_mut().zip(SITUATIONS) {
             *count += which(&seen) as u64;
@@ -832,9 +1083,11 @@ impl Counts {
                 let name = function.name();
                 if possible(function).contains(&number) {
                     if *count < LEAST {
+                        let number = shown(number);
                         faults.push(format!("{name} gave {number} only {count} times"));
                     }
                 } else if *count > 0 {
+                    let number = shown(number);
                     faults.push(format!("{name} gave {number}, which it never should"));
                 }
             }
@@ -851,16 +1104,16 @@ impl Counts {
     pub fn print(&self) {
         print!("number");
         for function in Function::ALL {
-            print!("{:>13}", function.name());
+            print!("{:>16}", function.name());
         }
         println!();
         for number in ALL {
-            print!("{number:>6}");
+            print!("{:>6}", shown(number));
             for function in Function::ALL {
                 if possible(function).contains(&number) {
-                    print!("{:>13}", self.numbers[function as usize][place(number)]);
+                    print!("{:>16}", self.numbers[function as usize][place(number)]);
                 } else {
-                    print!("{:>13}", "never");
+                    print!("{:>16}", "never");
                 }
             }
             println!();

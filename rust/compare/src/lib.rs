@@ -4,7 +4,7 @@
 //! [`translation`]).
 //! Each is made on the archive ([`archive`]) and on the reference ([`against`]), and after each the
 //! answer, the state, the output and what stands around them are compared ([`compare`]). Which
-//! numbers and which situations were met is counted ([`counts`], [`numbers`], [`unknown`]).
+//! numbers and which situations were met is counted ([`counts`], [`numbers`], [`unknown`], [`md5`]).
 //!
 //! Without the feature `archive` the reference stands in the archive's place: what the calls meet, and
 //! which planted faults they find, is then seen where there is no archive.
@@ -18,6 +18,7 @@ pub mod archive;
 pub mod archive;
 pub mod compare;
 pub mod counts;
+pub mod md5;
 pub mod numbers;
 pub mod prng;
 pub mod report;

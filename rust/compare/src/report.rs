@@ -23,13 +23,14 @@ pub fn difference(difference: &Difference) -> String {
 
 /// A call, each part cut behind so many bytes.
 pub fn lines(call: &Call, most: usize) -> String {
-    let mut text = format!("  tcpao_{}\n", call.function.name());
+    let mut text = format!("  {}\n", call.function.c_name());
     let (source, destination) = match call.function {
-        Function::OpenActive => ("local", "remote"),
+        Function::OpenActive | Function::OpenActiveMd5 => ("local", "remote"),
         _ => ("source", "destination"),
     };
     let parts = [
-        ("table", &call.table),
+        ("keys", &call.table),
+        ("md5", &call.md5),
         (source, &call.source),
         (destination, &call.destination),
         ("segment", &call.segment),
@@ -50,6 +51,9 @@ pub fn lines(call: &Call, most: usize) -> String {
     text += &match call.function {
         Function::OpenActive => {
             format!("  ports {local_port} and {remote_port}, isn {isn}, send_id {byte}\n")
+        }
+        Function::OpenActiveMd5 => {
+            format!("  ports {local_port} and {remote_port}, isn {isn}\n")
         }
         Function::JudgeSyn => format!("  setting {byte}\n"),
         Function::OpenPassive => format!("  isn {isn}, setting {byte}\n"),

@@ -6,6 +6,7 @@ use kit::segment::{sum, ACK, SYN};
 use kit::{Entry, Segment};
 use reference::mac::{self, Direction, Ends};
 use reference::segment::{read_options, Header, WithAo};
+use reference::tcp_md5;
 
 /// A segment in which what no rule looks at (acknowledgment, reserved bits, window ...) is any.
 pub fn any_header(random: &mut Prng) -> Segment {
@@ -160,6 +161,20 @@ pub fn seal(segment: &mut [u8], key: &Entry, ends: &Ends, extension: u32) {
     };
     let mac = mac::mac(&entry, Direction::Arriving, ends, extension, &carrier);
     segment[ao.at + 4..ao.at + 4 + mac.len()].copy_from_slice(&mac);
+}
+
+/// Writes the digest that the key gives into the first MD5, if there is one with room for it.
+pub fn seal_md5(segment: &mut [u8], key: &Entry, source: &[u8], destination: &[u8]) {
+    let Some(header) = Header::read(segment) else {
+        return;
+    };
+    let Some(md5) = read_options(segment, &header).and_then(|options| options.md5) else {
+        return;
+    };
+    if md5.length >= 18 && source.len() == destination.len() {
+        let digest = tcp_md5::digest(source, destination, segment, &header, &key.key);
+        segment[md5.at + 2..md5.at + 18].copy_from_slice(&digest);
+    }
 }
 
 /// An option of four bytes whose last two may be any, to be found again by [`balance`].

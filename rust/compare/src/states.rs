@@ -55,8 +55,18 @@ fn count(random: &mut Prng) -> u64 {
     }
 }
 
+/// The way of a connection, mostly as `by_md5` says.
+fn way(random: &mut Prng, by_md5: bool) -> u8 {
+    let other = random.pick(&[0, 1, 2, 19, 255]);
+    match random.below(8) {
+        0 => other,
+        1 if !by_md5 && other != 1 => other,
+        _ => by_md5 as u8,
+    }
+}
+
 /// A state of this pair with anything else in it; now and then not even that, but always of a state's length.
-pub fn any_state(random: &mut Prng, pair: &Pair) -> State {
+pub fn any_state(random: &mut Prng, pair: &Pair, by_md5: bool) -> State {
     let bytes = random.bytes(State::BYTES);
     let mut state = State::read(&bytes).unwrap();
     if !random.one_in(20) {
@@ -73,6 +83,7 @@ pub fn any_state(random: &mut Prng, pair: &Pair) -> State {
     }
     state.accepted = count(random);
     state.drops = state.drops.map(|_| count(random));
+    state.way = way(random, by_md5);
     if !random.one_in(20) {
         state.put_pair(pair);
     }

@@ -1,9 +1,10 @@
-//! Key tables: entries around a socket pair, and the faults that 10 to 17 refuse.
+//! Key tables and MD5 tables: entries around a socket pair, and the faults that 10 to 17 and 45 refuse.
 
 use crate::prng::Prng;
 use crate::translation::{Rewritten, Translation};
 use kit::entry::table;
 use kit::{Entry, Pair, Side};
+use reference::md5_table::{self, Lent};
 
 /// The pair as the other end holds it: in half of the cases the same; otherwise the address, the port or both
 /// of one side, or of both, are translated on the way.
@@ -212,15 +213,26 @@ fn relative(random: &mut Prng, this: &Entry) -> Entry {
     entry
 }
 
-/// Whether an entry matches the pair; the reference is asked, since this only aims.
-pub fn matches(entry: &Entry, pair: &Pair) -> bool {
-    let pair = reference::table::Pair {
+/// A pair, for the reference.
+fn lent(pair: &Pair) -> reference::table::Pair<'_> {
+    reference::table::Pair {
         local: &pair.local,
         remote: &pair.remote,
         local_port: pair.local_port,
         remote_port: pair.remote_port,
-    };
-    self::entry(&entry.bytes()).is_some_and(|entry| entry.matches(&pair))
+    }
+}
+
+/// Whether an entry matches the pair; the reference is asked, since this only aims.
+pub fn matches(entry: &Entry, pair: &Pair) -> bool {
+    self::entry(&entry.bytes()).is_some_and(|entry| entry.matches(&lent(pair)))
+}
+
+/// Whether an MD5 entry does.
+pub fn md5_matches(entry: &Entry, pair: &Pair) -> bool {
+    let bytes = entry.bytes();
+    let entries = md5_table::read(&bytes).unwrap_or_default();
+    md5_table::matching(&entries, &lent(pair)).is_some()
 }
 
 /// The entry that these bytes are alone, if a table may have it.
@@ -229,7 +241,7 @@ pub fn entry(bytes: &[u8]) -> Option<reference::table::Entry<'_>> {
 }
 
 /// A table around a pair that is (nearly always) valid: some entries match the pair, others reuse
-/// their IDs beside it, some are of another pair or family. In one table of five those made for the
+/// their IDs beside it, some are of another pair or family. In one table of four those made for the
 /// pair are for it alone.
 pub fn around(random: &mut Prng, pair: &Pair) -> Vec<Entry> {
     let large = random.one_in(50);
@@ -238,7 +250,7 @@ pub fn around(random: &mut Prng, pair: &Pair) -> Vec<Entry> {
         _ if large => 64,
         _ => random.below(8),
     };
-    let narrow = random.one_in(5);
+    let narrow = random.one_in(4);
     let mut keys: Vec<Entry> = vec![];
     for _ in 0..3 * count {
         if keys.len() == count {
@@ -262,6 +274,120 @@ pub fn around(random: &mut Prng, pair: &Pair) -> Vec<Entry> {
         }
     }
     keys
+}
+
+/// An MD5 entry with this entry's sides.
+fn md5_of(random: &mut Prng, entry: &Entry) -> Entry {
+    let any = 1 + random.below(80);
+    let length = random.pick(&[1, 16, 18, 64, 80, any]);
+    Entry {
+        flags: 0,
+        algorithm: 19,
+        send_id: 0,
+        recv_id: 0,
+        mac_length: None,
+        key: random.bytes(length),
+        ..entry.clone()
+    }
+}
+
+/// An MD5 table that is (nearly always) valid, of which the first entry is for the pair where `for_pair` says
+/// so; the others are near it, or anywhere.
+fn md5_around(random: &mut Prng, pair: &Pair, for_pair: bool) -> Vec<Entry> {
+    if random.one_in(50) {
+        return full_md5(random, pair);
+    }
+    let mut entries: Vec<Entry> = vec![];
+    if for_pair {
+        let sides = match random.below(3) {
+            0 => self::for_pair(random, pair),
+            _ => only_pair(random, pair),
+        };
+        entries.push(md5_of(random, &sides));
+    }
+    for _ in 0..random.below(4) {
+        let sides = match entries.last() {
+            Some(last) if random.one_in(2) => {
+                let last = last.clone();
+                relative(random, &last)
+            }
+            _ => any(random),
+        };
+        entries.push(md5_of(random, &sides));
+        if md5_table::read(&table(&entries)).is_err() && !random.one_in(60) {
+            entries.pop();
+        }
+    }
+    entries
+}
+
+/// 64 MD5 entries for as many of the peer's ports, the pair's among them.
+fn full_md5(random: &mut Prng, pair: &Pair) -> Vec<Entry> {
+    let sides = only_pair(random, pair);
+    let entry = md5_of(random, &sides);
+    let first = pair.remote_port.wrapping_sub(random.below(64) as u16);
+    let one = |step: u16| Entry {
+        remote: entry
+            .remote
+            .clone()
+            .ports(first.wrapping_add(step), first.wrapping_add(step)),
+        ..entry.clone()
+    };
+    (0..64).map(one).collect()
+}
+
+/// Whether a pair exists that a key entry and an MD5 entry both match.
+fn overlap(key: &Entry, md5: &Entry) -> bool {
+    let (keys, md5) = (&key.bytes()[..], &md5.bytes()[..]);
+    let refused = Lent { keys, md5 }.read().err();
+    refused.is_some_and(|refusal| refusal.number == 45)
+}
+
+/// A key table and an MD5 table around a pair, the one that is for it as `by_md5` says. What overlaps is taken
+/// out of the other, but for one case in 60.
+pub fn both_around(random: &mut Prng, pair: &Pair, by_md5: bool) -> (Vec<Entry>, Vec<Entry>) {
+    let mut keys = around(random, pair);
+    let mut md5 = md5_around(random, pair, by_md5);
+    if by_md5 {
+        // Other peers', so that some are left.
+        let other = self::pair(random);
+        keys.extend(around(random, &other).into_iter().take(3));
+        if entry(&table(&keys)).is_none() {
+            keys.clear();
+        }
+    }
+    if !random.one_in(60) {
+        keep_apart(&mut keys, &mut md5, by_md5);
+    }
+    (keys, md5)
+}
+
+/// Takes out of the key table, or of the MD5 table, what overlaps with the other.
+pub fn keep_apart(keys: &mut Vec<Entry>, md5: &mut Vec<Entry>, by_md5: bool) {
+    if by_md5 {
+        keys.retain(|key| !md5.iter().any(|entry| overlap(key, entry)));
+    } else {
+        md5.retain(|entry| !keys.iter().any(|key| overlap(key, entry)));
+    }
+}
+
+/// An MD5 entry that overlaps with one of the keys, or just does not, anywhere in the MD5 table: 45.
+pub fn overlapping(random: &mut Prng, keys: &mut Vec<Entry>, md5: &mut Vec<Entry>) {
+    if keys.is_empty() {
+        keys.push(any(random));
+    }
+    for _ in 0..random.pick(&[1, 1, 2]) {
+        let which = random.below(keys.len());
+        let sides = match random.below(3) {
+            0 => keys[which].clone(),
+            _ => relative(random, &keys[which].clone()),
+        };
+        let entry = md5_of(random, &sides);
+        md5.retain(|other| md5_table::read(&table(&[other.clone(), entry.clone()])).is_ok());
+        if md5.len() < 64 {
+            md5.insert(random.below(md5.len() + 1), entry);
+        }
+    }
 }
 
 /// Often hides at this end the sides that are translated on the way to the other one.
@@ -296,6 +422,27 @@ fn sides_there(random: &mut Prng, key: &mut Entry, pair: &Pair, other: &Pair) {
     if !theirs && is_for(&key.remote, &pair.remote, pair.remote_port) {
         key.remote = side_around(random, &other.local, other.local_port);
     }
+}
+
+/// The other end's MD5 table: mirrors, now and then one missing, or with another key.
+pub fn md5_there(random: &mut Prng, md5: &[Entry], pair: &Pair, other: &Pair) -> Vec<Entry> {
+    let mut theirs = vec![];
+    for entry in md5 {
+        let mut entry = entry.clone();
+        sides_there(random, &mut entry, pair, other);
+        let mut entry = entry.mirror();
+        match random.below(16) {
+            0 => continue,
+            1 => random.flip(&mut entry.key),
+            2 => entry.key.truncate(1),
+            _ => {}
+        }
+        theirs.push(entry);
+        if md5_table::read(&table(&theirs)).is_err() {
+            theirs.pop();
+        }
+    }
+    theirs
 }
 
 /// The other end's table: mirrors, now and then one missing, for another pair only, with another MAC's
@@ -354,6 +501,68 @@ pub fn spoilt(random: &mut Prng, keys: &[Entry]) -> Vec<u8> {
     entries.concat()
 }
 
+/// An MD5 table with one or a few of the faults that 10 to 17 refuse, at any entries.
+pub fn spoilt_md5(random: &mut Prng, md5: &[Entry]) -> Vec<u8> {
+    let mut md5 = md5.to_vec();
+    if md5.is_empty() {
+        let sides = any(random);
+        md5.push(md5_of(random, &sides));
+    }
+    let mut entries: Vec<Vec<u8>> = md5.iter().map(Entry::bytes).collect();
+    for _ in 0..random.pick(&[1, 1, 1, 2, 3]) {
+        match random.below(8) {
+            0 => {
+                let pair = pair(random);
+                let full = full_md5(random, &pair);
+                entries = full.iter().map(Entry::bytes).collect();
+                entries.push(begun(random));
+            }
+            1..=2 => {
+                // The same sides, or sides near them: most times a clash.
+                let which = random.below(md5.len());
+                let sides = relative(random, &md5[which]);
+                let clash = md5_of(random, &sides);
+                entries.insert(1 + random.below(entries.len()), clash.bytes());
+            }
+            3 => cut(random, &mut entries),
+            4 => {
+                // Of a key table: its kind, flags, algorithm and IDs are its own.
+                let key = any(random).bytes();
+                entries.insert(random.below(entries.len() + 1), key);
+            }
+            _ => {
+                let at = random.below(entries.len());
+                for _ in 0..random.pick(&[1, 1, 2]) {
+                    spoil_md5_entry(random, &mut entries[at]);
+                }
+            }
+        }
+    }
+    entries.concat()
+}
+
+/// One of 11 and 13 to 16 in a whole MD5 entry.
+fn spoil_md5_entry(random: &mut Prng, entry: &mut [u8]) {
+    if entry.len() < 104 {
+        return;
+    }
+    match random.below(8) {
+        0 => entry[0] = random.pick(&[0, 3, 5, 7, 8, 19, 255]),
+        1 => entry[1] = random.pick(&[1, 2, 4, 7, 8, 255]),
+        2 => entry[2] = random.pick(&[0, 1, 2, 3, 18, 20, 255]),
+        3 => entry[random.pick(&[3, 4])] = random.pick(&[1, 255]),
+        _ => spoil_sides_or_key(random, entry),
+    }
+}
+
+/// The beginning of a 65th entry, whatever it is.
+fn begun(random: &mut Prng) -> Vec<u8> {
+    let length = random.pick(&[1, 1, 20, 104, 105, 128, 129]);
+    let mut behind = random.bytes(length);
+    behind[0] = random.pick(&[0, 3, 4, 5, 6, 7, 8, 255]);
+    behind
+}
+
 /// 64 entries whose IDs all differ, and something behind them: 12, whatever it is.
 fn too_many(random: &mut Prng, entries: &mut Vec<Vec<u8>>) {
     let mut key = any(random);
@@ -363,10 +572,7 @@ fn too_many(random: &mut Prng, entries: &mut Vec<Vec<u8>>) {
             key.bytes()
         })
         .collect();
-    let length = random.pick(&[1, 1, 20, 104, 105, 128, 129]);
-    let mut behind = random.bytes(length);
-    behind[0] = random.pick(&[0, 3, 4, 5, 6, 7, 8, 255]);
-    entries.push(behind);
+    entries.push(begun(random));
 }
 
 /// The last entry is cut, or another one, so that the next begins too early.
@@ -386,24 +592,41 @@ fn cut(random: &mut Prng, entries: &mut [Vec<u8>]) {
     entries[at].truncate(left);
 }
 
+/// Of a whole entry, the address's bytes, and whether the MAC's length is said.
+fn shape(entry: &[u8]) -> Option<(usize, usize)> {
+    match entry.len() {
+        104 => Some((4, 0)),
+        105 => Some((4, 1)),
+        128 => Some((16, 0)),
+        129 => Some((16, 1)),
+        _ => None,
+    }
+}
+
 /// One of 11 and 13 to 16 in a whole entry.
 fn spoil_entry(random: &mut Prng, entry: &mut [u8]) {
-    // The address's bytes, and whether the MAC's length is said.
-    let (address, said) = match entry.len() {
-        104 => (4, 0),
-        105 => (4, 1),
-        128 => (16, 0),
-        129 => (16, 1),
-        _ => return,
+    let Some((address, said)) = shape(entry) else {
+        return;
     };
-    let key_length = 15 + 2 * address + said;
-    let prefixes = [13 + address, 14 + 2 * address];
+    let mac_length = 14 + 2 * address + said;
     match random.below(10) {
         0 => entry[0] = random.pick(&[0, 1, 3, 4, 5, 6, 7, 8, 255]),
         1 => entry[1] = random.pick(&[8, 8, 9, 12, 15, 16, 128, 255]),
-        9 if said == 1 => entry[key_length - 1] = random.pick(&[0, 1, 2, 3, 17, 18, 255]),
         2 => entry[2] = random.pick(&[0, 4, 5, 255]),
-        3 => {
+        3 if said == 1 => entry[mac_length] = random.pick(&[0, 1, 2, 3, 17, 18, 255]),
+        _ => spoil_sides_or_key(random, entry),
+    }
+}
+
+/// One of 14 to 16 in a whole entry.
+fn spoil_sides_or_key(random: &mut Prng, entry: &mut [u8]) {
+    let Some((address, said)) = shape(entry) else {
+        return;
+    };
+    let key_length = 15 + 2 * address + said;
+    let prefixes = [13 + address, 14 + 2 * address];
+    match random.below(6) {
+        0 => {
             // Low just above high, or well above it.
             let at = random.pick(&[5, 9]);
             let low = 1 + random.half() / 2;
@@ -411,11 +634,11 @@ fn spoil_entry(random: &mut Prng, entry: &mut [u8]) {
             entry[at..at + 2].copy_from_slice(&low.to_be_bytes());
             entry[at + 2..at + 4].copy_from_slice(&high.to_be_bytes());
         }
-        4 => {
+        1 => {
             let at = random.pick(&prefixes);
             entry[at] = 8 * address as u8 + random.pick(&[1, 2, 8, 96]);
         }
-        5 => {
+        2 => {
             // A bit behind the prefix: the first, the last or any.
             let at = random.pick(&prefixes);
             let bits = 8 * address;
@@ -425,8 +648,8 @@ fn spoil_entry(random: &mut Prng, entry: &mut [u8]) {
             let bit = random.pick(&[used, bits - 1, any]);
             entry[at - address + bit / 8] |= 0x80 >> (bit % 8);
         }
-        6 => entry[key_length] = random.pick(&[0, 81, 255]),
-        7 => entry[key_length] = random.pick(&[1, 80, entry[key_length].saturating_sub(1)]),
+        3 => entry[key_length] = random.pick(&[0, 81, 255]),
+        4 => entry[key_length] = random.pick(&[1, 80, entry[key_length].saturating_sub(1)]),
         _ => {
             let behind = key_length + 1 + (entry[key_length] as usize).min(79);
             let last = entry.len() - 1;

@@ -1,5 +1,5 @@
-//! Two ends of a connection and what goes on between them: the opening, segments signed at one end
-//! that arrive at the other in any order, twice or not at all, often with addresses and ports translated
+//! Two ends of a connection, by TCP-AO or by MD5, and what goes on between them: the opening, segments signed
+//! at one end that arrive at the other in any order, twice or not at all, often with addresses and ports translated
 //! on the way, keys asked for, leaps over a rollover; and, all the while, calls that are aimed at numbers.
 
 use crate::aim::{self, Aim, At};
@@ -8,8 +8,9 @@ use crate::segments;
 use crate::states::{any_state, number, reference};
 use crate::tables;
 use crate::translation::Translation;
+use kit::entry::table;
 use kit::segment::{ACK, SYN};
-use kit::{entry, translated, Call, Entry, Function, Outcome, Pair, State};
+use kit::{translated, Call, Entry, Function, Outcome, Pair, State};
 
 /// Makes a call on both sides; an error ends the run.
 pub trait Caller {
@@ -27,21 +28,25 @@ pub struct Stop;
 
 struct End {
     pair: Pair,
+    /// Whether it is the MD5 table that has an entry for the pair.
+    by_md5: bool,
     isn: u32,
     keys: Vec<Entry>,
-    table: Vec<u8>,
+    md5: Vec<Entry>,
     state: Vec<u8>,
     /// Signed here, and perhaps still on the way to the other end.
     sent: Vec<Vec<u8>>,
 }
 
 impl End {
-    fn new(random: &mut Prng, pair: Pair, keys: Vec<Entry>) -> End {
+    fn new(random: &mut Prng, pair: Pair, by_md5: bool, tables: (Vec<Entry>, Vec<Entry>)) -> End {
+        let (keys, md5) = tables;
         End {
             pair,
+            by_md5,
             isn: number(random),
-            table: entry::table(&keys),
             keys,
+            md5,
             state: State::default().bytes(),
             sent: vec![],
         }
@@ -50,7 +55,7 @@ impl End {
     fn at<'a>(&'a self, state: &'a [u8]) -> At<'a> {
         At {
             keys: &self.keys,
-            table: &self.table,
+            md5: &self.md5,
             state,
         }
     }
@@ -65,7 +70,8 @@ impl End {
 
     /// The segment as it comes from the other end.
     fn arrives(&self, function: Function, segment: &[u8]) -> Call {
-        let mut call = Call::new(function, &self.table);
+        let mut call = Call::new(function, &table(&self.keys));
+        call.md5 = table(&self.md5);
         call.source = self.pair.remote.clone();
         call.destination = self.pair.local.clone();
         call.segment = segment.to_vec();
@@ -94,13 +100,18 @@ impl World {
     fn new(random: &mut Prng) -> World {
         let pair = tables::pair(random);
         let other = tables::pair_there(random, &pair);
-        let mut keys = tables::around(random, &pair);
+        let by_md5 = random.one_in(3);
+        let (mut keys, md5) = tables::both_around(random, &pair, by_md5);
         tables::hide(random, &mut keys, &pair, &other);
-        let theirs = tables::other_end(random, &keys, &pair, &other);
+        let mut their_keys = tables::other_end(random, &keys, &pair, &other);
+        let mut their_md5 = tables::md5_there(random, &md5, &pair, &other);
+        if !random.one_in(60) {
+            tables::keep_apart(&mut their_keys, &mut their_md5, by_md5);
+        }
         World {
             ends: [
-                End::new(random, pair, keys),
-                End::new(random, other, theirs),
+                End::new(random, pair, by_md5, (keys, md5)),
+                End::new(random, other, by_md5, (their_keys, their_md5)),
             ],
         }
     }
@@ -108,7 +119,12 @@ impl World {
     /// The three segments that open. Where they do not, the ends are set as if they had.
     fn open(&mut self, random: &mut Prng, caller: &mut dyn Caller) -> Result<(), Stop> {
         let [a, b] = &mut self.ends;
-        let call = aim::open_active(random, &a.at(&a.state), &a.pair, a.isn, &Aim::NONE);
+        let at = a.at(&a.state);
+        let call = if a.by_md5 {
+            aim::open_active_md5(random, &at, &a.pair, a.isn, &Aim::NONE)
+        } else {
+            aim::open_active(random, &at, &a.pair, a.isn, &Aim::NONE)
+        };
         a.make(&call, caller)?;
         if let Some(syn) = a.sign(random, caller)? {
             let syn = translated(&syn, &a.pair, &b.pair);
@@ -122,7 +138,7 @@ impl World {
         }
         if !b.state().is_open() && random.one_in(2) {
             // As if the SYN had been taken, so that A judges a SYN+ACK all the same.
-            let mut state = any_state(random, &b.pair);
+            let mut state = any_state(random, &b.pair, b.by_md5);
             state.put_pair(&b.pair);
             state.stage = 1;
             state.peer_isn = a.isn;
@@ -143,10 +159,10 @@ impl World {
     /// Both ends open on one connection, at any references, with any counts.
     fn set_open(&mut self, random: &mut Prng) {
         let [a, b] = &mut self.ends;
-        let mut state = any_state(random, &a.pair);
+        let mut state = any_state(random, &a.pair, a.by_md5);
         state.put_pair(&a.pair);
         state.stage = 1;
-        let mut other = any_state(random, &b.pair);
+        let mut other = any_state(random, &b.pair, b.by_md5);
         other.put_pair(&b.pair);
         other.stage = 1;
         (other.our_isn, other.peer_isn) = (state.peer_isn, state.our_isn);
@@ -161,7 +177,7 @@ impl World {
             self.ends.swap(0, 1);
         }
         let [me, peer] = &mut self.ends;
-        match random.below(24) {
+        match random.below(25) {
             0..=3 => {
                 if let Some(segment) = me.sign(random, caller)? {
                     me.sent.push(segment);
@@ -174,6 +190,7 @@ impl World {
             16..=19 => me.listen(random, caller, peer)?,
             20..=21 => me.open_active(random, caller)?,
             22 => me.check_table(random, caller)?,
+            23 => me.open_active_md5(random, caller)?,
             _ => self.happen(random),
         }
         Ok(())
@@ -193,7 +210,7 @@ impl World {
                 me.sent.clear();
             }
             3 => {
-                let state = any_state(random, &me.pair);
+                let state = any_state(random, &me.pair, me.by_md5);
                 me.set(&state);
             }
             4 => {
@@ -201,9 +218,8 @@ impl World {
                 if me.keys.len() > 1 && random.one_in(2) {
                     me.keys.remove(random.below(me.keys.len()));
                 } else {
-                    me.keys = tables::around(random, &me.pair);
+                    (me.keys, me.md5) = tables::both_around(random, &me.pair, me.by_md5);
                 }
-                me.table = entry::table(&me.keys);
             }
             5 => peer.sent.clear(),
             _ => self.set_open(random),
@@ -310,7 +326,7 @@ impl End {
     /// This end's state, or any in its place.
     fn own_or_any(&self, random: &mut Prng) -> Vec<u8> {
         if random.one_in(3) {
-            any_state(random, &self.pair).bytes()
+            any_state(random, &self.pair, self.by_md5).bytes()
         } else {
             self.state.clone()
         }
@@ -363,6 +379,14 @@ impl End {
         let aim = Aim::at(random, Function::OpenActive);
         let isn = number(random);
         let call = aim::open_active(random, &self.at(&self.state), &self.pair, isn, &aim);
+        caller.call(&call)?;
+        Ok(())
+    }
+
+    fn open_active_md5(&mut self, random: &mut Prng, caller: &mut dyn Caller) -> Result<(), Stop> {
+        let aim = Aim::at(random, Function::OpenActiveMd5);
+        let isn = number(random);
+        let call = aim::open_active_md5(random, &self.at(&self.state), &self.pair, isn, &aim);
         caller.call(&call)?;
         Ok(())
     }

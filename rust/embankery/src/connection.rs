@@ -2,7 +2,7 @@
 
 use crate::answer::{Answer, Refusal, Verdict};
 use crate::raw;
-use crate::table::KeyTable;
+use crate::table::Tables;
 use std::fmt;
 use std::net::{IpAddr, SocketAddr};
 
@@ -10,7 +10,8 @@ use std::net::{IpAddr, SocketAddr};
 ///
 /// This decides nothing where an entry matches the pair: if none that matches has the segment's
 /// KeyID as RecvID, the SYN is dropped with 26 whatever is chosen here. So a wrong KeyID is no way
-/// around the keys of a pair.
+/// around the keys of a pair. Nor does it where an entry of the MD5 table matches: the SYN is then
+/// dropped with 46.
 #[derive(Clone, Copy, Debug, PartialEq, Eq, Hash)]
 pub enum UnknownKeyId {
     /// It passes: TCP may go on without TCP-AO.
@@ -55,7 +56,20 @@ impl Octets {
     }
 }
 
+/// Which way the segments of a connection are signed. It is the way by which it was opened, and the other is
+/// never accepted.
+#[derive(Clone, Copy, Debug, PartialEq, Eq, Hash)]
+pub enum Way {
+    /// By TCP-AO, with the keys of a [`KeyTable`](crate::KeyTable).
+    TcpAo,
+    /// By TCP MD5 (RFC 2385), with the keys of an [`Md5Table`](crate::Md5Table).
+    TcpMd5,
+}
+
 /// Judges an arriving bare SYN without a connection. [`Connection::open_passive`] judges it again.
+///
+/// It goes by the table that has an entry for its pair. Where that is the MD5 table, a SYN with TCP-AO gets 46
+/// and one with neither 47.
 ///
 /// ```
 /// use embankery::{judge_syn, Entry, KeyTable, Refusal, UnknownKeyId, Verdict};
@@ -101,15 +115,17 @@ impl Octets {
 /// assert_eq!(verdict, Verdict::Drop(Refusal::Checksum));
 /// # Ok::<(), embankery::Refusal>(())
 /// ```
-pub fn judge_syn(
-    table: &KeyTable,
+pub fn judge_syn<'a>(
+    tables: impl Into<Tables<'a>>,
     source: impl Into<IpAddr>,
     destination: impl Into<IpAddr>,
     segment: &[u8],
     unknown: UnknownKeyId,
 ) -> Verdict {
+    let tables = tables.into();
     Answer(raw::judge_syn(
-        table.as_bytes(),
+        tables.keys,
+        tables.md5,
         Octets::of(source.into()).as_slice(),
         Octets::of(destination.into()).as_slice(),
         segment,
@@ -120,7 +136,7 @@ pub fn judge_syn(
 
 /// One end of a connection: the state that each call is given and changes.
 ///
-/// It holds no key; the table goes beside it to each call, and may change between calls. A value is
+/// It holds no key; the tables go beside it to each call, and may change between calls. A value is
 /// always a state of IPv4 or IPv6. Copies are apart from each other: of two that both sign, the peer
 /// sees one sender. `==` compares all bytes of two states, also the twelve behind an IPv4 address,
 /// which mean nothing; an opening sets these to zero.
@@ -177,18 +193,19 @@ const SENT: usize = 48;
 const SEEN: usize = 56;
 const ACCEPTED: usize = 64;
 const DROPS: usize = 72;
+const WAY: usize = 176;
 
 /// The drops that are counted, in the order of their counts.
-const COUNTED: [u8; 11] = [20, 21, 22, 23, 24, 25, 26, 27, 28, 29, 40];
+const COUNTED: [u8; 13] = [20, 21, 22, 23, 24, 25, 26, 27, 28, 29, 40, 46, 47];
 
 /// No option makes a header longer than by the whole option area.
 const LONGEST_OPTIONS: usize = 40;
 
 impl Connection {
     /// How many bytes a state has.
-    pub const BYTES: usize = 160;
+    pub const BYTES: usize = 177;
 
-    /// Opens actively: a bare SYN with the sequence number `isn` may then be signed, under the
+    /// Opens actively by TCP-AO: a bare SYN with the sequence number `isn` may then be signed, under the
     /// entry that has this SendID. Refused with 35 if no entry that matches has it, with 19 if one
     /// address is IPv4 and the other IPv6.
     ///
@@ -202,17 +219,19 @@ impl Connection {
     /// assert_eq!(Connection::open_active(&table, here, there, 1_000, 7), Err(Refusal::NoEntry));
     /// # Ok::<(), embankery::Refusal>(())
     /// ```
-    pub fn open_active(
-        table: &KeyTable,
+    pub fn open_active<'a>(
+        tables: impl Into<Tables<'a>>,
         local: impl Into<SocketAddr>,
         remote: impl Into<SocketAddr>,
         isn: u32,
         send_id: u8,
     ) -> Result<Connection, Refusal> {
+        let tables = tables.into();
         let (local, remote) = (local.into(), remote.into());
         let mut bytes = [0; Connection::BYTES];
         Answer(raw::open_active(
-            table.as_bytes(),
+            tables.keys,
+            tables.md5,
             Octets::of(local.ip()).as_slice(),
             Octets::of(remote.ip()).as_slice(),
             local.port(),
@@ -225,22 +244,71 @@ impl Connection {
         Ok(Connection { bytes })
     }
 
+    /// Opens actively by TCP MD5: a bare SYN with the sequence number `isn` may then be signed. Refused with 35
+    /// if no entry of the MD5 table matches, with 19 if one address is IPv4 and the other IPv6.
+    ///
+    /// ```
+    /// use embankery::{Connection, Md5Entry, Md5Table, Refusal, Way};
+    ///
+    /// let table = Md5Table::new([&Md5Entry::ipv4().remote([10, 0, 0, 2], 32).key(b"key").build()?])?;
+    /// let (here, there) = (([10, 0, 0, 1], 40_000), ([10, 0, 0, 2], 179));
+    /// let mut connection = Connection::open_active_md5(&table, here, there, 1_000)?;
+    /// assert_eq!(connection.way(), Way::TcpMd5);
+    ///
+    /// let mut syn = [0; 20];
+    /// syn[0..4].copy_from_slice(&[0x9c, 0x40, 0, 179]); // ports 40000 and 179
+    /// syn[4..8].copy_from_slice(&1_000_u32.to_be_bytes());
+    /// syn[12] = 0x50; // data offset: five words
+    /// syn[13] = 0x02; // SYN
+    /// let signed = connection.sign(&table, &syn)?;
+    /// assert_eq!((signed.len(), &signed[20..22]), (40, &[19, 18][..]));
+    ///
+    /// let elsewhere = ([10, 0, 0, 3], 179);
+    /// let refused = Connection::open_active_md5(&table, here, elsewhere, 1_000);
+    /// assert_eq!(refused, Err(Refusal::NoEntry));
+    /// # Ok::<(), embankery::Refusal>(())
+    /// ```
+    pub fn open_active_md5<'a>(
+        tables: impl Into<Tables<'a>>,
+        local: impl Into<SocketAddr>,
+        remote: impl Into<SocketAddr>,
+        isn: u32,
+    ) -> Result<Connection, Refusal> {
+        let tables = tables.into();
+        let (local, remote) = (local.into(), remote.into());
+        let mut bytes = [0; Connection::BYTES];
+        Answer(raw::open_active_md5(
+            tables.keys,
+            tables.md5,
+            Octets::of(local.ip()).as_slice(),
+            Octets::of(remote.ip()).as_slice(),
+            local.port(),
+            remote.port(),
+            isn,
+            &mut bytes,
+        ))
+        .done()?;
+        Ok(Connection { bytes })
+    }
+
     /// Opens passively with an arriving bare SYN, which is judged as by [`judge_syn`]; `isn` is our
-    /// own. The SYN+ACK may then be signed. `None` means that the SYN only passed: no entry matches
-    /// its pair, TCP may go on without TCP-AO, and there is no connection here. A SYN that is dropped
-    /// is an error, also with 26 where an entry matches the pair and none has the KeyID, whatever
-    /// `unknown` is.
-    pub fn open_passive(
-        table: &KeyTable,
+    /// own. The connection goes the way that the SYN is signed, and the SYN+ACK may then be signed. `None`
+    /// means that the SYN only passed: no entry matches its pair, TCP may go on without TCP-AO, and there
+    /// is no connection here. A SYN that is dropped is an error, also with 26 where an entry matches the
+    /// pair and none has the KeyID, whatever `unknown` is.
+    pub fn open_passive<'a>(
+        tables: impl Into<Tables<'a>>,
         source: impl Into<IpAddr>,
         destination: impl Into<IpAddr>,
         segment: &[u8],
         isn: u32,
         unknown: UnknownKeyId,
     ) -> Result<Option<Connection>, Refusal> {
+        let tables = tables.into();
         let mut bytes = [0; Connection::BYTES];
         let answer = Answer(raw::open_passive(
-            table.as_bytes(),
+            tables.keys,
+            tables.md5,
             Octets::of(source.into()).as_slice(),
             Octets::of(destination.into()).as_slice(),
             segment,
@@ -261,20 +329,24 @@ impl Connection {
     /// While the connection is opening, an accepted SYN+ACK opens it: that sets the peer's ISN and both
     /// references, to the ISNs, and clears the counts. Once open, acceptance sets the arriving
     /// direction's reference to the larger of the old one and the segment's position, and is counted.
-    /// In both cases it may change the outgoing key. A drop 20 to 29 or 40 changes nothing but, once open,
-    /// its count. Addresses of two families get 19, which is not counted.
+    /// In both cases it may change the outgoing key. A drop 20 to 29, 40, 46 or 47 changes nothing but, once
+    /// open, its count. Addresses of two families get 19, which is not counted.
+    ///
+    /// By TCP MD5, acceptance once open is counted and changes nothing else, whatever the segment's number.
     ///
     /// The checksum is tested first, over the addresses that are given here: a segment that was damaged on
     /// the way gets 40, one that was forged, with a right checksum, 29.
-    pub fn judge(
+    pub fn judge<'a>(
         &mut self,
-        table: &KeyTable,
+        tables: impl Into<Tables<'a>>,
         source: impl Into<IpAddr>,
         destination: impl Into<IpAddr>,
         segment: &[u8],
     ) -> Verdict {
+        let tables = tables.into();
         Answer(raw::judge(
-            table.as_bytes(),
+            tables.keys,
+            tables.md5,
             Octets::of(source.into()).as_slice(),
             Octets::of(destination.into()).as_slice(),
             segment,
@@ -284,13 +356,17 @@ impl Connection {
     }
 
     /// Signs a segment that has neither TCP-AO nor TCP MD5. It gets longer by TCP-AO: 4 bytes and the MAC
-    /// of the outgoing key's entry, filled up to whole words. The result's checksum is right, over the
+    /// of the outgoing key's entry, filled up to whole words; by TCP MD5, 20 bytes. The result's checksum is right, over the
     /// connection's own addresses; the one that the segment has does not matter.
-    pub fn sign(&mut self, table: &KeyTable, segment: &[u8]) -> Result<Vec<u8>, Refusal> {
+    pub fn sign<'a>(
+        &mut self,
+        tables: impl Into<Tables<'a>>,
+        segment: &[u8],
+    ) -> Result<Vec<u8>, Refusal> {
         // Longer segments are refused before the output's length matters.
         let longest = segment.len().min(usize::from(u16::MAX));
         let mut out = vec![0; longest + LONGEST_OPTIONS];
-        let length = self.sign_into(table, segment, &mut out)?;
+        let length = self.sign_into(tables, segment, &mut out)?;
         out.truncate(length);
         Ok(out)
     }
@@ -312,20 +388,22 @@ impl Connection {
     /// assert_eq!(out[36..], [0xAA; 4]);
     /// # Ok::<(), embankery::Refusal>(())
     /// ```
-    pub fn sign_into(
+    pub fn sign_into<'a>(
         &mut self,
-        table: &KeyTable,
+        tables: impl Into<Tables<'a>>,
         segment: &[u8],
         out: &mut [u8],
     ) -> Result<usize, Refusal> {
-        let answer = Answer(raw::sign(table.as_bytes(), segment, out, &mut self.bytes));
+        let Tables { keys, md5 } = tables.into();
+        let answer = Answer(raw::sign(keys, md5, segment, out, &mut self.bytes));
         Ok(answer.done()? as usize)
     }
 
     /// Asks the peer, in what is signed from now on, to sign under the entry with this RecvID; also
-    /// while opening. Refused with 35 if no entry that matches has it.
-    pub fn ask(&mut self, table: &KeyTable, recv_id: u8) -> Result<(), Refusal> {
-        Answer(raw::ask(table.as_bytes(), recv_id, &mut self.bytes)).done()?;
+    /// while opening. Refused with 35 if no entry that matches has it, and always by TCP MD5.
+    pub fn ask<'a>(&mut self, tables: impl Into<Tables<'a>>, recv_id: u8) -> Result<(), Refusal> {
+        let Tables { keys, md5 } = tables.into();
+        Answer(raw::ask(keys, md5, recv_id, &mut self.bytes)).done()?;
         Ok(())
     }
 
@@ -335,7 +413,7 @@ impl Connection {
     }
 
     /// A connection from its bytes. Bytes that every call would refuse with 18 are refused with 18:
-    /// those that are not 160, or whose family is neither IPv4 nor IPv6. All others are a state, so
+    /// those that are not 177, or whose family is neither IPv4 nor IPv6. All others are a state, so
     /// an old copy is one too: it takes back the references, keys and counts.
     ///
     /// ```
@@ -387,12 +465,20 @@ impl Connection {
         self.bytes[STAGE] == 1
     }
 
-    /// The SendID of the outgoing key (RFC 5925's current_key).
+    /// Which way its segments are signed.
+    pub fn way(&self) -> Way {
+        match self.bytes[WAY] {
+            1 => Way::TcpMd5,
+            _ => Way::TcpAo,
+        }
+    }
+
+    /// The SendID of the outgoing key (RFC 5925's current_key); by TCP MD5 it means nothing.
     pub fn send_id(&self) -> u8 {
         self.bytes[SEND_ID]
     }
 
-    /// The RecvID asked of the peer (RFC 5925's rnext_key).
+    /// The RecvID asked of the peer (RFC 5925's rnext_key); by TCP MD5 it means nothing.
     pub fn ask_id(&self) -> u8 {
         self.bytes[ASK_ID]
     }
@@ -408,13 +494,13 @@ impl Connection {
     }
 
     /// The reference of the direction that we sign: the largest of our ISN and the positions
-    /// signed.
+    /// signed; by TCP MD5, our ISN.
     pub fn sent_reference(&self) -> u64 {
         u64::from_be_bytes(self.field(SENT))
     }
 
     /// The reference of the arriving direction: 0 until the peer's ISN is known, then the largest of
-    /// it and the positions accepted.
+    /// it and the positions accepted; by TCP MD5, it alone.
     pub fn seen_reference(&self) -> u64 {
         u64::from_be_bytes(self.field(SEEN))
     }
@@ -426,7 +512,7 @@ impl Connection {
     }
 
     /// How many segments were dropped with this number since opening, if it is one of those
-    /// counted: 20 to 29, and 40.
+    /// counted: 20 to 29, 40, 46 and 47.
     pub fn dropped(&self, number: u8) -> Option<u64> {
         let slot = COUNTED.iter().position(|counted| *counted == number)?;
         Some(u64::from_be_bytes(self.field(DROPS + 8 * slot)))
@@ -445,6 +531,7 @@ impl fmt::Debug for Connection {
         f.debug_struct("Connection")
             .field("local", &self.local())
             .field("remote", &self.remote())
+            .field("way", &self.way())
             .field("is_open", &self.is_open())
             .field("send_id", &self.send_id())
             .field("ask_id", &self.ask_id())

@@ -1,13 +1,16 @@
-//! TCP-AO (RFC 5925, RFC 5926) for a program between IP and a small TCP.
+//! TCP-AO (RFC 5925, RFC 5926), and TCP MD5 (RFC 2385) for peers that know nothing better, for a program
+//! between IP and a small TCP.
 //!
 //! The work is done by the archive `libembankery.a`, in which every function is proved to meet its
 //! contract; this package only turns Rust values into the archive's bytes and its answers into Rust
 //! values. It is not proved, and it has no rule of its own but the two that say so:
-//! [`EntryBuilder::build`] on addresses of two families, [`Connection::from_bytes`] on 18.
+//! [`EntryBuilder::build`] and [`Md5EntryBuilder::build`] on addresses of two families,
+//! [`Connection::from_bytes`] on 18.
 //!
-//! A [`KeyTable`] is made of [`Entry`]s. A [`Connection`] is opened, judges what arrives and signs
-//! what leaves. What a segment gets is a [`Verdict`]; what goes wrong is a [`Refusal`], with the
-//! number of document 01. No call panics, whatever it is given, but where memory runs out.
+//! A [`KeyTable`] is made of [`Entry`]s, an [`Md5Table`] of [`Md5Entry`]s; [`Tables`] are both. A
+//! [`Connection`] is opened, judges what arrives and signs what leaves. What a segment gets is a
+//! [`Verdict`]; what goes wrong is a [`Refusal`], with the number of document 01 or 02. No call panics,
+//! whatever it is given, but where memory runs out.
 //!
 //! # A first program
 //!
@@ -24,11 +27,13 @@
 mod answer;
 mod connection;
 pub mod mac;
+mod md5;
 #[allow(unsafe_code)]
 #[doc(hidden)] // for the benchmark and the comparison, which make the same calls
 pub mod raw;
 mod table;
 
-pub use answer::{Refusal, Verdict};
-pub use connection::{judge_syn, Connection, UnknownKeyId};
-pub use table::{Algorithm, Covered, Entry, EntryBuilder, KeyTable};
+pub use answer::{Refusal, Table, Verdict};
+pub use connection::{judge_syn, Connection, UnknownKeyId, Way};
+pub use md5::{Md5Entry, Md5EntryBuilder, Md5Table};
+pub use table::{Algorithm, Covered, Entry, EntryBuilder, KeyTable, Tables};

@@ -1,5 +1,5 @@
-//! The standards under TCP-AO, each proved equal to its definition: SHA-1, HMAC-SHA-1, SHA-256,
-//! HMAC-SHA-256, AES-128 encryption and AES-CMAC.
+//! The standards under TCP-AO and TCP MD5, each proved equal to its definition: SHA-1, HMAC-SHA-1, SHA-256,
+//! HMAC-SHA-256, MD5, AES-128 encryption and AES-CMAC.
 
 use crate::raw;
 
@@ -46,6 +46,17 @@ pub fn sha256(message: &[u8]) -> [u8; 32] {
 pub fn hmac_sha256(key: &[u8], message: &[u8]) -> [u8; 32] {
     let mut out = [0; 32];
     raw::hmac_sha256(key, message, &mut out);
+    out
+}
+
+/// MD5 (RFC 1321). It is here for TCP MD5; it is broken as a hash.
+///
+/// ```
+/// assert_eq!(embankery::mac::md5(b"abc")[..4], [0x90, 0x01, 0x50, 0x98]);
+/// ```
+pub fn md5(message: &[u8]) -> [u8; 16] {
+    let mut out = [0; 16];
+    raw::md5(message, &mut out);
     out
 }
 

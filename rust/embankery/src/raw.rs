@@ -9,10 +9,17 @@
 /// The declarations, as the header has them.
 pub mod c {
     extern "C" {
-        pub fn tcpao_check_table(table: *const u8, table_len: usize) -> u64;
+        pub fn tcpao_check_table(
+            keys: *const u8,
+            keys_len: usize,
+            md5: *const u8,
+            md5_len: usize,
+        ) -> u64;
         pub fn tcpao_open_active(
-            table: *const u8,
-            table_len: usize,
+            keys: *const u8,
+            keys_len: usize,
+            md5: *const u8,
+            md5_len: usize,
             local: *const u8,
             local_len: usize,
             remote: *const u8,
@@ -24,9 +31,26 @@ pub mod c {
             state: *mut u8,
             state_len: usize,
         ) -> u64;
+        pub fn tcpmd5_open_active(
+            keys: *const u8,
+            keys_len: usize,
+            md5: *const u8,
+            md5_len: usize,
+            local: *const u8,
+            local_len: usize,
+            remote: *const u8,
+            remote_len: usize,
+            local_port: u16,
+            remote_port: u16,
+            isn: u32,
+            state: *mut u8,
+            state_len: usize,
+        ) -> u64;
         pub fn tcpao_judge_syn(
-            table: *const u8,
-            table_len: usize,
+            keys: *const u8,
+            keys_len: usize,
+            md5: *const u8,
+            md5_len: usize,
             source: *const u8,
             source_len: usize,
             destination: *const u8,
@@ -36,8 +60,10 @@ pub mod c {
             setting: u8,
         ) -> u64;
         pub fn tcpao_open_passive(
-            table: *const u8,
-            table_len: usize,
+            keys: *const u8,
+            keys_len: usize,
+            md5: *const u8,
+            md5_len: usize,
             source: *const u8,
             source_len: usize,
             destination: *const u8,
@@ -50,8 +76,10 @@ pub mod c {
             state_len: usize,
         ) -> u64;
         pub fn tcpao_judge(
-            table: *const u8,
-            table_len: usize,
+            keys: *const u8,
+            keys_len: usize,
+            md5: *const u8,
+            md5_len: usize,
             source: *const u8,
             source_len: usize,
             destination: *const u8,
@@ -62,8 +90,10 @@ pub mod c {
             state_len: usize,
         ) -> u64;
         pub fn tcpao_sign(
-            table: *const u8,
-            table_len: usize,
+            keys: *const u8,
+            keys_len: usize,
+            md5: *const u8,
+            md5_len: usize,
             segment: *const u8,
             segment_len: usize,
             out: *mut u8,
@@ -72,8 +102,10 @@ pub mod c {
             state_len: usize,
         ) -> u64;
         pub fn tcpao_ask(
-            table: *const u8,
-            table_len: usize,
+            keys: *const u8,
+            keys_len: usize,
+            md5: *const u8,
+            md5_len: usize,
             recv_id: u8,
             state: *mut u8,
             state_len: usize,
@@ -106,6 +138,8 @@ pub mod c {
             out: *mut u8,
             out_len: usize,
         ) -> u64;
+        pub fn mac_md5(message: *const u8, message_len: usize, out: *mut u8, out_len: usize)
+            -> u64;
         pub fn mac_aes128(
             key: *const u8,
             key_len: usize,
@@ -125,14 +159,15 @@ pub mod c {
     }
 }
 
-pub fn check_table(table: &[u8]) -> u64 {
-    // SAFETY: one slice, read only.
-    unsafe { c::tcpao_check_table(table.as_ptr(), table.len()) }
+pub fn check_table(keys: &[u8], md5: &[u8]) -> u64 {
+    // SAFETY: each pointer stands beside its own slice's length; nothing is written.
+    unsafe { c::tcpao_check_table(keys.as_ptr(), keys.len(), md5.as_ptr(), md5.len()) }
 }
 
 #[allow(clippy::too_many_arguments)] // the boundary's own arguments
 pub fn open_active(
-    table: &[u8],
+    keys: &[u8],
+    md5: &[u8],
     local: &[u8],
     remote: &[u8],
     local_port: u16,
@@ -145,8 +180,10 @@ pub fn open_active(
     // call alone, is written.
     unsafe {
         c::tcpao_open_active(
-            table.as_ptr(),
-            table.len(),
+            keys.as_ptr(),
+            keys.len(),
+            md5.as_ptr(),
+            md5.len(),
             local.as_ptr(),
             local.len(),
             remote.as_ptr(),
@@ -161,8 +198,41 @@ pub fn open_active(
     }
 }
 
+#[allow(clippy::too_many_arguments)] // the boundary's own arguments
+pub fn open_active_md5(
+    keys: &[u8],
+    md5: &[u8],
+    local: &[u8],
+    remote: &[u8],
+    local_port: u16,
+    remote_port: u16,
+    isn: u32,
+    state: &mut [u8],
+) -> u64 {
+    // SAFETY: each pointer stands beside its own slice's length; only `state`, borrowed for this
+    // call alone, is written.
+    unsafe {
+        c::tcpmd5_open_active(
+            keys.as_ptr(),
+            keys.len(),
+            md5.as_ptr(),
+            md5.len(),
+            local.as_ptr(),
+            local.len(),
+            remote.as_ptr(),
+            remote.len(),
+            local_port,
+            remote_port,
+            isn,
+            state.as_mut_ptr(),
+            state.len(),
+        )
+    }
+}
+
 pub fn judge_syn(
-    table: &[u8],
+    keys: &[u8],
+    md5: &[u8],
     source: &[u8],
     destination: &[u8],
     segment: &[u8],
@@ -171,8 +241,10 @@ pub fn judge_syn(
     // SAFETY: each pointer stands beside its own slice's length; nothing is written.
     unsafe {
         c::tcpao_judge_syn(
-            table.as_ptr(),
-            table.len(),
+            keys.as_ptr(),
+            keys.len(),
+            md5.as_ptr(),
+            md5.len(),
             source.as_ptr(),
             source.len(),
             destination.as_ptr(),
@@ -184,8 +256,10 @@ pub fn judge_syn(
     }
 }
 
+#[allow(clippy::too_many_arguments)] // the boundary's own arguments
 pub fn open_passive(
-    table: &[u8],
+    keys: &[u8],
+    md5: &[u8],
     source: &[u8],
     destination: &[u8],
     segment: &[u8],
@@ -197,8 +271,10 @@ pub fn open_passive(
     // call alone, is written.
     unsafe {
         c::tcpao_open_passive(
-            table.as_ptr(),
-            table.len(),
+            keys.as_ptr(),
+            keys.len(),
+            md5.as_ptr(),
+            md5.len(),
             source.as_ptr(),
             source.len(),
             destination.as_ptr(),
@@ -214,7 +290,8 @@ pub fn open_passive(
 }
 
 pub fn judge(
-    table: &[u8],
+    keys: &[u8],
+    md5: &[u8],
     source: &[u8],
     destination: &[u8],
     segment: &[u8],
@@ -224,8 +301,10 @@ pub fn judge(
     // call alone, is written.
     unsafe {
         c::tcpao_judge(
-            table.as_ptr(),
-            table.len(),
+            keys.as_ptr(),
+            keys.len(),
+            md5.as_ptr(),
+            md5.len(),
             source.as_ptr(),
             source.len(),
             destination.as_ptr(),
@@ -238,13 +317,15 @@ pub fn judge(
     }
 }
 
-pub fn sign(table: &[u8], segment: &[u8], out: &mut [u8], state: &mut [u8]) -> u64 {
+pub fn sign(keys: &[u8], md5: &[u8], segment: &[u8], out: &mut [u8], state: &mut [u8]) -> u64 {
     // SAFETY: each pointer stands beside its own slice's length; only `out` and `state` are
     // written, two borrows that overlap neither each other nor the rest.
     unsafe {
         c::tcpao_sign(
-            table.as_ptr(),
-            table.len(),
+            keys.as_ptr(),
+            keys.len(),
+            md5.as_ptr(),
+            md5.len(),
             segment.as_ptr(),
             segment.len(),
             out.as_mut_ptr(),
@@ -255,13 +336,15 @@ pub fn sign(table: &[u8], segment: &[u8], out: &mut [u8], state: &mut [u8]) -> u
     }
 }
 
-pub fn ask(table: &[u8], recv_id: u8, state: &mut [u8]) -> u64 {
+pub fn ask(keys: &[u8], md5: &[u8], recv_id: u8, state: &mut [u8]) -> u64 {
     // SAFETY: each pointer stands beside its own slice's length; only `state`, borrowed for this
     // call alone, is written.
     unsafe {
         c::tcpao_ask(
-            table.as_ptr(),
-            table.len(),
+            keys.as_ptr(),
+            keys.len(),
+            md5.as_ptr(),
+            md5.len(),
             recv_id,
             state.as_mut_ptr(),
             state.len(),
@@ -305,6 +388,11 @@ pub fn hmac_sha256(key: &[u8], message: &[u8], out: &mut [u8]) -> u64 {
             out.len(),
         )
     }
+}
+
+pub fn md5(message: &[u8], out: &mut [u8]) -> u64 {
+    // SAFETY: each pointer stands beside its own slice's length; only `out` is written.
+    unsafe { c::mac_md5(message.as_ptr(), message.len(), out.as_mut_ptr(), out.len()) }
 }
 
 pub fn aes128(key: &[u8], block: &[u8], out: &mut [u8]) -> u64 {

@@ -1,6 +1,7 @@
-//! The key table and its entries. Document 01, "Key table".
+//! The key table and its entries, and both tables together. Document 01, "Key table"; document 02.
 
 use crate::answer::{Answer, Refusal};
+use crate::md5::Md5Table;
 use crate::raw;
 use std::fmt;
 use std::net::{IpAddr, Ipv4Addr, Ipv6Addr};
@@ -9,7 +10,7 @@ use std::ops::RangeInclusive;
 /// A key table that the archive has checked: none of 10 to 17 applies to it.
 ///
 /// ```
-/// use embankery::{Entry, KeyTable};
+/// use embankery::{Entry, KeyTable, Table};
 ///
 /// let old = Entry::ipv4().send_id(1).recv_id(1).key(b"last year's key").build()?;
 /// let new = Entry::ipv4().send_id(2).recv_id(2).key(b"this year's key").build()?;
@@ -18,7 +19,7 @@ use std::ops::RangeInclusive;
 ///
 /// // Both match every IPv4 connection, so they must not share an ID.
 /// let refusal = KeyTable::new([&old, &old]).unwrap_err();
-/// assert_eq!((refusal.number(), refusal.entry()), (17, Some(1)));
+/// assert_eq!((refusal.number(), refusal.entry()), (17, Some((Table::Keys, 1))));
 /// # Ok::<(), embankery::Refusal>(())
 /// ```
 #[derive(Clone, PartialEq, Eq)]
@@ -50,7 +51,7 @@ impl KeyTable {
     /// ```
     pub fn from_bytes(bytes: impl Into<Vec<u8>>) -> Result<KeyTable, Refusal> {
         let bytes = bytes.into();
-        let len = Answer(raw::check_table(&bytes)).done()? as usize;
+        let len = Answer(raw::check_table(&bytes, &[])).done()? as usize;
         Ok(KeyTable { bytes, len })
     }
 
@@ -76,6 +77,65 @@ impl fmt::Debug for KeyTable {
         f.debug_struct("KeyTable")
             .field("len", &self.len)
             .finish_non_exhaustive()
+    }
+}
+
+/// Both tables, as every call on a connection takes them. A `&KeyTable` or a `&Md5Table` stands for one without
+/// the other.
+///
+/// A pair goes by the table that has an entry for it: by TCP-AO or by TCP MD5, never by both.
+///
+/// ```
+/// use embankery::{Entry, KeyTable, Md5Entry, Md5Table, Refusal, Table, Tables};
+///
+/// let keys = KeyTable::new([&Entry::ipv4().remote([10, 0, 0, 0], 16).key(b"key").build()?])?;
+/// let md5_entry = |address| Md5Entry::ipv4().remote(address, 32).key(b"old key").build();
+/// let md5 = Md5Table::new([&md5_entry([10, 1, 0, 1])?, &md5_entry([10, 1, 0, 2])?])?;
+/// let tables = Tables::new(&keys, &md5)?;
+///
+/// // The second of these is for a pair of the other table, too.
+/// let md5 = Md5Table::new([&md5_entry([10, 1, 0, 1])?, &md5_entry([10, 0, 0, 9])?])?;
+/// let refused = Refusal::TwoWays { table: Table::Md5, entry: 1 };
+/// assert_eq!(Tables::new(&keys, &md5).unwrap_err(), refused);
+/// # Ok::<(), embankery::Refusal>(())
+/// ```
+#[derive(Clone, Copy)]
+pub struct Tables<'a> {
+    pub(crate) keys: &'a [u8],
+    pub(crate) md5: &'a [u8],
+}
+
+impl<'a> Tables<'a> {
+    /// Both tables. Refused with 45 if a socket pair exists that an entry of each matches.
+    pub fn new(keys: &'a KeyTable, md5: &'a Md5Table) -> Result<Tables<'a>, Refusal> {
+        let (keys, md5) = (keys.as_bytes(), md5.as_bytes());
+        Answer(raw::check_table(keys, md5)).done()?;
+        Ok(Tables { keys, md5 })
+    }
+}
+
+impl<'a> From<&'a KeyTable> for Tables<'a> {
+    fn from(keys: &'a KeyTable) -> Tables<'a> {
+        Tables {
+            keys: keys.as_bytes(),
+            md5: &[],
+        }
+    }
+}
+
+impl<'a> From<&'a Md5Table> for Tables<'a> {
+    fn from(md5: &'a Md5Table) -> Tables<'a> {
+        Tables {
+            keys: &[],
+            md5: md5.as_bytes(),
+        }
+    }
+}
+
+/// Shows no key.
+impl fmt::Debug for Tables<'_> {
+    fn fmt(&self, f: &mut fmt::Formatter) -> fmt::Result {
+        f.debug_struct("Tables").finish_non_exhaustive()
     }
 }
 
@@ -161,10 +221,51 @@ impl fmt::Debug for Entry {
 
 /// A side of the connections that an entry is for.
 #[derive(Clone)]
-struct Side {
-    address: IpAddr,
-    prefix: u8,
-    ports: RangeInclusive<u16>,
+pub(crate) struct Side {
+    pub address: IpAddr,
+    pub prefix: u8,
+    pub ports: RangeInclusive<u16>,
+}
+
+impl Side {
+    /// Every address of this one's family, and every port.
+    pub fn any(any: IpAddr) -> Side {
+        Side {
+            address: any,
+            prefix: 0,
+            ports: 0..=u16::MAX,
+        }
+    }
+}
+
+/// An entry's bytes, in document 01's order: kind, flags, algorithm and IDs, the sides, the MAC's length if it
+/// is said (document 02, Ticket 4), the key. A key that does not fit is cut to 80 bytes, with a length above 80
+/// beside it that the archive refuses.
+pub(crate) fn entry_bytes(
+    front: [u8; 5],
+    sides: [&Side; 2],
+    mac_length: Option<u8>,
+    key: &[u8],
+) -> Vec<u8> {
+    const KEY_BYTES: usize = 80;
+    let mut bytes = front.to_vec();
+    for side in sides {
+        bytes.extend(side.ports.start().to_be_bytes());
+        bytes.extend(side.ports.end().to_be_bytes());
+    }
+    for side in sides {
+        match side.address {
+            IpAddr::V4(address) => bytes.extend(address.octets()),
+            IpAddr::V6(address) => bytes.extend(address.octets()),
+        }
+        bytes.push(side.prefix);
+    }
+    bytes.extend(mac_length);
+    bytes.push(key.len().min(255) as u8);
+    let end = bytes.len() + KEY_BYTES;
+    bytes.extend(key.iter().take(KEY_BYTES));
+    bytes.resize(end, 0);
+    bytes
 }
 
 /// What an [`Entry`] is made from. Nothing is tested before [`build`](EntryBuilder::build).
@@ -186,15 +287,10 @@ pub struct EntryBuilder {
 
 impl EntryBuilder {
     fn new(any: IpAddr) -> EntryBuilder {
-        let side = Side {
-            address: any,
-            prefix: 0,
-            ports: 0..=u16::MAX,
-        };
         EntryBuilder {
             any,
-            local: side.clone(),
-            remote: side,
+            local: Side::any(any),
+            remote: Side::any(any),
             send_id: 0,
             recv_id: 0,
             algorithm: Algorithm::HmacSha1_96,
@@ -326,7 +422,7 @@ impl EntryBuilder {
     ///
     /// let entry = |bytes| Entry::ipv4().mac_length(bytes).key(b"key").build();
     /// assert_eq!(entry(16)?.as_bytes().len(), 105);
-    /// assert_eq!(entry(17), Err(Refusal::NotListed { entry: 0 }));
+    /// assert_eq!(entry(17).unwrap_err().number(), 13);
     /// # Ok::<(), Refusal>(())
     /// ```
     pub fn mac_length(mut self, bytes: u8) -> EntryBuilder {
@@ -345,12 +441,13 @@ impl EntryBuilder {
     /// other family is refused with 19, which is this builder's own rule: no table could hold it.
     ///
     /// ```
-    /// use embankery::{Entry, Refusal};
+    /// use embankery::{Entry, EntryBuilder, Refusal};
     ///
     /// let entry = |key: &[u8]| Entry::ipv4().local([10, 0, 0, 0], 8).key(key);
+    /// let number = |entry: EntryBuilder| entry.build().unwrap_err().number();
     /// assert!(entry(&[1; 80]).build().is_ok());
-    /// assert_eq!(entry(&[1; 81]).build(), Err(Refusal::Key { entry: 0 }));
-    /// assert_eq!(entry(b"key").remote([10, 0, 0, 0], 33).build(), Err(Refusal::Prefix { entry: 0 }));
+    /// assert_eq!(number(entry(&[1; 81])), 16);
+    /// assert_eq!(number(entry(b"key").remote([10, 0, 0, 0], 33)), 15);
     /// assert_eq!(entry(b"key").remote([0u16; 8], 0).build(), Err(Refusal::AddressSizes));
     /// ```
     pub fn build(self) -> Result<Entry, Refusal> {
@@ -359,15 +456,24 @@ impl EntryBuilder {
             return Err(Refusal::AddressSizes);
         }
         let bytes = self.bytes();
-        Answer(raw::check_table(&bytes)).done()?;
+        Answer(raw::check_table(&bytes, &[])).done()?;
         Ok(Entry { bytes })
     }
 
-    /// The bytes, in document 01's order, with the MAC's length, if it is said, before the key's (document
-    /// 02, Ticket 4; the flags of translated sides are Ticket 10's). A key that does not fit is cut to 80
-    /// bytes, with a length above 80 beside it that the archive refuses.
-    fn bytes(&self) -> Vec<u8> {
-        const KEY_BYTES: usize = 80;
+    /// The entry's bytes in a table, whether the archive allows them or not: a table with them tells. With
+    /// addresses of two families they are no entry's. They hold the master key.
+    ///
+    /// ```
+    /// use embankery::{Entry, KeyTable};
+    ///
+    /// let good = Entry::ipv4().key(b"key");
+    /// assert_eq!(good.bytes(), good.clone().build()?.as_bytes());
+    /// let table = [good.bytes(), good.local_ports(9..=8).bytes()].concat();
+    /// assert_eq!(KeyTable::from_bytes(table).unwrap_err().number(), 14);
+    /// # Ok::<(), embankery::Refusal>(())
+    /// ```
+    pub fn bytes(&self) -> Vec<u8> {
+        // The flags of translated sides are document 02's, Ticket 10.
         let family = if self.any.is_ipv4() { 4 } else { 6 };
         let kind = family + u8::from(self.mac_length.is_some());
         let covered = match self.covered {
@@ -380,24 +486,9 @@ impl EntryBuilder {
             Algorithm::Aes128Cmac96 => 2,
             Algorithm::HmacSha256 => 3,
         };
-        let mut bytes = vec![kind, flags, algorithm, self.send_id, self.recv_id];
-        for side in [&self.local, &self.remote] {
-            bytes.extend(side.ports.start().to_be_bytes());
-            bytes.extend(side.ports.end().to_be_bytes());
-        }
-        for side in [&self.local, &self.remote] {
-            match side.address {
-                IpAddr::V4(address) => bytes.extend(address.octets()),
-                IpAddr::V6(address) => bytes.extend(address.octets()),
-            }
-            bytes.push(side.prefix);
-        }
-        bytes.extend(self.mac_length);
-        bytes.push(self.key.len().min(255) as u8);
-        let end = bytes.len() + KEY_BYTES;
-        bytes.extend(self.key.iter().take(KEY_BYTES));
-        bytes.resize(end, 0);
-        bytes
+        let front = [kind, flags, algorithm, self.send_id, self.recv_id];
+        let sides = [&self.local, &self.remote];
+        entry_bytes(front, sides, self.mac_length, &self.key)
     }
 }
 

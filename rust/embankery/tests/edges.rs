@@ -3,13 +3,15 @@
 
 mod common;
 
-use common::{kinds, octets, segment, Ends, FIRST_KIND, IDS, ISNS, PORTS};
+use common::{kinds, octets, segment, Ends, Md5Ends, FIRST_KIND, IDS, ISNS, PORTS};
 use embankery::raw::{self, c};
 use embankery::{Refusal, Verdict};
 use kit::pointers::{Buffer, Buffers, Calls};
 use kit::segment::{summed, ACK, SYN};
-use kit::Function::{Ask, CheckTable, Judge, JudgeSyn, OpenActive, OpenPassive, Sign};
-use kit::{calls_of, word, Bytes, Call, Function, State};
+use kit::Function::{
+    Ask, CheckTable, Judge, JudgeSyn, OpenActive, OpenActiveMd5, OpenPassive, Sign,
+};
+use kit::{calls_of, md5_word, word, Bytes, Call, Function, State};
 
 const ARCHIVE: Calls = calls_of!(Calls, c);
 
@@ -52,6 +54,7 @@ impl Guarded {
 #[derive(Clone)]
 struct Given {
     table: Vec<u8>,
+    md5: Vec<u8>,
     source: Vec<u8>,
     destination: Vec<u8>,
     /// The peer's signed SYN.
@@ -76,6 +79,7 @@ impl Given {
         let back = [PORTS[1], PORTS[0]];
         Given {
             table: ends.tables[1].as_bytes().to_vec(),
+            md5: kit::Entry::md5(&[10, 0, 0, 2], &[10, 0, 0, 9]).bytes(),
             source: octets(ends.addresses[0]),
             destination: octets(ends.addresses[1]),
             syn: ends.syn.clone(),
@@ -85,6 +89,20 @@ impl Given {
             state: ends.ends[1].as_bytes().to_vec(),
             setting: 1,
             nulls: false,
+        }
+    }
+
+    /// The same line by TCP MD5.
+    fn by_md5() -> Given {
+        let mut ends = Md5Ends::open(false);
+        let arriving = segment(PORTS, ISNS[0] + 1, ACK, &[], b"data");
+        Given {
+            table: kit::Entry::between(&[10, 0, 0, 2], &[10, 0, 0, 9]).bytes(),
+            md5: ends.tables[1].as_bytes().to_vec(),
+            syn: ends.syn.clone(),
+            arriving: ends.sign(&arriving).unwrap(),
+            state: ends.ends[1].as_bytes().to_vec(),
+            ..Given::good()
         }
     }
 
@@ -126,7 +144,7 @@ impl Given {
     /// The call at end 1 with what is given.
     fn of(&self, function: Function) -> Call {
         let (source, destination) = match function {
-            OpenActive => (&self.destination, &self.source),
+            OpenActive | OpenActiveMd5 => (&self.destination, &self.source),
             _ => (&self.source, &self.destination),
         };
         let segment = match function {
@@ -148,6 +166,7 @@ impl Given {
                 Ask => IDS[0],
                 _ => self.setting,
             },
+            md5: self.md5.clone(),
             ..Call::new(function, &self.table)
         }
     }
@@ -159,6 +178,7 @@ impl Given {
         let mut state = Guarded::new(&call.state);
         let buffers = Buffers {
             table: self.lent(&call.table),
+            md5: self.lent(&call.md5),
             source: self.lent(&call.source),
             destination: self.lent(&call.destination),
             segment: self.lent(&call.segment),
@@ -180,7 +200,7 @@ impl Given {
     }
 }
 
-/// All calls, each with its answer to what is good.
+/// All calls by TCP-AO, each with its answer to what is good.
 const CALLS: [(Function, u32); 7] = [
     (CheckTable, 1),
     (OpenActive, 0),
@@ -191,13 +211,60 @@ const CALLS: [(Function, u32); 7] = [
     (Ask, 0),
 ];
 
+/// The same by TCP MD5, which adds four bytes more.
+const MD5_CALLS: [(Function, u32); 6] = [
+    (CheckTable, 1),
+    (OpenActiveMd5, 0),
+    (JudgeSyn, 0),
+    (OpenPassive, 0),
+    (Judge, 0),
+    (Sign, SIGNED + 4),
+];
+
 /// Those that take a state.
-const STATE_CALLS: [Function; 5] = [OpenActive, OpenPassive, Judge, Sign, Ask];
+const STATE_CALLS: [Function; 6] = [OpenActive, OpenActiveMd5, OpenPassive, Judge, Sign, Ask];
+
+/// All that there are.
+const ALL_CALLS: [Function; 8] = Function::ALL;
 
 #[test]
 fn good() {
     for (call, value) in CALLS {
         assert_eq!(Given::good().call(call).0, word(0, value));
+    }
+    for (call, value) in MD5_CALLS {
+        assert_eq!(Given::by_md5().call(call).0, word(0, value));
+    }
+    assert_eq!(Given::good().unchanged(OpenActiveMd5), word(35, 0));
+    assert_eq!(Given::by_md5().unchanged(OpenActive), word(35, 0));
+    assert_eq!(Given::by_md5().unchanged(Ask), word(35, 0));
+}
+
+/// By every call: the MD5 table's refusals, with 1 in bits 8 to 15, and 45; the key table's come first.
+#[test]
+fn both_tables() {
+    let by_md5 = Given::by_md5();
+    for good in [Given::good(), Given::by_md5()] {
+        for call in ALL_CALLS {
+            let with = |table: &[u8], md5: &[u8]| Given {
+                table: table.to_vec(),
+                md5: md5.to_vec(),
+                // What 20 and 30 refuse, too.
+                syn: vec![],
+                arriving: vec![],
+                leaving: vec![],
+                ..good.clone()
+            };
+            let bad = [&by_md5.md5[..], &[8]].concat();
+            assert_eq!(with(&[], &bad).unchanged(call), md5_word(11, 1));
+            assert_eq!(with(&[8], &bad).unchanged(call), word(11, 0));
+            let keys = kit::Entry::default().bytes();
+            assert_eq!(with(&keys, &bad).unchanged(call), md5_word(11, 1));
+            assert_eq!(with(&keys, &by_md5.md5).unchanged(call), md5_word(45, 0));
+            let clash = by_md5.md5.repeat(2);
+            assert_eq!(with(&[], &clash).unchanged(call), md5_word(17, 1));
+            assert_eq!(with(&[], &keys).unchanged(call), md5_word(13, 0));
+        }
     }
 }
 
@@ -208,6 +275,33 @@ fn each_empty(nulls: bool) {
         ..Given::good()
     };
     let none = Vec::new;
+
+    let g = Given {
+        md5: none(),
+        ..good.clone()
+    };
+    for (call, value) in CALLS {
+        assert_eq!(g.call(call).0, word(0, value));
+    }
+    let g = Given {
+        nulls,
+        md5: none(),
+        ..Given::by_md5()
+    };
+    assert_eq!(g.unchanged(OpenActiveMd5), word(35, 0));
+    assert_eq!(g.unchanged(JudgeSyn), word(1, 0));
+    assert_eq!(g.unchanged(Sign), word(35, 0));
+    assert_eq!(g.unchanged(Ask), word(35, 0));
+    counted(&g, 26);
+    let g = Given {
+        nulls,
+        table: none(),
+        ..Given::by_md5()
+    };
+    for (call, value) in MD5_CALLS {
+        let value = if call == CheckTable { 0 } else { value };
+        assert_eq!(g.call(call).0, word(0, value));
+    }
 
     let g = Given {
         table: none(),
@@ -232,7 +326,7 @@ fn each_empty(nulls: bool) {
             destination,
             ..good.clone()
         };
-        for call in [OpenActive, JudgeSyn, OpenPassive, Judge] {
+        for call in [OpenActive, OpenActiveMd5, JudgeSyn, OpenPassive, Judge] {
             assert_eq!(g.unchanged(call), word(19, 0));
         }
     }
@@ -264,6 +358,7 @@ fn each_empty(nulls: bool) {
 
     let g = Given {
         table: none(),
+        md5: none(),
         source: none(),
         destination: none(),
         syn: none(),
@@ -306,6 +401,7 @@ fn each_empty_of_mac(g: &Given) {
     const SHA256_OF_NONE: &str = "e3b0c44298fc1c149afbf4c8996fb92427ae41e4649b934ca495991b7852b855";
     const HMAC256_OF_NONE: &str =
         "b613679a0814d9ec772f95d778c35fc5ff1697c493715653c6c712144292c5ad";
+    const MD5_OF_NONE: &str = "d41d8cd98f00b204e9800998ecf8427e";
     let hex = |bytes: &[u8]| bytes.iter().map(|b| format!("{b:02x}")).collect::<String>();
     let none: &[u8] = &[];
     let some = [7; 16];
@@ -323,6 +419,8 @@ fn each_empty_of_mac(g: &Given) {
         assert_eq!((wrote, hex(&long).as_str()), (32, SHA256_OF_NONE));
         let wrote = c::mac_hmac_sha256(g.ptr(none), 0, g.ptr(none), 0, long.as_mut_ptr(), 32);
         assert_eq!((wrote, hex(&long).as_str()), (32, HMAC256_OF_NONE));
+        let wrote = c::mac_md5(g.ptr(none), 0, long.as_mut_ptr(), 32);
+        assert_eq!((wrote, hex(&long[..16]).as_str()), (16, MD5_OF_NONE));
 
         let before = out;
         let key = some.as_ptr();
@@ -337,6 +435,7 @@ fn each_empty_of_mac(g: &Given) {
         assert_eq!(c::mac_hmac_sha1(key, 16, key, 16, nowhere, 0), 0);
         assert_eq!(c::mac_sha256(key, 16, nowhere, 0), 0);
         assert_eq!(c::mac_hmac_sha256(key, 16, key, 16, nowhere, 0), 0);
+        assert_eq!(c::mac_md5(key, 16, nowhere, 0), 0);
         assert_eq!(c::mac_aes128(key, 16, key, 16, nowhere, 0), 0);
         assert_eq!(c::mac_aes128_cmac(key, 16, key, 16, nowhere, 0), 0);
     }
@@ -360,6 +459,7 @@ fn states_of_every_length() {
     let good = Given::good();
     let bad = Given {
         table: vec![9],
+        md5: vec![9],
         source: vec![1; 5],
         destination: vec![],
         syn: vec![1; 19],
@@ -406,6 +506,7 @@ fn wrong_key_ids() {
         for setting in 0..=255 {
             let with = |table: &[u8]| Given {
                 table: table.to_vec(),
+                md5: vec![],
                 syn: syn.clone(),
                 setting,
                 ..good.clone()
@@ -475,6 +576,42 @@ fn outputs_just_long_enough() {
     }
 }
 
+/// By TCP MD5, 20 bytes are added.
+#[test]
+fn outputs_just_long_enough_by_md5() {
+    for ipv6 in [false, true] {
+        let options: [&[u8]; 3] = [&[], &[1, 3, 3, 7], &[1; 20]];
+        for options in options {
+            for data in [0, 1, 23, 24, 1_400] {
+                let mut ends = Md5Ends::open(ipv6);
+                let g = Given {
+                    table: vec![],
+                    md5: ends.tables[0].as_bytes().to_vec(),
+                    leaving: segment(PORTS, ISNS[0] + 1, ACK, options, &vec![5; data]),
+                    state: ends.ends[0].as_bytes().to_vec(),
+                    ..Given::good()
+                };
+                let signed = ends.sign(&g.leaving).unwrap();
+                assert_eq!(signed.len(), g.leaving.len() + 20);
+                assert_eq!(ends.judge(&signed), Verdict::Accept { extension: 0 });
+                let need = signed.len();
+                for room in [
+                    0,
+                    1,
+                    need - 20,
+                    need - 2,
+                    need - 1,
+                    need,
+                    need + 1,
+                    need + 100,
+                ] {
+                    sign_into(&g, room, &signed);
+                }
+            }
+        }
+    }
+}
+
 /// A call on messages, whose result has `need` bytes, into buffers around that length.
 fn mac_into(need: usize, call: impl Fn(&mut [u8]) -> u64) {
     for room in 0..=need + 5 {
@@ -504,6 +641,7 @@ fn macs_just_long_enough() {
         mac_into(32, |out| raw::sha256(&message, out));
         mac_into(32, |out| raw::hmac_sha256(&key, &message, out));
         mac_into(32, |out| raw::hmac_sha256(&message, &key, out));
+        mac_into(16, |out| raw::md5(&message, out));
         mac_into(16, |out| raw::aes128_cmac(&key, &message, out));
     }
     let long = bytes.take(40);
@@ -560,6 +698,28 @@ fn longest_segments() {
         // Without TCP-AO, a segment of 65,535 bytes is looked at to its end all the same.
         let unsigned = ends.summed(&plain(65_535));
         assert_eq!(ends.judge(&unsigned), Verdict::Drop(Refusal::OptionMissing));
+    }
+}
+
+/// By TCP MD5 the longest segment is signed from 65,515 bytes.
+#[test]
+fn longest_segments_by_md5() {
+    for ipv6 in [false, true] {
+        let mut ends = Md5Ends::open(ipv6);
+        let plain = |len: usize| segment(PORTS, ISNS[0] + 1, ACK, &[], &vec![3; len - 20]);
+        let longest = ends.sign(&plain(65_515)).unwrap();
+        assert_eq!(longest.len(), 65_535);
+        assert_eq!(ends.judge(&longest), Verdict::Accept { extension: 0 });
+        for len in [65_516, 65_517, 65_518, 65_535] {
+            assert_eq!(ends.sign(&plain(len)), Err(Refusal::SignRoom));
+        }
+        let mut forged = longest.clone();
+        forged[65_534] ^= 1;
+        assert_eq!(ends.judge(&forged), Verdict::Drop(Refusal::Checksum));
+        let forged = ends.summed(&forged);
+        assert_eq!(ends.judge(&forged), Verdict::Drop(Refusal::MacDiffers));
+        let unsigned = ends.summed(&plain(65_535));
+        assert_eq!(ends.judge(&unsigned), Verdict::Drop(Refusal::Md5Missing));
     }
 }
 
@@ -668,14 +828,26 @@ mod last_byte {
     /// All calls with everything at the end of memory.
     fn all(g: &Given) {
         let table = Last::new(&g.table);
+        let md5 = Last::new(&g.md5);
         let source = Last::new(&g.source);
         let destination = Last::new(&g.destination);
-        let (table, source, destination) =
-            (table.as_slice(), source.as_slice(), destination.as_slice());
+        let (table, md5) = (table.as_slice(), md5.as_slice());
+        let (source, destination) = (source.as_slice(), destination.as_slice());
         let state = || Last::new(&g.state);
-        raw::check_table(table);
+        raw::check_table(table, md5);
+        raw::open_active_md5(
+            table,
+            md5,
+            destination,
+            source,
+            PORTS[1],
+            PORTS[0],
+            ISNS[1],
+            state().as_mut_slice(),
+        );
         raw::open_active(
             table,
+            md5,
             destination,
             source,
             PORTS[1],
@@ -687,9 +859,10 @@ mod last_byte {
         for segment in [&g.syn, &g.arriving, &g.leaving] {
             let segment = Last::new(segment);
             let segment = segment.as_slice();
-            raw::judge_syn(table, source, destination, segment, g.setting);
+            raw::judge_syn(table, md5, source, destination, segment, g.setting);
             raw::open_passive(
                 table,
+                md5,
                 source,
                 destination,
                 segment,
@@ -697,9 +870,23 @@ mod last_byte {
                 g.setting,
                 state().as_mut_slice(),
             );
-            raw::judge(table, source, destination, segment, state().as_mut_slice());
+            raw::judge(
+                table,
+                md5,
+                source,
+                destination,
+                segment,
+                state().as_mut_slice(),
+            );
             let mut out = Last::new(&g.out);
-            raw::sign(table, segment, out.as_mut_slice(), state().as_mut_slice());
+            raw::sign(
+                table,
+                md5,
+                segment,
+                out.as_mut_slice(),
+                state().as_mut_slice(),
+            );
+            raw::md5(segment, out.as_mut_slice());
             raw::sha1(segment, out.as_mut_slice());
             raw::hmac_sha1(table, segment, out.as_mut_slice());
             raw::sha256(segment, out.as_mut_slice());
@@ -707,7 +894,7 @@ mod last_byte {
             raw::aes128(source, segment, out.as_mut_slice());
             raw::aes128_cmac(source, segment, out.as_mut_slice());
         }
-        raw::ask(table, IDS[0], state().as_mut_slice());
+        raw::ask(table, md5, IDS[0], state().as_mut_slice());
     }
 
     #[test]
@@ -734,10 +921,44 @@ mod last_byte {
         }
     }
 
+    #[test]
+    fn of_good_input_by_md5() {
+        for ipv6 in [false, true] {
+            for data in [0, 1, 15, 16, 27, 28, 43, 44, 63, 64, 1_400, 65_495] {
+                let mut ends = Md5Ends::open(ipv6);
+                let data = vec![5; data];
+                let arriving = segment(PORTS, ISNS[0] + 1, ACK, &[], &data);
+                let leaving = segment([PORTS[1], PORTS[0]], ISNS[1] + 1, ACK, &[], &data);
+                all(&Given {
+                    table: vec![],
+                    md5: ends.tables[1].as_bytes().to_vec(),
+                    source: octets(ends.addresses[0]),
+                    destination: octets(ends.addresses[1]),
+                    syn: ends.syn.clone(),
+                    arriving: ends.sign(&arriving).unwrap(),
+                    out: vec![0; leaving.len() + 20],
+                    leaving,
+                    state: ends.ends[1].as_bytes().to_vec(),
+                    ..Given::good()
+                });
+            }
+        }
+    }
+
     /// Each buffer cut at every length, the segment's header among them.
     #[test]
     fn of_cut_input() {
-        let good = Given::good();
+        of_cut(&Given::good());
+        of_cut(&Given::by_md5());
+    }
+
+    fn of_cut(good: &Given) {
+        for len in 0..=good.md5.len() {
+            all(&Given {
+                md5: good.md5[..len].to_vec(),
+                ..good.clone()
+            });
+        }
         for len in 0..=good.table.len() {
             all(&Given {
                 table: good.table[..len].to_vec(),
@@ -781,15 +1002,16 @@ mod last_byte {
     /// Option areas that end in the middle of an option, directly at the end of memory.
     #[test]
     fn of_cut_options() {
-        let good = Given::good();
         let mut bytes = Bytes(11);
+        let lines = [Given::good(), Given::by_md5()];
         for round in 0..4_000 {
+            let good = &lines[round % 2];
             let words = bytes.below(11);
             let mut options = bytes.take(words * 4);
             for _ in 0..bytes.below(4) {
                 if !options.is_empty() {
                     let at = bytes.below(options.len());
-                    options[at] = [0, 1, 2, 4, 16, 19, 29, 30][bytes.below(8)];
+                    options[at] = [0, 1, 2, 4, 16, 18, 19, 19, 29, 30][bytes.below(10)];
                 }
             }
             let flags = [ACK, SYN, SYN | ACK][round % 3];

@@ -1,4 +1,4 @@
-//! README.md's two first programs are the files in examples/, and print what README.md says.
+//! README.md's programs are the files in examples/, and print what README.md says.
 
 use std::path::{Path, PathBuf};
 use std::process::Command;
@@ -43,18 +43,21 @@ fn in_c() {
     shown("text", &run(&mut Command::new(program)));
 }
 
-#[test]
-fn in_rust() {
-    shown("rust", &read("examples/first.rs"));
+/// The example of this name is in README.md, and so is what it prints.
+fn rust_example(name: &str) {
+    shown("rust", &read(&format!("examples/{name}.rs")));
     let printed = run(Command::new(env!("CARGO"))
-        .args([
-            "run",
-            "--offline",
-            "--locked",
-            "--quiet",
-            "--example",
-            "first",
-        ])
+        .args(["run", "--offline", "--locked", "--quiet", "--example", name])
         .current_dir(env!("CARGO_MANIFEST_DIR")));
     shown("text", &printed);
+}
+
+#[test]
+fn in_rust() {
+    rust_example("first");
+}
+
+#[test]
+fn by_tcp_md5() {
+    rust_example("md5");
 }

@@ -3,10 +3,12 @@
 
 mod common;
 
-use common::{kinds, octets, segment, Ends, Kind, ALGORITHMS, FIRST_KIND, IDS, ISNS, PORTS};
+use common::{
+    kinds, octets, segment, Ends, Kind, Md5Ends, ALGORITHMS, FIRST_KIND, IDS, ISNS, PORTS,
+};
 use embankery::{
-    judge_syn, Algorithm, Connection, Covered, Entry, EntryBuilder, KeyTable, Refusal,
-    UnknownKeyId, Verdict,
+    judge_syn, Algorithm, Connection, Covered, Entry, EntryBuilder, KeyTable, Md5Entry,
+    Md5EntryBuilder, Md5Table, Refusal, Table, Tables, UnknownKeyId, Verdict, Way,
 };
 use kit::segment::{ACK, SYN};
 use kit::Bytes;
@@ -96,7 +98,8 @@ fn bytes_of_the_flags() {
         .to_vec();
     for flags in 0..=255 {
         bytes[1] = flags;
-        let refused = Err(Refusal::NotListed { entry: 0 });
+        let table = Table::Keys;
+        let refused = Err(Refusal::NotListed { table, entry: 0 });
         assert_eq!(entry(&bytes), if flags < 8 { Ok(1) } else { refused });
     }
 }
@@ -171,7 +174,8 @@ fn numbers_of_the_table() {
             second[*at] = *value;
         }
         let refusal = KeyTable::from_bytes([good, &second].concat()).unwrap_err();
-        assert_eq!((refusal.number(), refusal.entry()), (number, Some(1)));
+        let entry = Some((Table::Keys, 1));
+        assert_eq!((refusal.number(), refusal.entry()), (number, entry));
         let shown = refusal.to_string();
         assert!(shown.starts_with(&format!("{number} at entry 1: ")));
     }
@@ -191,7 +195,8 @@ fn all_kinds_in_a_table() {
     assert_eq!(table.len(), 4);
     let clash = entry(Entry::ipv4().mac_length(12), 1);
     let refusal = KeyTable::new([&four, &clash]).unwrap_err();
-    assert_eq!(refusal, Refusal::IdClash { entry: 1 });
+    let table = Table::Keys;
+    assert_eq!(refusal, Refusal::IdClash { table, entry: 1 });
 }
 
 /// 64 entries are a table, a 65th is refused with 12.
@@ -201,7 +206,251 @@ fn too_many_entries() {
     let entries: Vec<Entry> = (0..65).map(|id| entry(id).unwrap()).collect();
     assert_eq!(KeyTable::new(&entries[..64]).unwrap().len(), 64);
     let refusal = KeyTable::new(&entries).unwrap_err();
-    assert_eq!(refusal, Refusal::TooManyEntries { entry: 64 });
+    let table = Table::Keys;
+    assert_eq!(refusal, Refusal::TooManyEntries { table, entry: 64 });
+}
+
+/// An MD5 entry has document 01's bytes, with flags 0, algorithm 19 and both IDs 0.
+#[test]
+fn bytes_of_md5_entries() {
+    let entry = Md5Entry::ipv4()
+        .local([10, 1, 0, 0], 16)
+        .remote([192, 0, 2, 7], 32)
+        .local_ports(179..=180)
+        .remote_ports(1_024..=65_535)
+        .key([9; 16])
+        .build()
+        .unwrap();
+    let mut expected = vec![4, 0, 19, 0, 0];
+    expected.extend([0, 179, 0, 180, 4, 0, 255, 255]);
+    expected.extend([10, 1, 0, 0, 16, 192, 0, 2, 7, 32, 16]);
+    expected.extend([9; 16]);
+    expected.extend([0; 64]);
+    assert_eq!(entry.as_bytes(), expected);
+    let entry = Md5Entry::ipv6().key([7; 80]).build().unwrap();
+    assert_eq!(entry.as_bytes().len(), 128);
+    assert_eq!(entry.as_bytes()[..5], [6, 0, 19, 0, 0]);
+    let key = Entry::ipv6().key([7; 80]).build().unwrap();
+    assert_eq!(entry.as_bytes()[5..], key.as_bytes()[5..]);
+}
+
+#[test]
+fn md5_entries_refused() {
+    let v4 = || Md5Entry::ipv4().key(b"key");
+    let number = |entry: Md5EntryBuilder| entry.build().unwrap_err().number();
+    for len in [0, 81, 255, 256, 336, 100_000] {
+        assert_eq!(number(v4().key(vec![1; len])), 16, "{len} bytes of key");
+    }
+    assert_eq!(number(v4().local([0; 4], 33)), 15);
+    assert_eq!(number(v4().remote([10, 0, 0, 1], 31)), 15);
+    let (low, high) = (180, 179);
+    assert_eq!(number(v4().local_ports(low..=high)), 14);
+    assert_eq!(number(v4().local([0u16; 8], 0)), 19);
+    assert_eq!(number(Md5Entry::ipv6().remote([0; 4], 0).key(b"key")), 19);
+}
+
+/// 10 to 17 of the MD5 table say so, and a key table is none.
+#[test]
+fn numbers_of_the_md5_table() {
+    let good = Md5Entry::ipv4().remote_ports(0..=9).key(b"key").build();
+    let good = good.unwrap();
+    let good = good.as_bytes();
+    let cases: [(u8, &[(usize, u8)]); 12] = [
+        (10, &[(0, 6)]),
+        (11, &[(0, 5)]),
+        (11, &[(0, 7)]),
+        (13, &[(1, 1)]),
+        (13, &[(1, 2)]),
+        (13, &[(2, 1)]),
+        (13, &[(2, 18)]),
+        (13, &[(3, 1)]),
+        (13, &[(4, 1)]),
+        (14, &[(9, 255)]),
+        (15, &[(17, 33)]),
+        (16, &[(103, 1)]),
+    ];
+    let mut second = good.to_vec();
+    second[10] = 10;
+    second[12] = 19;
+    let table = Md5Table::from_bytes([good, &second].concat()).unwrap();
+    assert_eq!(table.len(), 2);
+    assert_eq!(format!("{table:?}"), "Md5Table { len: 2, .. }");
+    for (number, changes) in cases {
+        let mut second = second.clone();
+        for (at, value) in changes {
+            second[*at] = *value;
+        }
+        let refusal = Md5Table::from_bytes([good, &second].concat()).unwrap_err();
+        let entry = Some((Table::Md5, 1));
+        assert_eq!((refusal.number(), refusal.entry()), (number, entry));
+        let shown = refusal.to_string();
+        assert!(shown.starts_with(&format!("{number} at MD5 entry 1: ")));
+    }
+    let refusal = Md5Table::from_bytes([good, good].concat()).unwrap_err();
+    let table = Table::Md5;
+    assert_eq!(refusal, Refusal::IdClash { table, entry: 1 });
+    let key = Entry::ipv4().key(b"key").build().unwrap();
+    let refusal = Md5Table::from_bytes(key.as_bytes()).unwrap_err();
+    assert_eq!(refusal, Refusal::NotListed { table, entry: 0 });
+    let table = Table::Keys;
+    let refusal = KeyTable::from_bytes(good).unwrap_err();
+    assert_eq!(refusal, Refusal::NotListed { table, entry: 0 });
+    assert!(Md5Table::new([]).unwrap().is_empty());
+    let entry = |port| Md5Entry::ipv6().local_ports(port..=port).key(b"key");
+    let entries: Vec<Md5Entry> = (0..65).map(|port| entry(port).build().unwrap()).collect();
+    assert_eq!(Md5Table::new(&entries[..64]).unwrap().len(), 64);
+    let refusal = Md5Table::new(&entries).unwrap_err();
+    assert_eq!(refusal.entry(), Some((Table::Md5, 64)));
+}
+
+/// Every call takes both tables, and refuses them with 45 where a pair would go both ways.
+#[test]
+fn both_tables() {
+    let ends = Ends::open(FIRST_KIND);
+    let md5 = Md5Ends::open(false);
+    let refused = Refusal::TwoWays {
+        table: Table::Md5,
+        entry: 0,
+    };
+    let (keys, old) = (&ends.tables[1], &md5.tables[1]);
+    assert_eq!(Tables::new(keys, old).unwrap_err(), refused);
+    assert!(refused.to_string().starts_with("45 at MD5 entry 0: "));
+
+    // A station with two peers: one goes by TCP-AO, one by TCP MD5.
+    let md5_entry = Md5Entry::ipv4().remote([10, 0, 0, 9], 32).key(b"key");
+    let md5_entry = Md5Table::new([&md5_entry.build().unwrap()]).unwrap();
+    let tables = Tables::new(keys, &md5_entry).unwrap();
+    let [source, destination] = ends.addresses;
+    let choice = UnknownKeyId::Pass;
+    let accepted = Verdict::Accept { extension: 0 };
+    assert_eq!(
+        judge_syn(tables, source, destination, &ends.syn, choice),
+        accepted
+    );
+    let opened = Connection::open_passive(tables, source, destination, &ends.syn, 1, choice);
+    let mut opened = opened.unwrap().unwrap();
+    assert_eq!(opened.way(), Way::TcpAo);
+    assert_eq!(opened.ask(tables, IDS[0]), Ok(()));
+    let back = segment([PORTS[1], PORTS[0]], 1, SYN | ACK, &[], &[]);
+    assert_eq!(opened.sign(tables, &back).unwrap()[20], 29);
+    let here = (destination, 179);
+    let there = |last: u8| (IpAddr::from([10, 0, 0, last]), 40_000);
+    assert!(Connection::open_active(tables, here, there(1), 1, IDS[1]).is_ok());
+    assert!(Connection::open_active_md5(tables, here, there(9), 1).is_ok());
+    let no_entry = Err(Refusal::NoEntry);
+    assert_eq!(
+        Connection::open_active(tables, here, there(9), 1, IDS[1]),
+        no_entry
+    );
+    assert_eq!(
+        Connection::open_active_md5(tables, here, there(1), 1),
+        no_entry
+    );
+    // One table alone stands for no other.
+    assert_eq!(
+        Connection::open_active_md5(keys, here, there(9), 1),
+        no_entry
+    );
+    assert_eq!(
+        Connection::open_active(&md5_entry, here, there(1), 1, 0),
+        no_entry
+    );
+}
+
+/// Both ends by TCP MD5: what signing adds, extension 0, references that stay, and every number.
+#[test]
+fn by_md5() {
+    for ipv6 in [false, true] {
+        let mut ends = Md5Ends::open(ipv6);
+        assert_eq!(ends.ends.each_ref().map(Connection::way), [Way::TcpMd5; 2]);
+        let plain = |flags, options: &[u8]| segment(PORTS, ISNS[0] + 1, flags, options, b"data");
+        let signed = ends.sign(&plain(ACK, &[2, 4, 5, 6])).unwrap();
+        assert_eq!(signed.len(), 28 + 20);
+        assert_eq!(signed[20..22], [19, 18]);
+        assert_eq!(signed[38..40], [1, 1]);
+        assert_eq!(signed[40..], plain(ACK, &[2, 4, 5, 6])[20..]);
+        assert_eq!(signed, ends.summed(&signed));
+        assert!(ends.sign(&plain(ACK, &[1; 20])).is_ok());
+        assert_eq!(ends.sign(&plain(ACK, &[1; 24])), Err(Refusal::SignRoom));
+
+        let before = ends.ends.clone();
+        for number in [0, 1, ISNS[0], 1 << 31, u32::MAX] {
+            let signed = ends.sign(&segment(PORTS, number, ACK, &[], b"x")).unwrap();
+            assert_eq!(ends.judge(&signed), Verdict::Accept { extension: 0 });
+        }
+        assert_eq!(ends.ends[0], before[0]);
+        let (after, before) = (&ends.ends[1], &before[1]);
+        assert_eq!(after.seen_reference(), before.seen_reference());
+        assert_eq!(after.accepted(), before.accepted() + 5);
+
+        let option = |bytes: &[u8]| ends.summed(&plain(ACK, bytes));
+        let mut forged = signed.clone();
+        forged[37] ^= 1;
+        let cases = [
+            (
+                Refusal::WrongWay,
+                option(&[29, 16, 1, 1, 0, 0, 0, 0, 0, 0, 0, 0, 0, 0, 0, 0]),
+            ),
+            (Refusal::Md5Missing, option(&[])),
+            (Refusal::MacLength, option(&[19, 4, 0, 0])),
+            (Refusal::OptionsConflict, option(&[19, 2, 19, 2])),
+            (Refusal::MacDiffers, ends.summed(&forged)),
+            (Refusal::Checksum, forged),
+        ];
+        for (refusal, arriving) in cases {
+            assert_eq!(ends.judge(&arriving), Verdict::Drop(refusal));
+            assert_eq!(ends.ends[1].dropped(refusal.number()), Some(1));
+        }
+        let [a, b] = &mut ends.ends;
+        assert_eq!(b.ask(&ends.tables[1], 0), Err(Refusal::NoEntry));
+        let none = Md5Table::new([]).unwrap();
+        assert_eq!(a.sign(&none, &plain(ACK, &[])), Err(Refusal::NoEntry));
+        let [source, destination] = ends.addresses;
+        let verdict = b.judge(&none, source, destination, &signed);
+        assert_eq!(verdict, Verdict::Drop(Refusal::UnknownKeyId));
+
+        // A bare SYN goes by the table that matches.
+        let syn = ends.summed(&segment(PORTS, ISNS[0], SYN, &[], &[]));
+        let unsigned = judge_syn(
+            &ends.tables[1],
+            source,
+            destination,
+            &syn,
+            UnknownKeyId::Pass,
+        );
+        assert_eq!(unsigned, Verdict::Drop(Refusal::Md5Missing));
+        let choice = UnknownKeyId::Pass;
+        let passed = judge_syn(&none, source, destination, &ends.syn, choice);
+        assert_eq!(passed, Verdict::Pass);
+        let mut opening = ends.opening.clone();
+        assert!(!opening.is_open());
+        let elsewhere = segment(PORTS, ISNS[0] + 1, SYN, &[], &[]);
+        let refused = opening.sign(&ends.tables[0], &elsewhere);
+        assert_eq!(refused, Err(Refusal::SignPosition));
+    }
+}
+
+/// The other way is never accepted, whichever tables there are.
+#[test]
+fn the_other_way() {
+    let mut by_ao = Ends::open(FIRST_KIND);
+    let mut by_md5 = Md5Ends::open(false);
+    let plain = segment(PORTS, ISNS[0] + 1, ACK, &[], b"data");
+    let (ao, md5) = (by_ao.sign(&plain).unwrap(), by_md5.sign(&plain).unwrap());
+    let [source, destination] = by_ao.addresses;
+    let (keys, old) = (&by_ao.tables[1], &by_md5.tables[1]);
+    let [_, a] = &mut by_ao.ends;
+    let [_, m] = &mut by_md5.ends;
+    let drop = Verdict::Drop;
+    for tables in [Tables::from(keys), Tables::from(old)] {
+        let verdict = a.judge(tables, source, destination, &md5);
+        assert_eq!(verdict, drop(Refusal::OptionMissing));
+        let verdict = m.judge(tables, source, destination, &ao);
+        assert_eq!(verdict, drop(Refusal::WrongWay));
+    }
+    let accepted = Verdict::Accept { extension: 0 };
+    assert_eq!(a.judge(keys, source, destination, &ao), accepted);
+    assert_eq!(m.judge(old, source, destination, &md5), accepted);
 }
 
 #[test]
@@ -239,8 +488,8 @@ fn numbers_of_a_verdict() {
     assert_eq!(ends.judge(&signed), Verdict::Accept { extension: 0 });
     let end = &mut ends.ends[1];
     assert_eq!(end.accepted(), 1);
-    let counted = (20..=29).chain([40]);
-    assert!(end.drops().eq(counted.map(|number| (number, 1))));
+    let counted = (20..=29).chain([40]).map(|number| (number, 1));
+    assert!(end.drops().eq(counted.chain([(46, 0), (47, 0)])));
     assert_eq!(end.dropped(19), None);
     assert_eq!(end.dropped(30), None);
 
@@ -406,7 +655,7 @@ fn fields_of_a_state() {
             "[2021:2223:2425:2627:2829:2a2b:2c2d:2e2f]:1543",
         ),
     ] {
-        let mut bytes: [u8; 160] = std::array::from_fn(|i| i as u8);
+        let mut bytes: [u8; 177] = std::array::from_fn(|i| i as u8);
         bytes[0] = family;
         let state = Connection::from_bytes(&bytes).unwrap();
         assert_eq!(state.local(), local.parse::<SocketAddr>().unwrap());
@@ -420,16 +669,25 @@ fn fields_of_a_state() {
         assert_eq!(state.dropped(20), Some(0x48494A4B4C4D4E4F));
         assert_eq!(state.dropped(29), Some(0x9091929394959697));
         assert_eq!(state.dropped(40), Some(0x98999A9B9C9D9E9F));
+        assert_eq!(state.dropped(46), Some(0xA0A1A2A3A4A5A6A7));
+        assert_eq!(state.dropped(47), Some(0xA8A9AAABACADAEAF));
+        assert_eq!(state.way(), Way::TcpAo);
+        for way in 0..=255 {
+            bytes[176] = way;
+            let by_md5 = Connection::from_bytes(&bytes).unwrap().way() == Way::TcpMd5;
+            assert_eq!(by_md5, way == 1);
+        }
+        bytes[176] = 176;
         assert_eq!(state.as_bytes(), &bytes);
         bytes[1] = 2;
         assert!(!Connection::from_bytes(&bytes).unwrap().is_open());
     }
     for family in (0..=255).filter(|family| ![4, 6].contains(family)) {
-        let mut bytes = [4; 160];
+        let mut bytes = [4; 177];
         bytes[0] = family;
         assert_eq!(Connection::from_bytes(&bytes), Err(Refusal::State));
     }
-    for len in (0..=300).filter(|len| *len != 160) {
+    for len in (0..=300).filter(|len| *len != 177) {
         assert_eq!(Connection::from_bytes(&vec![4; len]), Err(Refusal::State));
     }
 }
@@ -495,7 +753,10 @@ fn translation() {
                 let entry = entry.algorithm(kind.algorithm).covered(kind.covered);
                 entry.key(b"a key of both ends")
             };
-            let ours = entry(0).local(inside, 32).remote(server, 32).local_nat(said);
+            let ours = entry(0)
+                .local(inside, 32)
+                .remote(server, 32)
+                .local_nat(said);
             let theirs = entry(1)
                 .local(server, 32)
                 .remote(outside, 32)
@@ -552,7 +813,12 @@ fn no_key_is_shown() {
     let builder = Entry::ipv4().key([0xEE; 16]);
     let entry = builder.clone().build().unwrap();
     let table = KeyTable::new([&entry]).unwrap();
-    let shown = format!("{builder:?} {entry:?} {table:?}");
+    let old_builder = Md5Entry::ipv4().key([0xEE; 16]);
+    let old = old_builder.clone().build().unwrap();
+    let old_table = Md5Table::new([&old]).unwrap();
+    let tables = Tables::from(&old_table);
+    let shown =
+        format!("{builder:?} {entry:?} {table:?} {old_builder:?} {old:?} {old_table:?} {tables:?}");
     assert!(!shown.contains("238") && !shown.to_lowercase().contains("ee"));
 }
 
@@ -564,6 +830,7 @@ fn any_bytes() {
     let signed = segment(PORTS, ISNS[0] + 1, ACK, &[1; 8], b"data");
     let signed = ends.sign(&signed).unwrap();
     let good = ends.ends[1].as_bytes().to_vec();
+    let old = Md5Ends::open(false).tables;
     for _ in 0..20_000 {
         let mut segment = signed.clone();
         for _ in 0..bytes.below(4) {
@@ -589,17 +856,22 @@ fn any_bytes() {
         ];
         let source = addresses[bytes.below(3)];
         let destination = addresses[bytes.below(3)];
-        let table = &ends.tables[bytes.below(2)];
+        let table = [
+            Tables::from(&ends.tables[bytes.below(2)]),
+            Tables::from(&old[bytes.below(2)]),
+        ][bytes.below(2)];
         let setting = [UnknownKeyId::Pass, UnknownKeyId::Drop][bytes.below(2)];
         let _ = judge_syn(table, source, destination, &segment, setting);
         let _ = Connection::open_passive(table, source, destination, &segment, 7, setting);
         let _ = Connection::open_active(table, (source, 1), (destination, 2), 7, bytes.byte());
+        let _ = Connection::open_active_md5(table, (source, 1), (destination, 2), 7);
         let _ = end.judge(table, source, destination, &segment);
         let _ = end.ask(table, bytes.byte());
         let _ = end.sign(table, &segment);
         let mut out = vec![0; bytes.below(100)];
         let _ = end.sign_into(table, &segment, &mut out);
         let _ = format!("{end:?}");
-        let _ = KeyTable::from_bytes(segment);
+        let _ = KeyTable::from_bytes(segment.clone());
+        let _ = Md5Table::from_bytes(segment);
     }
 }

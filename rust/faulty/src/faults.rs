@@ -10,10 +10,10 @@ pub const FAULTS: &[Planted] = &[
         does: "An unknown kind is 11 even where a 65th entry begins.",
         breaks: "\"The first that applies, in this order, is given\": 12, 11, 10",
         file: "table.rs",
-        function: "fn read(",
+        function: "fn walk<",
         edits: &[Before(
             "// 12: \"a 65th entry begins\".",
-            "if !(4..=7).contains(&rest[0]) { return Err(refused(11)); }",
+            "if body_bytes(rest[0]).is_none() { return Err(refused(11)); }",
         )],
     },
     Planted {
@@ -21,23 +21,23 @@ pub const FAULTS: &[Planted] = &[
         does: "14 looks at the local ports only.",
         breaks: "14: \"low port above high\"",
         file: "table.rs",
-        function: "fn read_body(",
-        edits: &[Instead("bad(&local) || bad(&remote)", "bad(&local)")],
+        function: "fn test_sides(",
+        edits: &[Instead("bad(local) || bad(remote)", "bad(local)")],
     },
     Planted {
         name: "BitsOfLocalSideOnly",
         does: "15 looks at the bits behind the prefix on the local side only.",
         breaks: "15: \"prefix above 32 or 128, or address bits set past it\"",
         file: "table.rs",
-        function: "fn read_body(",
-        edits: &[Instead("bits_set(&local) || bits_set(&remote)", "bits_set(&local)")],
+        function: "fn test_sides(",
+        edits: &[Instead("bits_set(local) || bits_set(remote)", "bits_set(local)")],
     },
     Planted {
         name: "PaddingNotLookedAt",
         does: "16 does not look at the padding.",
         breaks: "16: \"key length 0 or above 80, or padding not zero\"",
         file: "table.rs",
-        function: "fn read_body(",
+        function: "fn read_key(",
         edits: &[Instead("padding.iter().any(|byte| *byte != 0)", "false")],
     },
     Planted {
@@ -83,7 +83,7 @@ pub const FAULTS: &[Planted] = &[
         does: "Indices are counted from 1.",
         breaks: "\"with the entry's index from 0\"",
         file: "table.rs",
-        function: "fn read(",
+        function: "fn walk<",
         edits: &[Instead("entries.len() as u32", "entries.len() as u32 + 1")],
     },
     Planted {
@@ -91,10 +91,10 @@ pub const FAULTS: &[Planted] = &[
         does: "15 before 14.",
         breaks: "\"The first that applies, in this order, is given\"",
         file: "table.rs",
-        function: "fn read_body(",
+        function: "fn test_sides(",
         edits: &[Before(
             "// 14: \"low port above high\".",
-            "if local.prefix.max(remote.prefix) > 8 * address_bytes { return Err(15); }",
+            "if local.prefix.max(remote.prefix) > 8 * local.address.len() { return Err(15); }",
         )],
     },
     Planted {
@@ -102,17 +102,17 @@ pub const FAULTS: &[Planted] = &[
         does: "17 is looked for when all entries are read: behind 10 to 16 of later entries.",
         breaks: "\"table entries are taken one after another, each through to 17 against those before it\"",
         file: "table.rs",
-        function: "fn read(",
+        function: "fn walk<",
         edits: &[
-            Instead("entries.iter().any(|before| before.clashes(&entry))", "false"),
+            Instead("entries.iter().any(|before| clash(before, &entry))", "false"),
             Instead(
                 "Ok(entries)",
-                "let clash = |later: &usize| {
+                "let clashes = |later: &usize| {
                     let entry = &entries[*later];
-                    entries[..*later].iter().any(|before| before.clashes(entry))
+                    entries[..*later].iter().any(|before| clash(before, entry))
                 };
-                match (0..entries.len()).find(clash) {
-                    Some(later) => Err(Refusal { number: 17, index: later as u32 }),
+                match (0..entries.len()).find(clashes) {
+                    Some(later) => Err((17, later as u32)),
                     None => Ok(entries),
                 }",
             ),
@@ -142,15 +142,12 @@ pub const FAULTS: &[Planted] = &[
         )],
     },
     Planted {
-        name: "TwoMd5AreTwentyTwo",
-        does: "Two MD5 without TCP-AO are 22.",
-        breaks: "22: \"two TCP-AO, or TCP-AO and MD5 together\"",
+        name: "TwoMd5NotTwentyTwo",
+        does: "Two MD5 without TCP-AO are not 22, as before Ticket 9.",
+        breaks: "\"Two kind 19 give 22\"",
         file: "calls.rs",
         function: "fn readable(",
-        edits: &[Instead(
-            "two_ao || ao_and_md5",
-            "two_ao || ao_and_md5 || options.md5_count >= 2",
-        )],
+        edits: &[Instead("two_ao || ao_and_md5 || two_md5", "two_ao || ao_and_md5")],
     },
     Planted {
         name: "ReadingStopsAtSecondAo",
@@ -319,8 +316,8 @@ pub const FAULTS: &[Planted] = &[
         does: "10 to 17 before 19.",
         breaks: "\"The first that applies, in this order, is given\"",
         file: "calls.rs",
-        function: "fn addresses_then_table<",
-        edits: &[Before("addresses(one, other)?;", "table::read(table)?;")],
+        function: "fn addresses_then_tables<",
+        edits: &[Before("addresses(one, other)?;", "tables.read()?;")],
     },
     Planted {
         name: "StageBeforePair",
@@ -503,8 +500,8 @@ pub const FAULTS: &[Planted] = &[
         file: "calls.rs",
         function: "fn judge_syn(",
         edits: &[Instead(
-            "take_syn(table, source, destination, segment, setting)",
-            "match take_syn(table, source, destination, segment, setting) {
+            "take_syn(tables, source, destination, segment, setting)",
+            "match take_syn(tables, source, destination, segment, setting) {
                 Err(refusal) if refusal.number == 26 && setting == Setting::Pass => Ok(None),
                 taken => taken,
             }",
@@ -517,8 +514,8 @@ pub const FAULTS: &[Planted] = &[
         file: "calls.rs",
         function: "fn open_passive(",
         edits: &[Instead(
-            "take_syn(table, source, destination, segment, setting)",
-            "match take_syn(table, source, destination, segment, setting) {
+            "take_syn(tables, source, destination, segment, setting)",
+            "match take_syn(tables, source, destination, segment, setting) {
                 Err(refusal) if refusal.number == 26 && setting == Setting::Pass => Ok(None),
                 taken => taken,
             }",
@@ -708,10 +705,7 @@ pub const FAULTS: &[Planted] = &[
         function: "fn read_body(",
         edits: &[
             Instead("(rest[0] as usize, &rest[1..])", "(rest[1] as usize, rest)"),
-            Instead(
-                "key_part[1..].split_at(key_bytes)",
-                "(if key_part.len() > 81 { &key_part[2..] } else { &key_part[1..] }).split_at(key_bytes)",
-            ),
+            Instead("&key_part[1..]", "&key_part[if key_part.len() > 81 { 2 } else { 1 }..]"),
         ],
     },
     Planted {
@@ -1308,11 +1302,915 @@ pub const FAULTS: &[Planted] = &[
         file: "calls.rs",
         function: "fn open_passive(",
         edits: &[Before(
-            "key_rule(&syn.entries",
-            "if syn.entry.remote_nat {
+            "key_rule(&entries",
+            "if entry.remote_nat {
                 state.remote = [0; 16];
                 state.remote_port = 0;
             }",
+        )],
+    },
+    // MD5 and TCP MD5: Ticket 9.
+    Planted {
+        name: "Md5LengthBigEndian",
+        does: "MD5 has the message's length with its highest byte first.",
+        breaks: "RFC 1321: \"appended low-order word first in accordance with the previous conventions\"",
+        file: "crypto.rs",
+        function: "fn md5(",
+        edits: &[Instead("u64::to_le_bytes", "u64::to_be_bytes")],
+    },
+    Planted {
+        name: "Md5WordsBigEndian",
+        does: "MD5 takes the block's words with their highest byte first.",
+        breaks: "RFC 1321: \"with the low-order (least significant) byte given first\"",
+        file: "crypto.rs",
+        function: "fn md5_block(",
+        edits: &[Instead("u32::from_le_bytes", "u32::from_be_bytes")],
+    },
+    Planted {
+        name: "Md5WrongConstant",
+        does: "A bit of one constant of MD5 is another.",
+        breaks: "RFC 1321: \"the integer part of 4294967296 times abs(sin(i))\"",
+        file: "crypto.rs",
+        function: "fn md5_block(",
+        edits: &[Instead("*constant", "if i == 40 { constant ^ 1 } else { *constant }")],
+    },
+    Planted {
+        name: "Md5WrongRotation",
+        does: "MD5's third round rotates by 22 in place of 23.",
+        breaks: "RFC 1321: \"[BCDA 14 23 36]\"",
+        file: "crypto.rs",
+        function: "fn md5_block(",
+        edits: &[Instead(
+            "MD5_ROTATIONS[i / 16][i % 4]",
+            "if i / 16 == 2 && i % 4 == 3 { 22 } else { MD5_ROTATIONS[i / 16][i % 4] }",
+        )],
+    },
+    Planted {
+        name: "KeyFirstInDigest",
+        does: "The key stands before all else in the digest.",
+        breaks: "RFC 2385: \"4. an independently-specified key or password\"",
+        file: "tcp_md5.rs",
+        function: "fn digest(",
+        edits: &[Instead(
+            "message(source, destination, segment, header, key)",
+            "[key, &message(source, destination, segment, header, &[])].concat()",
+        )],
+    },
+    Planted {
+        name: "PaddedKeyInDigest",
+        does: "The key is in the digest with the zeros behind it.",
+        breaks: "\"key length 1 to 80; the key, padded with zeros to 80\": the padding is no part of it",
+        file: "tcp_md5.rs",
+        function: "fn message(",
+        edits: &[Behind(
+            "bytes.extend_from_slice(key);",
+            "bytes.resize(bytes.len() + 80 - key.len(), 0);",
+        )],
+    },
+    Planted {
+        name: "OptionsInDigest",
+        does: "The options are in the digest, MD5's own digest as zeros.",
+        breaks: "RFC 2385: \"2. the TCP header, excluding options\"",
+        file: "tcp_md5.rs",
+        function: "fn message(",
+        edits: &[Behind(
+            "without_options[CHECKSUM].fill(0);",
+            "let area = &segment[OPTIONS_AT..header.bytes()];
+            let md5 = area.iter().position(|byte| *byte == 19).unwrap_or(0);
+            let digest = |at: usize| (md5 + 2..md5 + 18).contains(&at);
+            without_options
+                .extend(area.iter().enumerate().map(|(at, byte)| if digest(at) { 0 } else { *byte }));",
+        )],
+    },
+    Planted {
+        name: "ChecksumInDigest",
+        does: "The checksum is in the digest as it came.",
+        breaks: "RFC 2385: \"assuming a checksum of zero\"",
+        file: "tcp_md5.rs",
+        function: "fn message(",
+        edits: &[Instead("without_options[CHECKSUM].fill(0)", "")],
+    },
+    Planted {
+        name: "ShortLengthInDigest",
+        does: "The pseudo-header has the length without the options.",
+        breaks: "RFC 2385: \"the TCP pseudo-header (in the order: ... and segment length)\"",
+        file: "tcp_md5.rs",
+        function: "fn message(",
+        edits: &[Instead(
+            "pseudo_header(source, destination, segment.len())",
+            "pseudo_header(source, destination, segment.len() + OPTIONS_AT - header.bytes())",
+        )],
+    },
+    Planted {
+        name: "DigestWithoutPseudoHeader",
+        does: "The digest is of the segment and the key alone.",
+        breaks: "RFC 2385: \"1. the TCP pseudo-header\"",
+        file: "tcp_md5.rs",
+        function: "fn message(",
+        edits: &[Instead(
+            "pseudo_header(source, destination, segment.len())",
+            "pseudo_header(source, destination, segment.len())[..0].to_vec()",
+        )],
+    },
+    Planted {
+        name: "ShortPseudoHeaderInDigest",
+        does: "For IPv6, the pseudo-header of the digest is IPv4's but for the addresses.",
+        breaks: "\"for IPv6 over 01's pseudo-header\"",
+        file: "tcp_md5.rs",
+        function: "fn message(",
+        edits: &[Instead(
+            "pseudo_header(source, destination, segment.len())",
+            "[source, destination, &[0, 6], &(segment.len() as u16).to_be_bytes()].concat()",
+        )],
+    },
+    Planted {
+        name: "OffsetFiveInDigest",
+        does: "The digest has the data offset of a header without options.",
+        breaks: "RFC 2385: \"2. the TCP header, excluding options\": its bytes as they are sent",
+        file: "tcp_md5.rs",
+        function: "fn message(",
+        edits: &[Behind(
+            "without_options[CHECKSUM].fill(0);",
+            "without_options[12] = 0x50 | without_options[12] & 0x0f;",
+        )],
+    },
+    Planted {
+        name: "DataNotInDigest",
+        does: "The data are not in the digest.",
+        breaks: "RFC 2385: \"3. the TCP segment data (if any)\"",
+        file: "tcp_md5.rs",
+        function: "fn message(",
+        edits: &[Instead("&segment[header.bytes()..]", "&[]")],
+    },
+    // The MD5 table, and both tables.
+    Planted {
+        name: "Md5KindsFiveAndSevenTaken",
+        does: "11 of the MD5 table only for kinds other than 4 to 7.",
+        breaks: "\"kinds 4 and 6 only (11 otherwise)\", the agreed reading",
+        file: "md5_table.rs",
+        function: "fn body_bytes(",
+        edits: &[Before(
+            "match kind {",
+            "if (4..=7).contains(&kind) { return table::body_bytes(kind); }",
+        )],
+    },
+    Planted {
+        name: "Md5FlagsTaken",
+        does: "The MD5 table takes any flags.",
+        breaks: "\"with flags 0, algorithm 19, SendID 0 and RecvID 0 (13 otherwise)\", the agreed reading",
+        file: "md5_table.rs",
+        function: "fn read_body(",
+        edits: &[Instead("body[..4] != [0, KIND_MD5, 0, 0]", "body[1..4] != [KIND_MD5, 0, 0]")],
+    },
+    Planted {
+        name: "Md5AlgorithmNotTested",
+        does: "The MD5 table takes any algorithm.",
+        breaks: "\"with flags 0, algorithm 19, SendID 0 and RecvID 0 (13 otherwise)\", the agreed reading",
+        file: "md5_table.rs",
+        function: "fn read_body(",
+        edits: &[Instead(
+            "body[..4] != [0, KIND_MD5, 0, 0]",
+            "body[0] != 0 || body[2..4] != [0, 0]",
+        )],
+    },
+    Planted {
+        name: "Md5IdsTaken",
+        does: "The MD5 table takes any IDs.",
+        breaks: "\"with flags 0, algorithm 19, SendID 0 and RecvID 0 (13 otherwise)\", the agreed reading",
+        file: "md5_table.rs",
+        function: "fn read_body(",
+        edits: &[Instead("body[..4] != [0, KIND_MD5, 0, 0]", "body[..2] != [0, KIND_MD5]")],
+    },
+    Planted {
+        name: "Md5ClashNotTested",
+        does: "17 is not given for the MD5 table.",
+        breaks: "\"17 if two entries match one pair\"",
+        file: "md5_table.rs",
+        function: "fn clashes(",
+        edits: &[Before("self.local.address.len() ==", "return false;")],
+    },
+    Planted {
+        name: "Md5ClashOfEqualSidesOnly",
+        does: "17 of the MD5 table only for entries with the same sides.",
+        breaks: "\"17 if two entries match one pair\"",
+        file: "md5_table.rs",
+        function: "fn clashes(",
+        edits: &[Before(
+            "self.local.address.len() ==",
+            "return self.local == other.local && self.remote == other.remote;",
+        )],
+    },
+    Planted {
+        name: "Md5ClashWithoutRemote",
+        does: "17 of the MD5 table looks at the local side only.",
+        breaks: "\"17 if two entries match one pair\"",
+        file: "md5_table.rs",
+        function: "fn clashes(",
+        edits: &[Instead("self.remote.overlaps(&other.remote)", "true")],
+    },
+    Planted {
+        name: "Md5TableFirst",
+        does: "The MD5 table's refusals come before the key table's.",
+        breaks: "\"behind the key table's and then the MD5 table's refusals\"",
+        file: "md5_table.rs",
+        function: "fn read(&self)",
+        edits: &[Before("let keys =", "read(self.md5)?;")],
+    },
+    Planted {
+        name: "BadMd5TableTaken",
+        does: "An MD5 table that is refused counts as none.",
+        breaks: "\"with a table of its own ..., under refusals 10 to 17\"",
+        file: "md5_table.rs",
+        function: "fn read(&self)",
+        edits: &[Instead("read(self.md5)?", "read(self.md5).unwrap_or_default()")],
+    },
+    Planted {
+        name: "Md5RefusalUnmarked",
+        does: "Bits 8 to 15 are zero beside the MD5 table's refusals.",
+        breaks: "\"whose entry the index names, 0 the key table's, 1 the MD5 table's\"",
+        file: "boundary.rs",
+        function: "fn refusal_word(",
+        edits: &[Instead("(refusal.in_md5 as u64) << 8", "0")],
+    },
+    Planted {
+        name: "FortyFiveUnmarked",
+        does: "Bits 8 to 15 are zero beside 45.",
+        breaks: "\"(beside 45 always 1)\"",
+        file: "boundary.rs",
+        function: "fn refusal_word(",
+        edits: &[Instead(
+            "(refusal.in_md5 as u64) << 8",
+            "((refusal.in_md5 && refusal.number != 45) as u64) << 8",
+        )],
+    },
+    Planted {
+        name: "FortyFiveNever",
+        does: "45 is not given.",
+        breaks: "\"Tables that both match some pair are refused with 45 at the first such MD5 entry\"",
+        file: "md5_table.rs",
+        function: "fn read(&self)",
+        edits: &[Instead("md5.iter().position(both)", "None::<usize>")],
+    },
+    Planted {
+        name: "FortyFiveAtLast",
+        does: "45 at the last such MD5 entry.",
+        breaks: "\"Tables that both match some pair are refused with 45 at the first such MD5 entry\"",
+        file: "md5_table.rs",
+        function: "fn read(&self)",
+        edits: &[Instead("md5.iter().position(both)", "md5.iter().rposition(both)")],
+    },
+    Planted {
+        name: "FortyFiveAtKeyEntry",
+        does: "45 with the index of the key entry.",
+        breaks: "\"Tables that both match some pair are refused with 45 at the first such MD5 entry\"",
+        file: "md5_table.rs",
+        function: "fn read(&self)",
+        edits: &[Instead(
+            "index as u32",
+            "keys.iter().position(|key| md5[index].overlaps(key)).unwrap_or(0) as u32",
+        )],
+    },
+    Planted {
+        name: "FortyFiveWithoutFamily",
+        does: "45 although the two entries are of different families.",
+        breaks: "\"Tables that both match some pair are refused with 45\"; \"An entry matches a socket pair of its family\"",
+        file: "md5_table.rs",
+        function: "fn overlaps(&self, key",
+        edits: &[Instead(
+            "same_family && self.local.overlaps(&key.local) && self.remote.overlaps(&key.remote)",
+            "self.local.overlaps(&key.local) && self.remote.overlaps(&key.remote)",
+        )],
+    },
+    Planted {
+        name: "FortyFiveByLocalSide",
+        does: "45 looks at the local side only.",
+        breaks: "\"Tables that both match some pair are refused with 45 at the first such MD5 entry\"",
+        file: "md5_table.rs",
+        function: "fn overlaps(&self, key",
+        edits: &[Instead(
+            "same_family && self.local.overlaps(&key.local) && self.remote.overlaps(&key.remote)",
+            "same_family && self.local.overlaps(&key.local)",
+        )],
+    },
+    Planted {
+        name: "FortyFiveOfEqualSides",
+        does: "45 only for entries with the same sides.",
+        breaks: "\"Tables that both match some pair are refused with 45 at the first such MD5 entry\"",
+        file: "md5_table.rs",
+        function: "fn overlaps(&self, key",
+        edits: &[Instead(
+            "same_family && self.local.overlaps(&key.local) && self.remote.overlaps(&key.remote)",
+            "same_family && self.local == key.local && self.remote == key.remote",
+        )],
+    },
+    Planted {
+        name: "FortyFiveBeforeMd5Table",
+        does: "45 comes before the refusals of later MD5 entries.",
+        breaks: "\"behind the key table's and then the MD5 table's refusals\"",
+        file: "md5_table.rs",
+        function: "fn read(&self)",
+        edits: &[Before(
+            "let md5 = read(self.md5)?;",
+            "let mut end = 0;
+            while let Some(bytes) = self.md5.get(end).copied().and_then(body_bytes) {
+                end += 1 + bytes;
+                let Some(Ok(md5)) = self.md5.get(..end).map(read) else { break };
+                let both = |entry: &Md5Entry| keys.iter().any(|key| entry.overlaps(key));
+                if let Some(index) = md5.iter().position(both) {
+                    return Err(Refusal { number: 45, index: index as u32, in_md5: true });
+                }
+            }",
+        )],
+    },
+    Planted {
+        name: "FortyFiveAfterTwenty",
+        does: "On a connection, 45 comes after 20.",
+        breaks: "\"and before 20\"",
+        file: "calls.rs",
+        function: "fn take_arrival(",
+        edits: &[Before(
+            "// 19, 10 to 17 and 45.",
+            "addresses(source, destination)?;
+            let both = tables.read().is_err_and(|refusal| refusal.number == 45);
+            if both && Header::read(segment).is_none() { return Err(Refusal::of(20)); }",
+        )],
+    },
+    Planted {
+        name: "CheckingIgnoresMd5",
+        does: "Checking looks at the key table only.",
+        breaks: "\"Tables that both match some pair are refused with 45 at the first such MD5 entry\"",
+        file: "calls.rs",
+        function: "fn check_table(",
+        edits: &[Instead("tables.read()?.keys.len()", "crate::table::read(tables.keys)?.len()")],
+    },
+    Planted {
+        name: "OpeningIgnoresMd5",
+        does: "An active opening by TCP-AO looks at the key table only.",
+        breaks: "\"Tables that both match some pair are refused with 45 at the first such MD5 entry\"",
+        file: "calls.rs",
+        function: "fn opening_state(",
+        edits: &[Instead(
+            "addresses_then_tables(pair.local, pair.remote, tables)?.keys",
+            "addresses(pair.local, pair.remote)?;
+            crate::table::read(tables.keys)?",
+        )],
+    },
+    Planted {
+        name: "Md5OpeningIgnoresKeys",
+        does: "An active opening by MD5 looks at the MD5 table only.",
+        breaks: "\"Tables that both match some pair are refused with 45 at the first such MD5 entry\"",
+        file: "calls.rs",
+        function: "fn opening_state_md5(",
+        edits: &[Instead(
+            "addresses_then_tables(pair.local, pair.remote, tables)?",
+            "addresses(pair.local, pair.remote)?;
+            Tables { keys: vec![], md5: crate::md5_table::read(tables.md5)? }",
+        )],
+    },
+    Planted {
+        name: "SynIgnoresFortyFive",
+        does: "A bare SYN without a state gets no 45.",
+        breaks: "\"Tables that both match some pair are refused with 45 at the first such MD5 entry\"",
+        file: "calls.rs",
+        function: "fn take_syn<",
+        edits: &[Instead(
+            "addresses_then_tables(source, destination, tables)?",
+            "addresses(source, destination)?;
+            Tables { keys: crate::table::read(tables.keys)?, md5: crate::md5_table::read(tables.md5)? }",
+        )],
+    },
+    Planted {
+        name: "JudgingIgnoresFortyFive",
+        does: "Judging on a connection gives no 45.",
+        breaks: "\"Tables that both match some pair are refused with 45 at the first such MD5 entry\"",
+        file: "calls.rs",
+        function: "fn take_arrival(",
+        edits: &[Instead(
+            "addresses_then_tables(source, destination, tables)?",
+            "addresses(source, destination)?;
+            Tables { keys: crate::table::read(tables.keys)?, md5: crate::md5_table::read(tables.md5)? }",
+        )],
+    },
+    Planted {
+        name: "SigningIgnoresFortyFive",
+        does: "Signing gives no 45.",
+        breaks: "\"Tables that both match some pair are refused with 45 at the first such MD5 entry\"",
+        file: "calls.rs",
+        function: "fn sign(",
+        edits: &[Instead(
+            "tables.read()?",
+            "Tables { keys: crate::table::read(tables.keys)?, md5: crate::md5_table::read(tables.md5)? }",
+        )],
+    },
+    Planted {
+        name: "AskingIgnoresMd5",
+        does: "Asking looks at the key table only.",
+        breaks: "\"Tables that both match some pair are refused with 45 at the first such MD5 entry\"",
+        file: "calls.rs",
+        function: "fn ask(",
+        edits: &[Instead("tables.read()?.keys", "crate::table::read(tables.keys)?")],
+    },
+    // The way that a connection goes.
+    Planted {
+        name: "WayByAnyNonzero",
+        does: "Any way but 0 is MD5.",
+        breaks: "\"way: 1 MD5, any other value TCP-AO\"",
+        file: "state.rs",
+        function: "fn goes_by_md5(",
+        edits: &[Instead("self.way == WAY_MD5", "self.way != 0")],
+    },
+    Planted {
+        name: "WayNormalised",
+        does: "A way that is not 1 is written as 0.",
+        breaks: "\"reading and writing it back gives the same bytes\"",
+        file: "state.rs",
+        function: "fn to_bytes(",
+        edits: &[Instead("self.way", "(self.way == WAY_MD5) as u8")],
+    },
+    Planted {
+        name: "WayByTable",
+        does: "A connection goes by MD5 where the MD5 table matches its pair.",
+        breaks: "\"A connection goes by the way it was opened and never accepts the other\"",
+        file: "calls.rs",
+        function: "fn take_arrival(",
+        edits: &[Instead("before.goes_by_md5()", "matching(&tables.md5, &pair).is_some()")],
+    },
+    Planted {
+        name: "AoTakenOnMd5Way",
+        does: "On a connection opened by MD5, a segment with TCP-AO is judged by it.",
+        breaks: "\"A connection goes by the way it was opened and never accepts the other\"",
+        file: "calls.rs",
+        function: "fn take_arrival(",
+        edits: &[Instead("before.goes_by_md5()", "before.goes_by_md5() && options.ao.is_none()")],
+    },
+    Planted {
+        name: "Md5TakenOnAoWay",
+        does: "On a connection opened by TCP-AO, a segment with MD5 is judged by it.",
+        breaks: "\"A connection goes by the way it was opened and never accepts the other\"",
+        file: "calls.rs",
+        function: "fn take_arrival(",
+        edits: &[Instead(
+            "before.goes_by_md5()",
+            "before.goes_by_md5() || options.md5.is_some()",
+        )],
+    },
+    Planted {
+        name: "SignedByTable",
+        does: "Signing goes by MD5 where the MD5 table matches the pair.",
+        breaks: "\"A connection goes by the way it was opened and never accepts the other\"",
+        file: "calls.rs",
+        function: "fn sign(",
+        edits: &[Instead("state.goes_by_md5()", "matching(&tables.md5, &pair).is_some()")],
+    },
+    Planted {
+        name: "Md5OpeningWithoutWay",
+        does: "An active opening by MD5 writes the way of TCP-AO.",
+        breaks: "\"A connection goes by the way it was opened and never accepts the other\"",
+        file: "calls.rs",
+        function: "fn opening_state_md5(",
+        edits: &[Instead("state.way = WAY_MD5", "")],
+    },
+    Planted {
+        name: "PassiveMd5WithoutWay",
+        does: "A passive opening by MD5 writes the way of TCP-AO.",
+        breaks: "\"A connection goes by the way it was opened and never accepts the other\"",
+        file: "calls.rs",
+        function: "fn open_passive(",
+        edits: &[Instead("state.way = WAY_MD5", "")],
+    },
+    Planted {
+        name: "Md5OpeningWithId",
+        does: "An active opening by MD5 has 19 as its outgoing SendID.",
+        breaks: "\"The MD5 openings, active and passive, set outgoing SendID and asked RecvID to 0\", the agreed reading",
+        file: "calls.rs",
+        function: "fn opening_state_md5(",
+        edits: &[Before("Ok(state)", "state.outgoing_send_id = KIND_MD5;")],
+    },
+    Planted {
+        name: "PassiveMd5WithId",
+        does: "A passive opening by MD5 has 19 as its asked RecvID.",
+        breaks: "\"The MD5 openings, active and passive, set outgoing SendID and asked RecvID to 0\", the agreed reading",
+        file: "calls.rs",
+        function: "fn open_passive(",
+        edits: &[Instead(
+            "state.way = WAY_MD5",
+            "state.way = WAY_MD5; state.asked_recv_id = KIND_MD5",
+        )],
+    },
+    Planted {
+        name: "SynAckClearsWay",
+        does: "The SYN+ACK that opens writes way 0 where it is not 1.",
+        breaks: "\"at a SYN+ACK that opens, both IDs and the way stay as the state has them\", the agreed reading",
+        file: "calls.rs",
+        function: "fn open_by_syn_ack(",
+        edits: &[Behind(
+            "state.stage = STAGE_OPEN;",
+            "if !state.goes_by_md5() { state.way = 0; }",
+        )],
+    },
+    Planted {
+        name: "SynAckClearsIds",
+        does: "The SYN+ACK that opens by MD5 sets both IDs to 0.",
+        breaks: "\"An operator call sets the RecvID asked of the peer; nothing else does.\"",
+        file: "calls.rs",
+        function: "fn open_by_syn_ack(",
+        edits: &[Behind(
+            "state.stage = STAGE_OPEN;",
+            "if state.goes_by_md5() { (state.outgoing_send_id, state.asked_recv_id) = (0, 0); }",
+        )],
+    },
+    Planted {
+        name: "Md5OpeningLeavesReferences",
+        does: "The SYN+ACK that opens by MD5 leaves the references.",
+        breaks: "\"after opening neither it nor signing moves a reference\": opening sets them",
+        file: "calls.rs",
+        function: "fn open_by_syn_ack(",
+        edits: &[Before(
+            "state.signing_reference =",
+            "if state.goes_by_md5() {
+                state.accepted = 0;
+                state.drops = [0; COUNTED.len()];
+                return;
+            }",
+        )],
+    },
+    Planted {
+        name: "Md5ActiveWithoutEntry",
+        does: "An active opening by MD5 needs no entry.",
+        breaks: "\"(opening, signing: 35; asking: always 35)\"",
+        file: "calls.rs",
+        function: "fn opening_state_md5(",
+        edits: &[Instead("matching(&tables.md5, pair).is_none()", "false")],
+    },
+    Planted {
+        name: "Md5ActiveByKeyTable",
+        does: "An active opening by MD5 needs an entry of the key table.",
+        breaks: "\"(opening, signing: 35; asking: always 35)\"",
+        file: "calls.rs",
+        function: "fn opening_state_md5(",
+        edits: &[Instead(
+            "matching(&tables.md5, pair).is_none()",
+            "!any_matches(&tables.keys, pair)",
+        )],
+    },
+    // Judging by MD5.
+    Planted {
+        name: "UnsignedSynPasses",
+        does: "A bare SYN goes by MD5 only if it has kind 19.",
+        breaks: "\"a bare SYN without one by the table that matches, else as before\"",
+        file: "calls.rs",
+        function: "fn take_syn<",
+        edits: &[Instead(
+            "matching(&tables.md5, &pair)",
+            "matching(&tables.md5, &pair).filter(|_| options.md5.is_some())",
+        )],
+    },
+    Planted {
+        name: "AoSynByTheSetting",
+        does: "A bare SYN with TCP-AO goes by TCP-AO although the MD5 table matches.",
+        breaks: "\"a bare SYN without one by the table that matches, else as before\"",
+        file: "calls.rs",
+        function: "fn take_syn<",
+        edits: &[Instead(
+            "matching(&tables.md5, &pair)",
+            "matching(&tables.md5, &pair).filter(|_| options.ao.is_none())",
+        )],
+    },
+    Planted {
+        name: "SynNeverByMd5",
+        does: "No bare SYN goes by MD5.",
+        breaks: "\"a bare SYN without one by the table that matches, else as before\"",
+        file: "calls.rs",
+        function: "fn take_syn<",
+        edits: &[Instead(
+            "matching(&tables.md5, &pair)",
+            "matching(&tables.md5, &pair).filter(|_| false)",
+        )],
+    },
+    Planted {
+        name: "Md5SynWithoutEntryDropped",
+        does: "A bare SYN with MD5 and no entry in either table is 26.",
+        breaks: "\"a bare SYN without one by the table that matches, else as before\"",
+        file: "calls.rs",
+        function: "fn take_syn<",
+        edits: &[Before(
+            "// 25, or a pass.",
+            "if options.md5.is_some() { return Err(Refusal::of(26)); }",
+        )],
+    },
+    Planted {
+        name: "FortySixAndSevenExchanged",
+        does: "47 for kind 29 alone, and 46 for an unsigned segment.",
+        breaks: "\"The MD5 way drops kind 29 alone with 46 and an unsigned segment with 47\"",
+        file: "calls.rs",
+        function: "fn agrees(",
+        edits: &[
+            Instead("Refusal::of(46)", "Refusal::of(47)"),
+            Instead("Refusal::of(47)", "Refusal::of(46)"),
+        ],
+    },
+    Planted {
+        name: "TwentyFiveOnMd5Way",
+        does: "25 for an unsigned segment on the MD5 way.",
+        breaks: "\"The MD5 way drops kind 29 alone with 46 and an unsigned segment with 47\"; \"both tested before 25\"",
+        file: "calls.rs",
+        function: "fn agrees(",
+        edits: &[Instead("Refusal::of(47)", "Refusal::of(25)")],
+    },
+    Planted {
+        name: "TwentyFiveForAo",
+        does: "25 for kind 29 alone on the MD5 way.",
+        breaks: "\"The MD5 way drops kind 29 alone with 46 and an unsigned segment with 47\"; \"both tested before 25\"",
+        file: "calls.rs",
+        function: "fn agrees(",
+        edits: &[Instead("Refusal::of(46)", "Refusal::of(25)")],
+    },
+    Planted {
+        name: "EntryBeforeFortySix",
+        does: "26 before 46 and 47.",
+        breaks: "\"46 and ... 47, both tested before 25\"",
+        file: "calls.rs",
+        function: "fn agrees(",
+        edits: &[Before("// 46: \"The MD5 way", "entry.ok_or(Refusal::of(26))?;")],
+    },
+    Planted {
+        name: "Md5WithoutEntryIs35",
+        does: "35 for kind 19 with no entry.",
+        breaks: "\"and kind 19 with no entry with 26\"",
+        file: "calls.rs",
+        function: "fn agrees(",
+        edits: &[Instead("Refusal::of(26)", "Refusal::of(35)")],
+    },
+    Planted {
+        name: "Md5LengthBeforeEntry",
+        does: "27 before 26 on the MD5 way.",
+        breaks: "\"The first that applies, in this order, is given\"",
+        file: "calls.rs",
+        function: "fn agrees(",
+        edits: &[Before(
+            "// 26: \"and kind 19",
+            "if md5.length != Md5Option::BYTES { return Err(Refusal::of(27)); }",
+        )],
+    },
+    Planted {
+        name: "LongerMd5Taken",
+        does: "27 only for an MD5 that is too short.",
+        breaks: "\"a length other than 18 gives 27\"",
+        file: "calls.rs",
+        function: "fn agrees(",
+        edits: &[Instead("md5.length != Md5Option::BYTES", "md5.length < Md5Option::BYTES")],
+    },
+    Planted {
+        name: "DigestCut",
+        does: "Of the digest the first twelve bytes are compared.",
+        breaks: "\"a wrong digest 29\"",
+        file: "calls.rs",
+        function: "fn agrees(",
+        edits: &[Instead("carried != digest", "carried[..12] != digest[..12]")],
+    },
+    Planted {
+        name: "OurSideFirstInDigest",
+        does: "The digest of what arrives has our own address first.",
+        breaks: "RFC 2385: \"source IP address, destination IP address\"",
+        file: "calls.rs",
+        function: "fn agrees(",
+        edits: &[
+            Instead("self.source", "self.destination"),
+            Instead("self.destination", "self.source"),
+        ],
+    },
+    Planted {
+        name: "FortySixNotCounted",
+        does: "46 is not counted.",
+        breaks: "\"counted and within the sum\"",
+        file: "calls.rs",
+        function: "fn judge(",
+        edits: &[Instead("state.is_open()", "state.is_open() && refusal.number != 46")],
+    },
+    Planted {
+        name: "FortySevenNotCounted",
+        does: "47 is not counted.",
+        breaks: "\"counted and within the sum\"",
+        file: "calls.rs",
+        function: "fn judge(",
+        edits: &[Instead("state.is_open()", "state.is_open() && refusal.number != 47")],
+    },
+    Planted {
+        name: "CountsOfFortySixExchanged",
+        does: "46 is counted among 47's, and 47 among 46's.",
+        breaks: "\"add one to that number's count\"",
+        file: "calls.rs",
+        function: "fn judge(",
+        edits: &[Instead(
+            "after.count_drop(refusal.number)",
+            "after.count_drop(match refusal.number { 46 => 47, 47 => 46, number => number })",
+        )],
+    },
+    Planted {
+        name: "Md5AcceptHasExtension",
+        does: "An MD5 accept has its position's extension.",
+        breaks: "\"An MD5 accept has extension 0; after opening neither it nor signing moves a reference\"",
+        file: "calls.rs",
+        function: "fn take_arrival(",
+        edits: &[Instead(
+            "Ok(0)",
+            "let x = position(before.arriving_reference, header.sequence).unwrap_or(0);
+            Ok(if open { extension(x) } else { 0 })",
+        )],
+    },
+    Planted {
+        name: "Md5AcceptMovesReference",
+        does: "An MD5 accept moves the reference.",
+        breaks: "\"An MD5 accept has extension 0; after opening neither it nor signing moves a reference\"",
+        file: "calls.rs",
+        function: "fn take_arrival(",
+        edits: &[Before(
+            "// Accepted: \"An MD5 accept",
+            "if let (true, Some(x)) = (open, position(before.arriving_reference, header.sequence)) {
+                state.arriving_reference = moved(before.arriving_reference, x);
+            }",
+        )],
+    },
+    Planted {
+        name: "Md5PositionTested",
+        does: "28 on the MD5 way.",
+        breaks: "\"28 is not given\"",
+        file: "calls.rs",
+        function: "fn take_arrival(",
+        edits: &[Before(
+            "// Accepted: \"An MD5 accept",
+            "if open { position(before.arriving_reference, header.sequence).ok_or(Refusal::of(28))?; }",
+        )],
+    },
+    Planted {
+        name: "Md5AcceptNotCounted",
+        does: "An MD5 accept is not counted.",
+        breaks: "\"Counts of acceptances and of each drop\"",
+        file: "calls.rs",
+        function: "fn take_arrival(",
+        edits: &[Before("// Accepted: \"An MD5 accept", "if open { return Ok(0); }")],
+    },
+    // Signing by MD5, and asking.
+    Planted {
+        name: "Md5SignWithoutEntryIs26",
+        does: "26 where no MD5 entry matches the pair of what is to be signed.",
+        breaks: "\"(opening, signing: 35; asking: always 35)\"",
+        file: "calls.rs",
+        function: "fn sign_md5(",
+        edits: &[Instead("Refusal::of(35)", "Refusal::of(26)")],
+    },
+    Planted {
+        name: "Md5PaddingNotIn32",
+        does: "32 does not count the two kind 1 bytes.",
+        breaks: "\"with two kind 1 bytes behind it, which 32 counts\"",
+        file: "calls.rs",
+        function: "fn sign_md5(",
+        edits: &[Instead(
+            "signed_offset > 15 || signed_bytes > 65_535",
+            "header.data_offset + 4 > 15 || segment.len() + Md5Option::BYTES > 65_535",
+        )],
+    },
+    Planted {
+        name: "Md5SizeBeforeKey",
+        does: "32 before 35 on the MD5 way.",
+        breaks: "\"32, tested now after 35\"",
+        file: "calls.rs",
+        function: "fn sign_md5(",
+        edits: &[Before(
+            "// 35: \"kind 19",
+            "if header.data_offset > 10 || segment.len() + 20 > 65_535 { return Err(Refusal::of(32)); }",
+        )],
+    },
+    Planted {
+        name: "Md5SignPositionTested",
+        does: "36 on the MD5 way where the number has no position.",
+        breaks: "\"36 only for a SYN whose number is not our ISN\"",
+        file: "calls.rs",
+        function: "fn sign_md5(",
+        edits: &[Before(
+            "// 36: \"36 only",
+            "if state.is_open() { position(state.signing_reference, header.sequence).ok_or(Refusal::of(36))?; }",
+        )],
+    },
+    Planted {
+        name: "Md5SynAckByPosition",
+        does: "A SYN+ACK is signed by MD5 only if its position is our ISN.",
+        breaks: "\"36 only for a SYN whose number is not our ISN\"",
+        file: "calls.rs",
+        function: "fn sign_md5(",
+        edits: &[Instead(
+            "header.sequence != state.our_isn",
+            "let x = position(state.signing_reference, header.sequence);
+            header.sequence != state.our_isn || state.is_open() && x != Some(state.our_isn as u64)",
+        )],
+    },
+    Planted {
+        name: "AnyMd5SynSigned",
+        does: "A SYN of any number is signed by MD5.",
+        breaks: "\"36 only for a SYN whose number is not our ISN\"",
+        file: "calls.rs",
+        function: "fn sign_md5(",
+        edits: &[Instead("header.sequence != state.our_isn", "false")],
+    },
+    Planted {
+        name: "Md5RoomBeforePosition",
+        does: "37 before 36 on the MD5 way.",
+        breaks: "\"The first that applies, in this order, is given\"",
+        file: "calls.rs",
+        function: "fn sign_md5(",
+        edits: &[Before(
+            "// 36: \"36 only",
+            "if room < signed_bytes { return Err(Refusal::of(37)); }",
+        )],
+    },
+    Planted {
+        name: "Md5PaddingBefore",
+        does: "The two kind 1 bytes stand before kind 19.",
+        breaks: "\"The signer puts it after byte 20 with two kind 1 bytes behind it\"",
+        file: "calls.rs",
+        function: "fn sign_md5(",
+        edits: &[
+            Behind(
+                "signed.extend_from_slice(&segment[..20]);",
+                "signed.extend_from_slice(&[KIND_NO_OPERATION; 2]);",
+            ),
+            Instead("signed.resize(20 + Md5Option::BYTES, 0)", "signed.resize(20 + added, 0)"),
+            Instead("OPTIONS_AT + Md5Option::FRONT", "OPTIONS_AT + 2 + Md5Option::FRONT"),
+        ],
+    },
+    Planted {
+        name: "Md5PaddingOfKindZero",
+        does: "Kind 19 is padded with kind 0, which ends the reading.",
+        breaks: "\"with two kind 1 bytes behind it\"",
+        file: "calls.rs",
+        function: "fn sign_md5(",
+        edits: &[Instead(
+            "signed.resize(20 + added, KIND_NO_OPERATION)",
+            "signed.resize(20 + added, 0)",
+        )],
+    },
+    Planted {
+        name: "Md5OffsetRaisedByFour",
+        does: "Signing by MD5 raises the data offset by 4.",
+        breaks: "\"with two kind 1 bytes behind it\": five words",
+        file: "calls.rs",
+        function: "fn sign_md5(",
+        edits: &[Instead("(signed_offset as u8) << 4", "((header.data_offset + 4) as u8) << 4")],
+    },
+    Planted {
+        name: "Md5ChecksumZeroWritten",
+        does: "Signing by MD5 writes checksum zero.",
+        breaks: "\"The signer now writes the right TCP checksum\"",
+        file: "calls.rs",
+        function: "fn sign_md5(",
+        edits: &[Instead("right.to_be_bytes()", "[0, 0]")],
+    },
+    Planted {
+        name: "Md5OldChecksumSummed",
+        does: "The checksum that the segment came with is in the sum of the new one, by MD5.",
+        breaks: "\"The signer now writes the right TCP checksum\"",
+        file: "calls.rs",
+        function: "fn sign_md5(",
+        edits: &[Instead("signed[CHECKSUM].fill(0)", "")],
+    },
+    Planted {
+        name: "Md5SigningMovesReference",
+        does: "Once open, signing by MD5 moves the reference.",
+        breaks: "\"An MD5 accept has extension 0; after opening neither it nor signing moves a reference\"",
+        file: "calls.rs",
+        function: "fn sign_md5(",
+        edits: &[Before(
+            "Ok(Signed {",
+            "if let (true, Some(x)) = (state.is_open(), position(state.signing_reference, header.sequence)) {
+                after.signing_reference = moved(state.signing_reference, x);
+            }",
+        )],
+    },
+    Planted {
+        name: "Md5SynLeavesReference",
+        does: "The bare SYN signed by MD5 leaves the reference.",
+        breaks: "\"An accepted or signed segment sets its direction's reference to the larger of the old one and X\"",
+        file: "calls.rs",
+        function: "fn sign_md5(",
+        edits: &[Instead("!state.is_open()", "false")],
+    },
+    Planted {
+        name: "AskTakenByMd5",
+        does: "On a connection opened by MD5 a key of the key table may be asked for.",
+        breaks: "\"asking: always 35\"",
+        file: "calls.rs",
+        function: "fn ask(",
+        edits: &[Instead("state.goes_by_md5()", "false")],
+    },
+    Planted {
+        name: "AskByMd5BeforeTables",
+        does: "On a connection opened by MD5 asking is 35 before the tables.",
+        breaks: "\"The first that applies, in this order, is given\"",
+        file: "calls.rs",
+        function: "fn ask(",
+        edits: &[Before(
+            "// 10 to 17 and 45.",
+            "if state.goes_by_md5() { return Err(Refusal::of(35)); }",
         )],
     },
     // Opening.
@@ -1447,7 +2345,7 @@ pub const FAULTS: &[Planted] = &[
         file: "calls.rs",
         function: "fn open_passive(",
         edits: &[Instead(
-            "key_rule(&syn.entries, &pair, syn.rnext_key_id, &mut state)",
+            "key_rule(&entries, &pair, rnext_key_id, &mut state)",
             "",
         )],
     },
@@ -1674,7 +2572,7 @@ pub const FAULTS: &[Planted] = &[
         edits: &[Before(
             "// 40: \"Arriving segments",
             "if let Some(options) = read_options(segment, &header) {
-                if options.ao_count + options.md5_count >= 2 && options.ao_count >= 1 {
+                if options.ao_count + options.md5_count >= 2 {
                     return Err(Refusal::of(22));
                 }
             }",
@@ -1687,14 +2585,14 @@ pub const FAULTS: &[Planted] = &[
         file: "calls.rs",
         function: "fn judge_syn(",
         edits: &[Instead(
-            "take_syn(table, source, destination, segment, setting)",
+            "take_syn(tables, source, destination, segment, setting)",
             "let mut right = segment.to_vec();
             if let (true, 4 | 16) = (right.len() >= 20, source.len()) {
                 right[CHECKSUM].fill(0);
                 let sum = checksum::checksum(source, destination, &right);
                 right[CHECKSUM].copy_from_slice(&sum.to_be_bytes());
             }
-            take_syn(table, source, destination, &right, setting)",
+            take_syn(tables, source, destination, &right, setting)",
         )],
     },
     Planted {
@@ -1704,14 +2602,14 @@ pub const FAULTS: &[Planted] = &[
         file: "calls.rs",
         function: "fn open_passive(",
         edits: &[Instead(
-            "take_syn(table, source, destination, segment, setting)",
+            "take_syn(tables, source, destination, segment, setting)",
             "let mut right = segment.to_vec();
             if let (true, 4 | 16) = (right.len() >= 20, source.len()) {
                 right[CHECKSUM].fill(0);
                 let sum = checksum::checksum(source, destination, &right);
                 right[CHECKSUM].copy_from_slice(&sum.to_be_bytes());
             }
-            take_syn(table, source, destination, &right, setting)",
+            take_syn(tables, source, destination, &right, setting)",
         )],
     },
     Planted {

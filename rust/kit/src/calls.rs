@@ -5,6 +5,11 @@ pub fn word(number: u8, value: u32) -> u64 {
     u64::from(value) << 32 | u64::from(number)
 }
 
+/// The answer of an MD5 table that is refused: 1 in bits 8 to 15.
+pub fn md5_word(number: u8, index: u32) -> u64 {
+    word(number, index) | 1 << 8
+}
+
 /// An answer's number.
 pub fn number(word: u64) -> u8 {
     word as u8
@@ -19,6 +24,7 @@ pub fn value(word: u64) -> u32 {
 pub enum Function {
     CheckTable,
     OpenActive,
+    OpenActiveMd5,
     JudgeSyn,
     OpenPassive,
     Judge,
@@ -27,9 +33,10 @@ pub enum Function {
 }
 
 impl Function {
-    pub const ALL: [Function; 7] = [
+    pub const ALL: [Function; 8] = [
         Function::CheckTable,
         Function::OpenActive,
+        Function::OpenActiveMd5,
         Function::JudgeSyn,
         Function::OpenPassive,
         Function::Judge,
@@ -41,11 +48,20 @@ impl Function {
         match self {
             Function::CheckTable => "check_table",
             Function::OpenActive => "open_active",
+            Function::OpenActiveMd5 => "md5_open_active",
             Function::JudgeSyn => "judge_syn",
             Function::OpenPassive => "open_passive",
             Function::Judge => "judge",
             Function::Sign => "sign",
             Function::Ask => "ask",
+        }
+    }
+
+    /// Its name in C.
+    pub fn c_name(self) -> String {
+        match self {
+            Function::OpenActiveMd5 => format!("tcp{}", self.name()),
+            _ => format!("tcpao_{}", self.name()),
         }
     }
 
@@ -68,7 +84,10 @@ impl Function {
 #[derive(Clone, Debug)]
 pub struct Call {
     pub function: Function,
+    /// The key table.
     pub table: Vec<u8>,
+    /// The MD5 table.
+    pub md5: Vec<u8>,
     /// The source's address; of an active opening the local one.
     pub source: Vec<u8>,
     /// The destination's address; of an active opening the remote one.
@@ -87,11 +106,12 @@ pub struct Call {
 }
 
 impl Call {
-    /// With nothing else: empty buffers and zeros.
+    /// With nothing else: empty buffers, no MD5 table among them, and zeros.
     pub fn new(function: Function, table: &[u8]) -> Call {
         Call {
             function,
             table: table.to_vec(),
+            md5: vec![],
             source: vec![],
             destination: vec![],
             segment: vec![],
@@ -129,9 +149,10 @@ impl Outcome {
 #[allow(clippy::type_complexity)] // the boundary's own arguments
 #[derive(Clone, Copy, Debug)]
 pub struct Boundary {
-    pub check_table: fn(table: &[u8]) -> u64,
+    pub check_table: fn(keys: &[u8], md5: &[u8]) -> u64,
     pub open_active: fn(
-        table: &[u8],
+        keys: &[u8],
+        md5: &[u8],
         local: &[u8],
         remote: &[u8],
         local_port: u16,
@@ -140,10 +161,27 @@ pub struct Boundary {
         send_id: u8,
         state: &mut [u8],
     ) -> u64,
-    pub judge_syn:
-        fn(table: &[u8], source: &[u8], destination: &[u8], segment: &[u8], setting: u8) -> u64,
+    pub open_active_md5: fn(
+        keys: &[u8],
+        md5: &[u8],
+        local: &[u8],
+        remote: &[u8],
+        local_port: u16,
+        remote_port: u16,
+        isn: u32,
+        state: &mut [u8],
+    ) -> u64,
+    pub judge_syn: fn(
+        keys: &[u8],
+        md5: &[u8],
+        source: &[u8],
+        destination: &[u8],
+        segment: &[u8],
+        setting: u8,
+    ) -> u64,
     pub open_passive: fn(
-        table: &[u8],
+        keys: &[u8],
+        md5: &[u8],
         source: &[u8],
         destination: &[u8],
         segment: &[u8],
@@ -152,14 +190,15 @@ pub struct Boundary {
         state: &mut [u8],
     ) -> u64,
     pub judge: fn(
-        table: &[u8],
+        keys: &[u8],
+        md5: &[u8],
         source: &[u8],
         destination: &[u8],
         segment: &[u8],
         state: &mut [u8],
     ) -> u64,
-    pub sign: fn(table: &[u8], segment: &[u8], out: &mut [u8], state: &mut [u8]) -> u64,
-    pub ask: fn(table: &[u8], recv_id: u8, state: &mut [u8]) -> u64,
+    pub sign: fn(keys: &[u8], md5: &[u8], segment: &[u8], out: &mut [u8], state: &mut [u8]) -> u64,
+    pub ask: fn(keys: &[u8], md5: &[u8], recv_id: u8, state: &mut [u8]) -> u64,
 }
 
 /// The calls of a module that has them under their names in C, as a [`Boundary`] or as a
@@ -170,6 +209,7 @@ macro_rules! calls_of {
         $kind {
             check_table: $($module)::+::tcpao_check_table,
             open_active: $($module)::+::tcpao_open_active,
+            open_active_md5: $($module)::+::tcpmd5_open_active,
             judge_syn: $($module)::+::tcpao_judge_syn,
             open_passive: $($module)::+::tcpao_open_passive,
             judge: $($module)::+::tcpao_judge,
@@ -183,7 +223,8 @@ impl Boundary {
     /// Makes a call.
     pub fn make(&self, call: &Call) -> Outcome {
         let Call {
-            table,
+            table: keys,
+            md5,
             source,
             destination,
             segment,
@@ -195,27 +236,42 @@ impl Boundary {
         let mut out = call.out.clone();
         let mut state = call.state.clone();
         let word = match call.function {
-            Function::CheckTable => (self.check_table)(table),
-            Function::OpenActive => {
-                let (local, remote) = (call.local_port, call.remote_port);
-                (self.open_active)(
-                    table,
-                    source,
-                    destination,
-                    local,
-                    remote,
-                    isn,
-                    byte,
-                    &mut state,
-                )
-            }
-            Function::JudgeSyn => (self.judge_syn)(table, source, destination, segment, byte),
-            Function::OpenPassive => {
-                (self.open_passive)(table, source, destination, segment, isn, byte, &mut state)
-            }
-            Function::Judge => (self.judge)(table, source, destination, segment, &mut state),
-            Function::Sign => (self.sign)(table, segment, &mut out, &mut state),
-            Function::Ask => (self.ask)(table, byte, &mut state),
+            Function::CheckTable => (self.check_table)(keys, md5),
+            Function::OpenActive => (self.open_active)(
+                keys,
+                md5,
+                source,
+                destination,
+                call.local_port,
+                call.remote_port,
+                isn,
+                byte,
+                &mut state,
+            ),
+            Function::OpenActiveMd5 => (self.open_active_md5)(
+                keys,
+                md5,
+                source,
+                destination,
+                call.local_port,
+                call.remote_port,
+                isn,
+                &mut state,
+            ),
+            Function::JudgeSyn => (self.judge_syn)(keys, md5, source, destination, segment, byte),
+            Function::OpenPassive => (self.open_passive)(
+                keys,
+                md5,
+                source,
+                destination,
+                segment,
+                isn,
+                byte,
+                &mut state,
+            ),
+            Function::Judge => (self.judge)(keys, md5, source, destination, segment, &mut state),
+            Function::Sign => (self.sign)(keys, md5, segment, &mut out, &mut state),
+            Function::Ask => (self.ask)(keys, md5, byte, &mut state),
         };
         Outcome {
             word,

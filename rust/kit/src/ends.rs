@@ -52,17 +52,21 @@ pub fn translated(segment: &[u8], sender: &Pair, receiver: &Pair) -> Vec<u8> {
 pub struct End {
     pub boundary: Boundary,
     pub pair: Pair,
+    /// The key table.
     pub table: Vec<u8>,
+    /// The MD5 table.
+    pub md5: Vec<u8>,
     pub state: Vec<u8>,
 }
 
 impl End {
-    /// With the empty state.
+    /// With the empty state, and no MD5 table.
     pub fn new(boundary: Boundary, pair: Pair, table: Vec<u8>) -> End {
         End {
             boundary,
             pair,
             table,
+            md5: vec![],
             state: State::default().bytes(),
         }
     }
@@ -102,6 +106,7 @@ impl End {
         } = &self.pair;
         (self.boundary.open_active)(
             &self.table,
+            &self.md5,
             local,
             remote,
             *local_port,
@@ -112,28 +117,50 @@ impl End {
         )
     }
 
+    pub fn open_active_md5(&mut self, isn: u32) -> u64 {
+        let Pair {
+            local,
+            remote,
+            local_port,
+            remote_port,
+        } = &self.pair;
+        (self.boundary.open_active_md5)(
+            &self.table,
+            &self.md5,
+            local,
+            remote,
+            *local_port,
+            *remote_port,
+            isn,
+            &mut self.state,
+        )
+    }
+
     pub fn judge_syn(&self, segment: &[u8], setting: u8) -> u64 {
+        let (keys, md5) = (&self.table, &self.md5);
         let Pair { local, remote, .. } = &self.pair;
-        (self.boundary.judge_syn)(&self.table, remote, local, segment, setting)
+        (self.boundary.judge_syn)(keys, md5, remote, local, segment, setting)
     }
 
     pub fn open_passive(&mut self, segment: &[u8], isn: u32, setting: u8) -> u64 {
+        let (keys, md5) = (&self.table, &self.md5);
         let Pair { local, remote, .. } = &self.pair;
         let state = &mut self.state;
-        (self.boundary.open_passive)(&self.table, remote, local, segment, isn, setting, state)
+        (self.boundary.open_passive)(keys, md5, remote, local, segment, isn, setting, state)
     }
 
     pub fn judge(&mut self, segment: &[u8]) -> u64 {
+        let (keys, md5) = (&self.table, &self.md5);
         let Pair { local, remote, .. } = &self.pair;
-        (self.boundary.judge)(&self.table, remote, local, segment, &mut self.state)
+        (self.boundary.judge)(keys, md5, remote, local, segment, &mut self.state)
     }
 
     pub fn ask(&mut self, recv_id: u8) -> u64 {
-        (self.boundary.ask)(&self.table, recv_id, &mut self.state)
+        (self.boundary.ask)(&self.table, &self.md5, recv_id, &mut self.state)
     }
 
     pub fn sign_into(&mut self, segment: &[u8], out: &mut [u8]) -> u64 {
-        (self.boundary.sign)(&self.table, segment, out, &mut self.state)
+        (self.boundary.sign)(&self.table, &self.md5, segment, out, &mut self.state)
     }
 
     /// Signs into a buffer that is long enough, of which only the signed length's bytes may change,

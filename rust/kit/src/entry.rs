@@ -1,4 +1,5 @@
-//! Entries of a key table: document 01, "Key table (house bytes)", and document 02, Tickets 4 and 10.
+//! Entries of a key table: document 01, "Key table (house bytes)", and document 02, Tickets 4 and 10. Those
+//! of an MD5 table have the same bytes: Ticket 9.
 
 /// One side of whom an entry is for: a range of ports, its ends included, and a prefix of addresses.
 #[derive(Clone, Debug, PartialEq, Eq)]
@@ -84,6 +85,16 @@ impl Entry {
             local: Side::host(local),
             remote: Side::host(remote),
             ..Entry::default()
+        }
+    }
+
+    /// Of an MD5 table, for two addresses of one family, and any ports.
+    pub fn md5(local: &[u8], remote: &[u8]) -> Entry {
+        Entry {
+            flags: 0,
+            algorithm: 19,
+            key: b"an MD5 key".to_vec(),
+            ..Entry::between(local, remote)
         }
     }
 

@@ -7,6 +7,7 @@
 
 pub mod bytes;
 pub mod calls;
+pub mod capture;
 pub mod ends;
 pub mod entry;
 pub mod linux;
@@ -15,7 +16,7 @@ pub mod segment;
 pub mod state;
 
 pub use bytes::Bytes;
-pub use calls::{number, value, word, Boundary, Call, Function, Outcome};
+pub use calls::{md5_word, number, value, word, Boundary, Call, Function, Outcome};
 pub use ends::{translated, End, Pair};
 pub use entry::{Entry, Side};
 pub use segment::Segment;

@@ -81,6 +81,11 @@ impl Captured {
             .collect()
     }
 
+    /// Whether it goes by TCP MD5; else by TCP-AO.
+    pub fn by_md5(&self) -> bool {
+        self.keys.iter().all(|key| key.algorithm == MD5)
+    }
+
     /// The sequence number of this end's SYN.
     pub fn isn(&self, end: usize) -> u32 {
         let mut sent = self.segments.iter().filter(|sent| sent.by == end);
@@ -150,17 +155,27 @@ impl Sent {
         u64::from(self.extension) << 32 | u64::from(self.number())
     }
 
-    /// The segment with its checksum zero.
-    pub fn without_checksum(&self) -> Vec<u8> {
+    /// Whether it has TCP MD5. Linux puts first the two bytes that pad it.
+    pub fn by_md5(&self) -> bool {
+        self.bytes[20..24] == [1, 1, MD5, 18]
+    }
+
+    /// The segment as we sign it: TCP MD5 before the two bytes that pad it. That is all: neither the digest
+    /// nor the checksum hangs on the order of these ten words of 16 bits.
+    pub fn as_ours(&self) -> Vec<u8> {
         let mut bytes = self.bytes.clone();
-        bytes[16..18].fill(0);
+        if self.by_md5() {
+            bytes[20..40].rotate_left(2);
+        }
         bytes
     }
 
-    /// The segment before it was signed: without TCP-AO, which stands first, and its padding.
+    /// The segment before it was signed: without TCP-AO or TCP MD5, which stands first, and its padding, and
+    /// with its checksum zero.
     pub fn unsigned(&self) -> Vec<u8> {
-        let mut bytes = self.without_checksum();
-        assert_eq!(bytes[20], 29);
+        let mut bytes = self.as_ours();
+        bytes[16..18].fill(0);
+        assert!([29, MD5].contains(&bytes[20]));
         let option = usize::from(bytes[21]).next_multiple_of(4);
         bytes.drain(20..20 + option);
         bytes[12] -= (option as u8 / 4) << 4;

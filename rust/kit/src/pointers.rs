@@ -13,6 +13,7 @@ pub struct Buffer {
 #[derive(Clone, Copy)]
 pub struct Buffers {
     pub table: Buffer,
+    pub md5: Buffer,
     pub source: Buffer,
     pub destination: Buffer,
     pub segment: Buffer,
@@ -26,13 +27,17 @@ type N = usize;
 
 /// The calls as the header declares them: each pointer before its length.
 pub struct Calls {
-    pub check_table: unsafe extern "C" fn(In, N) -> u64,
-    pub open_active: unsafe extern "C" fn(In, N, In, N, In, N, u16, u16, u32, u8, Out, N) -> u64,
-    pub judge_syn: unsafe extern "C" fn(In, N, In, N, In, N, In, N, u8) -> u64,
-    pub open_passive: unsafe extern "C" fn(In, N, In, N, In, N, In, N, u32, u8, Out, N) -> u64,
-    pub judge: unsafe extern "C" fn(In, N, In, N, In, N, In, N, Out, N) -> u64,
-    pub sign: unsafe extern "C" fn(In, N, In, N, Out, N, Out, N) -> u64,
-    pub ask: unsafe extern "C" fn(In, N, u8, Out, N) -> u64,
+    pub check_table: unsafe extern "C" fn(In, N, In, N) -> u64,
+    pub open_active:
+        unsafe extern "C" fn(In, N, In, N, In, N, In, N, u16, u16, u32, u8, Out, N) -> u64,
+    pub open_active_md5:
+        unsafe extern "C" fn(In, N, In, N, In, N, In, N, u16, u16, u32, Out, N) -> u64,
+    pub judge_syn: unsafe extern "C" fn(In, N, In, N, In, N, In, N, In, N, u8) -> u64,
+    pub open_passive:
+        unsafe extern "C" fn(In, N, In, N, In, N, In, N, In, N, u32, u8, Out, N) -> u64,
+    pub judge: unsafe extern "C" fn(In, N, In, N, In, N, In, N, In, N, Out, N) -> u64,
+    pub sign: unsafe extern "C" fn(In, N, In, N, In, N, Out, N, Out, N) -> u64,
+    pub ask: unsafe extern "C" fn(In, N, In, N, u8, Out, N) -> u64,
 }
 
 impl Calls {
@@ -45,6 +50,7 @@ impl Calls {
     pub unsafe fn make(&self, call: &Call, buffers: &Buffers) -> u64 {
         let Buffers {
             table: Buffer { at: t, length: tn },
+            md5: Buffer { at: m, length: mn },
             source: Buffer { at: s, length: sn },
             destination: Buffer { at: d, length: dn },
             segment: Buffer { at: g, length: gn },
@@ -54,17 +60,20 @@ impl Calls {
         let (isn, byte) = (call.isn, call.byte);
         let (local, remote) = (call.local_port, call.remote_port);
         match call.function {
-            Function::CheckTable => (self.check_table)(t, tn),
+            Function::CheckTable => (self.check_table)(t, tn, m, mn),
             Function::OpenActive => {
-                (self.open_active)(t, tn, s, sn, d, dn, local, remote, isn, byte, w, wn)
+                (self.open_active)(t, tn, m, mn, s, sn, d, dn, local, remote, isn, byte, w, wn)
             }
-            Function::JudgeSyn => (self.judge_syn)(t, tn, s, sn, d, dn, g, gn, byte),
+            Function::OpenActiveMd5 => {
+                (self.open_active_md5)(t, tn, m, mn, s, sn, d, dn, local, remote, isn, w, wn)
+            }
+            Function::JudgeSyn => (self.judge_syn)(t, tn, m, mn, s, sn, d, dn, g, gn, byte),
             Function::OpenPassive => {
-                (self.open_passive)(t, tn, s, sn, d, dn, g, gn, isn, byte, w, wn)
+                (self.open_passive)(t, tn, m, mn, s, sn, d, dn, g, gn, isn, byte, w, wn)
             }
-            Function::Judge => (self.judge)(t, tn, s, sn, d, dn, g, gn, w, wn),
-            Function::Sign => (self.sign)(t, tn, g, gn, o, on, w, wn),
-            Function::Ask => (self.ask)(t, tn, byte, w, wn),
+            Function::Judge => (self.judge)(t, tn, m, mn, s, sn, d, dn, g, gn, w, wn),
+            Function::Sign => (self.sign)(t, tn, m, mn, g, gn, o, on, w, wn),
+            Function::Ask => (self.ask)(t, tn, m, mn, byte, w, wn),
         }
     }
 }

@@ -1,4 +1,4 @@
-//! TCP segments (RFC 793), their checksum and the option TCP-AO.
+//! TCP segments (RFC 793), their checksum and the options TCP-AO and TCP MD5.
 
 pub const FIN: u8 = 0x01;
 pub const SYN: u8 = 0x02;
@@ -112,6 +112,13 @@ pub fn summed(source: &[u8], destination: &[u8], segment: &[u8]) -> Vec<u8> {
         segment[16..18].copy_from_slice(&right.to_be_bytes());
     }
     segment
+}
+
+/// TCP MD5 of this length, 2 or more, whose digest is zero.
+pub fn md5(length: u8) -> Vec<u8> {
+    let mut option = vec![19, length];
+    option.resize(usize::from(length), 0);
+    option
 }
 
 /// TCP-AO of this length, 4 or more, whose MAC is zero.

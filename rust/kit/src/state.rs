@@ -24,13 +24,15 @@ pub struct State {
     pub accepted: u64,
     /// The counts of drops, in the order of [`State::COUNTED`].
     pub drops: [u64; State::COUNTED.len()],
+    /// 1 MD5, any other TCP-AO.
+    pub way: u8,
 }
 
 impl State {
-    pub const BYTES: usize = 160;
+    pub const BYTES: usize = 177;
 
     /// The drops that are counted once open.
-    pub const COUNTED: [u8; 11] = [20, 21, 22, 23, 24, 25, 26, 27, 28, 29, 40];
+    pub const COUNTED: [u8; 13] = [20, 21, 22, 23, 24, 25, 26, 27, 28, 29, 40, 46, 47];
 
     /// Where a drop's count stands among the counts, if it is counted.
     pub fn place(number: u8) -> Option<usize> {
@@ -76,6 +78,11 @@ impl State {
         self.stage == 1
     }
 
+    /// Whether the connection was opened by MD5.
+    pub fn goes_by_md5(&self) -> bool {
+        self.way == 1
+    }
+
     /// Reads a state; nothing if the length is another.
     pub fn read(bytes: &[u8]) -> Option<State> {
         if bytes.len() != State::BYTES {
@@ -97,6 +104,7 @@ impl State {
             arriving_reference: u64::from_be_bytes(fields.next()),
             accepted: u64::from_be_bytes(fields.next()),
             drops: std::array::from_fn(|_| u64::from_be_bytes(fields.next())),
+            way: fields.next::<1>()[0],
         })
     }
 
@@ -117,6 +125,7 @@ impl State {
         bytes.extend(self.arriving_reference.to_be_bytes());
         bytes.extend(self.accepted.to_be_bytes());
         bytes.extend(self.drops.iter().flat_map(|count| count.to_be_bytes()));
+        bytes.push(self.way);
         bytes
     }
 }

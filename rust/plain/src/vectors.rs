@@ -1,6 +1,7 @@
-//! The published vectors, from the same files that the program `vectors` reads; of SHA-256, the reference's.
+//! The published vectors, from the same files that the program `vectors` reads; of SHA-256 and MD5, the
+//! reference's.
 
-use crate::{aes, aes_tables, cmac, hmac, sha1, sha256};
+use crate::{aes, aes_tables, cmac, hmac, md5, sha1, sha256};
 
 fn file(text: &'static str) -> impl Iterator<Item = Vec<&'static str>> {
     text.lines()
@@ -61,6 +62,16 @@ fn fips180_256() {
         lines += 1;
     }
     assert_eq!(lines, 5);
+}
+
+#[test]
+fn rfc1321() {
+    let mut lines = 0;
+    for c in file(include_str!("../../reference/vectors/rfc1321.txt")) {
+        assert_eq!(md5::md5(&hex(c[0]))[..], hex(c[1]), "{c:?}");
+        lines += 1;
+    }
+    assert_eq!(lines, 7);
 }
 
 #[test]
@@ -138,6 +149,9 @@ fn pieces() {
         let mut context = sha256::Sha256::new();
         message.chunks(size).for_each(|piece| context.update(piece));
         assert_eq!(context.finish(), sha256::sha256(&message));
+        let mut context = md5::Md5::new();
+        message.chunks(size).for_each(|piece| context.update(piece));
+        assert_eq!(context.finish(), md5::md5(&message));
     }
 }
 

@@ -11,18 +11,20 @@
 use crate::answer::{Refusal, Verdict};
 use crate::calls::{self, Setting};
 use crate::crypto;
+use crate::md5_table::Lent;
 use crate::state::State;
 use crate::table::Pair;
 
-/// "Every call gives a `u64`: the number in bits 0 to 7, a value in bits 32 to 63, zero in bits 8
-/// to 31."
+/// "Every call gives a `u64`: the number in bits 0 to 7; ... zero in bits 16 to 31; a value in bits 32 to 63."
 pub fn word(number: u8, value: u32) -> u64 {
     (value as u64) << 32 | number as u64
 }
 
-/// "10 to 17 | the table is refused | the entry's index", "any other | document 01's number | 0".
+/// "10 to 17, 45 | a table is refused | the entry's index", "any other | document 01's or 02's number | 0". "in
+/// bits 8 to 15, beside 10 to 17 and 45, whose entry the index names, 0 the key table's, 1 the MD5 table's
+/// (beside 45 always 1)".
 fn refusal_word(refusal: Refusal) -> u64 {
-    word(refusal.number, refusal.index)
+    word(refusal.number, refusal.index) | (refusal.in_md5 as u64) << 8
 }
 
 /// "0 | accept, or done | the extension", "1 | pass | 0".
@@ -44,9 +46,9 @@ fn setting_of(byte: u8) -> Setting {
     }
 }
 
-/// `tcpao_check_table`; done gives how many entries there are.
-pub fn tcpao_check_table(table: &[u8]) -> u64 {
-    match calls::check_table(table) {
+/// `tcpao_check_table`; done gives how many key entries there are.
+pub fn tcpao_check_table(keys: &[u8], md5: &[u8]) -> u64 {
+    match calls::check_table(&Lent { keys, md5 }) {
         Ok(count) => word(0, count),
         Err(refusal) => refusal_word(refusal),
     }
@@ -55,7 +57,8 @@ pub fn tcpao_check_table(table: &[u8]) -> u64 {
 /// `tcpao_open_active`; the state is written only if the opening is not refused.
 #[allow(clippy::too_many_arguments)] // the boundary's own arguments
 pub fn tcpao_open_active(
-    table: &[u8],
+    keys: &[u8],
+    md5: &[u8],
     local: &[u8],
     remote: &[u8],
     local_port: u16,
@@ -73,7 +76,38 @@ pub fn tcpao_open_active(
         local_port,
         remote_port,
     };
-    let (result, opened) = calls::open_active(table, &pair, isn, send_id);
+    let (result, opened) = calls::open_active(&Lent { keys, md5 }, &pair, isn, send_id);
+    if result.is_ok() {
+        state.copy_from_slice(&opened.to_bytes());
+    }
+    match result {
+        Ok(()) => word(0, 0),
+        Err(refusal) => refusal_word(refusal),
+    }
+}
+
+/// `tcpmd5_open_active`, likewise.
+#[allow(clippy::too_many_arguments)] // the boundary's own arguments
+pub fn tcpmd5_open_active(
+    keys: &[u8],
+    md5: &[u8],
+    local: &[u8],
+    remote: &[u8],
+    local_port: u16,
+    remote_port: u16,
+    isn: u32,
+    state: &mut [u8],
+) -> u64 {
+    if State::from_bytes(state).is_none() {
+        return word(18, 0);
+    }
+    let pair = Pair {
+        local,
+        remote,
+        local_port,
+        remote_port,
+    };
+    let (result, opened) = calls::open_active_md5(&Lent { keys, md5 }, &pair, isn);
     if result.is_ok() {
         state.copy_from_slice(&opened.to_bytes());
     }
@@ -85,14 +119,16 @@ pub fn tcpao_open_active(
 
 /// `tcpao_judge_syn`; it takes no state.
 pub fn tcpao_judge_syn(
-    table: &[u8],
+    keys: &[u8],
+    md5: &[u8],
     source: &[u8],
     destination: &[u8],
     segment: &[u8],
     setting: u8,
 ) -> u64 {
     let setting = setting_of(setting);
-    let verdict = calls::judge_syn(table, source, destination, segment, setting);
+    let tables = Lent { keys, md5 };
+    let verdict = calls::judge_syn(&tables, source, destination, segment, setting);
     verdict_word(verdict)
 }
 
@@ -100,7 +136,8 @@ pub fn tcpao_judge_syn(
 /// that were there.
 #[allow(clippy::too_many_arguments)] // the boundary's own arguments
 pub fn tcpao_open_passive(
-    table: &[u8],
+    keys: &[u8],
+    md5: &[u8],
     source: &[u8],
     destination: &[u8],
     segment: &[u8],
@@ -112,7 +149,9 @@ pub fn tcpao_open_passive(
         return word(18, 0);
     }
     let setting = setting_of(setting);
-    let (verdict, opened) = calls::open_passive(table, source, destination, segment, isn, setting);
+    let tables = Lent { keys, md5 };
+    let (verdict, opened) =
+        calls::open_passive(&tables, source, destination, segment, isn, setting);
     if !matches!(verdict, Verdict::Drop(_)) {
         state.copy_from_slice(&opened.to_bytes());
     }
@@ -121,7 +160,8 @@ pub fn tcpao_open_passive(
 
 /// `tcpao_judge`; the state is written on acceptance, and for a drop's count on an open connection.
 pub fn tcpao_judge(
-    table: &[u8],
+    keys: &[u8],
+    md5: &[u8],
     source: &[u8],
     destination: &[u8],
     segment: &[u8],
@@ -130,18 +170,25 @@ pub fn tcpao_judge(
     let Some(before) = State::from_bytes(state) else {
         return word(18, 0);
     };
-    let (verdict, after) = calls::judge(table, source, destination, segment, &before);
+    let tables = Lent { keys, md5 };
+    let (verdict, after) = calls::judge(&tables, source, destination, segment, &before);
     state.copy_from_slice(&after.to_bytes());
     verdict_word(verdict)
 }
 
 /// `tcpao_sign`; done gives the signed length. "Signing writes only the signed length's bytes of
 /// the output."
-pub fn tcpao_sign(table: &[u8], segment: &[u8], out: &mut [u8], state: &mut [u8]) -> u64 {
+pub fn tcpao_sign(
+    keys: &[u8],
+    md5: &[u8],
+    segment: &[u8],
+    out: &mut [u8],
+    state: &mut [u8],
+) -> u64 {
     let Some(before) = State::from_bytes(state) else {
         return word(18, 0);
     };
-    match calls::sign(table, segment, out.len(), &before) {
+    match calls::sign(&Lent { keys, md5 }, segment, out.len(), &before) {
         Ok(signed) => {
             let length = signed.segment.len();
             out[..length].copy_from_slice(&signed.segment);
@@ -153,11 +200,11 @@ pub fn tcpao_sign(table: &[u8], segment: &[u8], out: &mut [u8], state: &mut [u8]
 }
 
 /// `tcpao_ask`.
-pub fn tcpao_ask(table: &[u8], recv_id: u8, state: &mut [u8]) -> u64 {
+pub fn tcpao_ask(keys: &[u8], md5: &[u8], recv_id: u8, state: &mut [u8]) -> u64 {
     let Some(before) = State::from_bytes(state) else {
         return word(18, 0);
     };
-    match calls::ask(table, recv_id, &before) {
+    match calls::ask(&Lent { keys, md5 }, recv_id, &before) {
         Ok(after) => {
             state.copy_from_slice(&after.to_bytes());
             word(0, 0)
@@ -166,7 +213,7 @@ pub fn tcpao_ask(table: &[u8], recv_id: u8, state: &mut [u8]) -> u64 {
     }
 }
 
-/// "These give how many bytes they wrote at the front of `out`: 20, 20, 16, 16, 32, 32". "Where `out` is
+/// "These give how many bytes they wrote at the front of `out`: 20, 20, 16, 16, 32, 32, 16". "Where `out` is
 /// shorter, or an AES key or block has not 16 bytes, they give 0 and write nothing."
 fn write_front(bytes: &[u8], out: &mut [u8]) -> u64 {
     if out.len() < bytes.len() {
@@ -194,6 +241,11 @@ pub fn mac_sha256(message: &[u8], out: &mut [u8]) -> u64 {
 /// `mac_hmac_sha256`.
 pub fn mac_hmac_sha256(key: &[u8], message: &[u8], out: &mut [u8]) -> u64 {
     write_front(&crypto::hmac_sha256(key, message), out)
+}
+
+/// `mac_md5`.
+pub fn mac_md5(message: &[u8], out: &mut [u8]) -> u64 {
+    write_front(&crypto::md5(message), out)
 }
 
 /// `mac_aes128`.

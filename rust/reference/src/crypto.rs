@@ -1,12 +1,14 @@
 //! "SHA-1 (FIPS 180-4), HMAC (RFC 2104), AES-128 encryption (FIPS 197) and CMAC (RFC 4493) are
-//! written here." SHA-256 (FIPS 180-4) came with Ticket 13.
+//! written here." SHA-256 (FIPS 180-4) came with Ticket 13, MD5 (RFC 1321) with Ticket 9.
+
+use std::sync::LazyLock;
 
 /// SHA-1 of a message, FIPS 180-4 section 6.1.
 pub fn sha1(message: &[u8]) -> [u8; 20] {
     // Section 5.3.1: the initial hash value.
     let mut hash: [u32; 5] = [0x67452301, 0xefcdab89, 0x98badcfe, 0x10325476, 0xc3d2e1f0];
 
-    let (whole, last) = blocks(message);
+    let (whole, last) = blocks(message, u64::to_be_bytes);
     for block in whole.chunks_exact(64).chain(last.chunks_exact(64)) {
         sha1_block(&mut hash, block);
     }
@@ -19,9 +21,9 @@ pub fn sha1(message: &[u8]) -> [u8; 20] {
 }
 
 /// The message in blocks of 64 bytes: its own whole blocks, and what comes behind them. FIPS 180-4 section
-/// 5.1.1, for SHA-1 and SHA-256: the bit 1, zeros up to 448 modulo 512 bits, the message's length in bits
-/// as 64 bits.
-fn blocks(message: &[u8]) -> (&[u8], Vec<u8>) {
+/// 5.1.1, for SHA-1 and SHA-256, and RFC 1321 sections 3.1 and 3.2: the bit 1, zeros up to 448 modulo 512
+/// bits, the message's length in bits as 64 bits, whose bytes MD5 has in the other order.
+fn blocks(message: &[u8], length_bytes: fn(u64) -> [u8; 8]) -> (&[u8], Vec<u8>) {
     let (whole, rest) = message.split_at(message.len() / 64 * 64);
     let mut last = rest.to_vec();
     last.push(0x80);
@@ -29,7 +31,7 @@ fn blocks(message: &[u8]) -> (&[u8], Vec<u8>) {
         last.push(0);
     }
     let bits = (message.len() as u64).wrapping_mul(8);
-    last.extend_from_slice(&bits.to_be_bytes());
+    last.extend_from_slice(&length_bytes(bits));
     (whole, last)
 }
 
@@ -137,7 +139,7 @@ pub const SHA256_INITIAL: [u32; 8] = {
 /// SHA-256 of a message, FIPS 180-4 section 6.2.
 pub fn sha256(message: &[u8]) -> [u8; 32] {
     let mut hash = SHA256_INITIAL;
-    let (whole, last) = blocks(message);
+    let (whole, last) = blocks(message, u64::to_be_bytes);
     for block in whole.chunks_exact(64).chain(last.chunks_exact(64)) {
         sha256_block(&mut hash, block);
     }
@@ -192,6 +194,64 @@ fn sha256_block(hash: &mut [u32; 8], block: &[u8]) {
 
     // 4. The intermediate hash value.
     for (old, new) in hash.iter_mut().zip([a, b, c, d, e, f, g, h]) {
+        *old = old.wrapping_add(new);
+    }
+}
+
+/// The constants of MD5, computed from their rule. RFC 1321 section 3.4: T\[i\] is "the integer part of
+/// 4294967296 times abs(sin(i)), where i is in radians", from T\[1\] on.
+pub static MD5_CONSTANTS: LazyLock<[u32; 64]> = LazyLock::new(|| {
+    let constant = |i: usize| (i as f64 + 1.0).sin().abs() * 4_294_967_296.0;
+    std::array::from_fn(|i| constant(i) as u32)
+});
+
+/// By how many bits each round's steps rotate, four in turn. RFC 1321 section 3.4.
+const MD5_ROTATIONS: [[u32; 4]; 4] = [
+    [7, 12, 17, 22],
+    [5, 9, 14, 20],
+    [4, 11, 16, 23],
+    [6, 10, 15, 21],
+];
+
+/// MD5 of a message, RFC 1321.
+pub fn md5(message: &[u8]) -> [u8; 16] {
+    // Section 3.3: the four words, which the RFC prints "low-order bytes first".
+    let mut hash: [u32; 4] = [0x67452301, 0xefcdab89, 0x98badcfe, 0x10325476];
+    let (whole, last) = blocks(message, u64::to_le_bytes);
+    for block in whole.chunks_exact(64).chain(last.chunks_exact(64)) {
+        md5_block(&mut hash, block);
+    }
+    let mut digest = [0; 16];
+    for (bytes, word) in digest.chunks_exact_mut(4).zip(hash) {
+        bytes.copy_from_slice(&word.to_le_bytes());
+    }
+    digest
+}
+
+/// One block of MD5, RFC 1321 section 3.4: four rounds of sixteen steps, in each of which a = b + ((a +
+/// F(b,c,d) + X\[k\] + T\[i\]) <<< s), and then the four words change their places.
+fn md5_block(hash: &mut [u32; 4], block: &[u8]) {
+    let mut x = [0u32; 16];
+    for (word, bytes) in x.iter_mut().zip(block.chunks_exact(4)) {
+        *word = u32::from_le_bytes([bytes[0], bytes[1], bytes[2], bytes[3]]);
+    }
+    let [mut a, mut b, mut c, mut d] = *hash;
+    for (i, constant) in MD5_CONSTANTS.iter().enumerate() {
+        // F, G, H and I, and which word.
+        let (f, k) = match i / 16 {
+            0 => ((b & c) | (!b & d), i),
+            1 => ((b & d) | (c & !d), (5 * i + 1) % 16),
+            2 => (b ^ c ^ d, (3 * i + 5) % 16),
+            _ => (c ^ (b | !d), 7 * i % 16),
+        };
+        let sum = a.wrapping_add(f).wrapping_add(x[k]).wrapping_add(*constant);
+        let rotation = MD5_ROTATIONS[i / 16][i % 4];
+        a = d;
+        d = c;
+        c = b;
+        b = b.wrapping_add(sum.rotate_left(rotation));
+    }
+    for (old, new) in hash.iter_mut().zip([a, b, c, d]) {
         *old = old.wrapping_add(new);
     }
 }
@@ -472,6 +532,17 @@ mod tests {
         ];
         assert_eq!(SHA256_INITIAL, initial);
         assert_eq!((PRIMES[0], PRIMES[63]), (2, 311));
+    }
+
+    /// RFC 1321, appendix A.3, md5.c: the first and the last constants of each round.
+    #[test]
+    fn the_constants_of_md5_as_printed() {
+        let ends = [0, 15, 16, 31, 32, 47, 48, 63].map(|i| MD5_CONSTANTS[i]);
+        let printed = [
+            0xd76aa478, 0x49b40821, 0xf61e2562, 0x8d2a4c8a, 0xfffa3942, 0xc4ac5665, 0xf4292244,
+            0xeb86d391,
+        ];
+        assert_eq!(ends, printed);
     }
 
     /// FIPS 197 section 4.2: {57} times {83} is {c1}, {57} times {13} is {fe}.

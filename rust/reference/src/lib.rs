@@ -1,9 +1,9 @@
 //! TCP-AO by the rules of document 01, once more in plain Rust. Of document 02, Tickets 2, 4,
-//! 13, 5 and 10 are in it.
+//! 13, 5, 10 and 9 are in it.
 //!
 //! This package was written from the papers alone: documents 01 and 02, `BOUNDARY.md` for the bytes
 //! at the C boundary, and the public standards (FIPS 180-4, RFC 2104, FIPS 197, RFC 4493, RFC 1071, RFC
-//! 5925, RFC 5926, RFC 6978). It shares no line and no definition with the proved library, so that the two can be
+//! 5925, RFC 5926, RFC 6978, RFC 1321, RFC 2385). It shares no line and no definition with the proved library, so that the two can be
 //! compared. It is meant to be read beside document 01: over each rule stands the sentence it comes
 //! from.
 //!
@@ -21,10 +21,12 @@ pub mod calls;
 pub mod checksum;
 pub mod crypto;
 pub mod mac;
+pub mod md5_table;
 pub mod position;
 pub mod segment;
 pub mod state;
 pub mod table;
+pub mod tcp_md5;
 
 pub use answer::{Refusal, Verdict};
 pub use state::State;

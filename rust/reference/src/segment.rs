@@ -1,6 +1,6 @@
 //! "The option in a segment": the header's fields and the options.
 
-/// The kind of one byte that says nothing, with which a TCP-AO is padded.
+/// The kind of one byte that says nothing, with which a TCP-AO or an MD5 is padded.
 pub const KIND_NO_OPERATION: u8 = 1;
 /// The kind of TCP MD5.
 pub const KIND_MD5: u8 = 19;
@@ -114,6 +114,22 @@ impl WithAo<'_> {
     }
 }
 
+/// TCP MD5: kind 19, length, digest.
+#[derive(Clone, Copy, Debug, PartialEq, Eq)]
+pub struct Md5Option {
+    /// Where in the segment its kind stands.
+    pub at: usize,
+    /// Its length byte, 2 or more.
+    pub length: usize,
+}
+
+impl Md5Option {
+    /// How many bytes of it stand before the digest.
+    pub const FRONT: usize = 2;
+    /// Its right length. RFC 2385: kind, length 18 and a digest of 16 bytes.
+    pub const BYTES: usize = 18;
+}
+
 /// What stands in an option area that is not malformed.
 #[derive(Clone, Copy, Debug, PartialEq, Eq)]
 pub struct Options {
@@ -121,6 +137,8 @@ pub struct Options {
     pub ao: Option<AoOption>,
     /// How many TCP-AO there are.
     pub ao_count: usize,
+    /// The first MD5.
+    pub md5: Option<Md5Option>,
     /// How many MD5 there are.
     pub md5_count: usize,
 }
@@ -136,6 +154,7 @@ pub fn read_options(segment: &[u8], header: &Header) -> Option<Options> {
     let mut options = Options {
         ao: None,
         ao_count: 0,
+        md5: None,
         md5_count: 0,
     };
     let end = header.bytes();
@@ -176,6 +195,9 @@ pub fn read_options(segment: &[u8], header: &Header) -> Option<Options> {
         }
         if kind == KIND_MD5 {
             options.md5_count += 1;
+            if options.md5.is_none() {
+                options.md5 = Some(Md5Option { at, length });
+            }
         }
         at += length;
     }

@@ -1,13 +1,19 @@
-//! A connection's state, as a struct and as `BOUNDARY.md`'s 160 bytes.
+//! A connection's state, as a struct and as `BOUNDARY.md`'s 177 bytes.
 
 use crate::table::Pair;
 
 /// How many bytes a state has at the boundary.
-pub const STATE_BYTES: usize = 160;
+pub const STATE_BYTES: usize = 177;
 
 /// The drops that are counted, in the order of their counts: "drops 20 to 29"; Ticket 5, of 40: "the
-/// counted drops and their sum include it", and its count stands behind 29's.
-pub const COUNTED: [u8; 11] = [20, 21, 22, 23, 24, 25, 26, 27, 28, 29, 40];
+/// counted drops and their sum include it", and its count stands behind 29's; Ticket 9, of 46 and 47: "both
+/// ... counted and within the sum", behind 40's.
+pub const COUNTED: [u8; 13] = [20, 21, 22, 23, 24, 25, 26, 27, 28, 29, 40, 46, 47];
+
+/// Where the way stands, behind the counts.
+const WAY: usize = 176;
+/// The way of a connection opened by MD5. "way: 1 MD5, any other value TCP-AO".
+pub const WAY_MD5: u8 = 1;
 
 /// The stage of an open connection. "1 open, any other value opening".
 pub const STAGE_OPEN: u8 = 1;
@@ -44,6 +50,8 @@ pub struct State {
     pub accepted: u64,
     /// The counts of drops, in the order of [`COUNTED`].
     pub drops: [u64; COUNTED.len()],
+    /// "way: 1 MD5, any other value TCP-AO".
+    pub way: u8,
 }
 
 impl State {
@@ -63,7 +71,13 @@ impl State {
         arriving_reference: 0,
         accepted: 0,
         drops: [0; COUNTED.len()],
+        way: 0,
     };
+
+    /// Whether the connection was opened by MD5. Ticket 9: "A connection goes by the way it was opened".
+    pub fn goes_by_md5(&self) -> bool {
+        self.way == WAY_MD5
+    }
 
     /// Whether the connection is open.
     pub fn is_open(&self) -> bool {
@@ -102,7 +116,8 @@ impl State {
         self.accepted = self.accepted.saturating_add(1);
     }
 
-    /// "drops 20 to 29 on an open connection add one to that number's count", and 40; others have none.
+    /// "drops 20 to 29 on an open connection add one to that number's count", and 40, 46 and 47; others have
+    /// none.
     pub fn count_drop(&mut self, number: u8) {
         if let Some(place) = COUNTED.iter().position(|counted| *counted == number) {
             let count = &mut self.drops[place];
@@ -110,7 +125,7 @@ impl State {
         }
     }
 
-    /// Reads a state; nothing if there are not 160 bytes.
+    /// Reads a state; nothing if there are not 177 bytes.
     pub fn from_bytes(bytes: &[u8]) -> Option<State> {
         if bytes.len() != STATE_BYTES {
             return None;
@@ -133,6 +148,7 @@ impl State {
             arriving_reference: eight(56),
             accepted: eight(64),
             drops: [0; COUNTED.len()],
+            way: bytes[WAY],
         };
         state.local.copy_from_slice(&bytes[16..32]);
         state.remote.copy_from_slice(&bytes[32..48]);
@@ -161,6 +177,7 @@ impl State {
         for (index, count) in self.drops.iter().enumerate() {
             bytes[72 + 8 * index..80 + 8 * index].copy_from_slice(&count.to_be_bytes());
         }
+        bytes[WAY] = self.way;
         bytes
     }
 }

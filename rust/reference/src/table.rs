@@ -60,7 +60,7 @@ pub struct Side<'a> {
 impl Side<'_> {
     /// "both ports lie in the ranges and, on each side, the first prefix-length bits agree. Prefix
     /// 0 matches every address."
-    fn matches(&self, address: &[u8], port: u16) -> bool {
+    pub fn matches(&self, address: &[u8], port: u16) -> bool {
         let in_range = self.low <= port && port <= self.high;
         in_range && first_bits_agree(self.address, address, self.prefix)
     }
@@ -70,7 +70,7 @@ impl Side<'_> {
     /// Two ranges share a port exactly if the larger of the low ends is not above the smaller of
     /// the high ends. Two prefixes share an address exactly if they agree as far as the shorter
     /// one goes: the longer one's own address is then in both.
-    fn overlaps(&self, other: &Side) -> bool {
+    pub fn overlaps(&self, other: &Side) -> bool {
         let ports = self.low.max(other.low) <= self.high.min(other.high);
         let shorter = self.prefix.min(other.prefix);
         let addresses = first_bits_agree(self.address, other.address, shorter);
@@ -145,80 +145,95 @@ fn bits_behind_are_zero(address: &[u8], count: usize) -> bool {
         && address[whole_bytes_from..].iter().all(|byte| *byte == 0)
 }
 
-/// Reads a table, or says what the first refused entry is refused with.
+/// Takes a table's entries one after another, or gives the number and the index of the first that is refused.
+/// A kind has a body of so many bytes, or none; a body is read, or gives 13 to 16; two entries clash.
 ///
 /// "The first that applies, in this order, is given; table entries are taken one after another,
 /// each through to 17 against those before it, with the entry's index from 0."
-pub fn read(table: &[u8]) -> Result<Vec<Entry<'_>>, Refusal> {
-    let mut entries: Vec<Entry> = Vec::new();
+pub fn walk<'t, E>(
+    table: &'t [u8],
+    body_bytes: fn(u8) -> Option<usize>,
+    read_body: fn(u8, &'t [u8]) -> Result<E, u8>,
+    clash: fn(&E, &E) -> bool,
+) -> Result<Vec<E>, (u8, u32)> {
+    let mut entries: Vec<E> = Vec::new();
     let mut rest = table;
     while !rest.is_empty() {
         let index = entries.len() as u32;
-        let refused = |number| Refusal { number, index };
+        let refused = |number| (number, index);
 
         // 12: "a 65th entry begins".
         if entries.len() == MOST_ENTRIES {
             return Err(refused(12));
         }
 
-        // 11: "unknown kind". "One byte of kind, then a body whose length the kind fixes: kind 4
-        // (IPv4) has 103 bytes, kind 6 (IPv6) 127." Kinds 5 and 7: "one more byte".
+        // 11: "unknown kind". "One byte of kind, then a body whose length the kind fixes".
         let kind = rest[0];
-        let (address_bytes, body_bytes) = match kind {
-            4 => (4, 103),
-            5 => (4, 104),
-            6 => (16, 127),
-            7 => (16, 128),
-            _ => return Err(refused(11)),
-        };
+        let bytes = body_bytes(kind).ok_or(refused(11))?;
 
         // 10: "entry cut".
-        if rest.len() < 1 + body_bytes {
+        if rest.len() < 1 + bytes {
             return Err(refused(10));
         }
 
         // 13 to 16.
-        let body = &rest[1..1 + body_bytes];
-        let entry = read_body(kind, address_bytes, body).map_err(refused)?;
+        let entry = read_body(kind, &rest[1..1 + bytes]).map_err(refused)?;
 
         // 17: "ID clash, at the later entry".
-        if entries.iter().any(|before| before.clashes(&entry)) {
+        if entries.iter().any(|before| clash(before, &entry)) {
             return Err(refused(17));
         }
 
         entries.push(entry);
-        rest = &rest[1 + body_bytes..];
+        rest = &rest[1 + bytes..];
     }
     Ok(entries)
 }
 
-/// Reads one body, of the length that its kind has, with addresses of 4 or 16 bytes, or gives 13, 14, 15
-/// or 16.
+/// Reads a key table, or says what the first refused entry is refused with.
+pub fn read(table: &[u8]) -> Result<Vec<Entry<'_>>, Refusal> {
+    walk(table, body_bytes, read_body, |one, other| {
+        one.clashes(other)
+    })
+    .map_err(|(number, index)| Refusal {
+        number,
+        index,
+        in_md5: false,
+    })
+}
+
+/// "kind 4 (IPv4) has 103 bytes, kind 6 (IPv6) 127." Kinds 5 and 7: "one more byte". The others are unknown.
+pub fn body_bytes(kind: u8) -> Option<usize> {
+    match kind {
+        4 => Some(103),
+        5 => Some(104),
+        6 => Some(127),
+        7 => Some(128),
+        _ => None,
+    }
+}
+
+/// How many bytes the addresses of a known kind have.
+pub fn address_bytes(kind: u8) -> usize {
+    if kind < 6 {
+        4
+    } else {
+        16
+    }
+}
+
+/// Reads one body, of the length that its kind has, or gives 13, 14, 15 or 16.
 ///
 /// "The body is: flags (1: all options covered by the MAC; 0: only TCP-AO), algorithm (1
 /// HMAC-SHA-1-96, 2 AES-128-CMAC-96), SendID, RecvID; local port low and high, remote port low and
 /// high (two bytes each, big-endian, ends included); local address, its prefix length; remote
 /// address, its prefix length; key length 1 to 80; the key, padded with zeros to 80." Kinds 5 and 7 have
 /// "one more byte, 4 to 16, before the key length": the MAC's length.
-fn read_body(kind: u8, address_bytes: usize, body: &[u8]) -> Result<Entry<'_>, u8> {
-    let port = |at: usize| u16::from_be_bytes([body[at], body[at + 1]]);
-    let (local_part, rest) = body[12..].split_at(address_bytes + 1);
-    let (remote_part, rest) = rest.split_at(address_bytes + 1);
+fn read_body(kind: u8, body: &[u8]) -> Result<Entry<'_>, u8> {
+    let (local, remote, rest) = read_sides(address_bytes(kind), body);
     let (mac_bytes, key_part) = match kind {
         5 | 7 => (rest[0] as usize, &rest[1..]),
         _ => (MAC_BYTES, rest),
-    };
-    let local = Side {
-        low: port(4),
-        high: port(6),
-        address: &local_part[..address_bytes],
-        prefix: local_part[address_bytes] as usize,
-    };
-    let remote = Side {
-        low: port(8),
-        high: port(10),
-        address: &remote_part[..address_bytes],
-        prefix: remote_part[address_bytes] as usize,
     };
 
     // 13: "flags or algorithm not listed". Ticket 10: "Refusal 13 admits both bits", 2 and 4, beside 1.
@@ -238,31 +253,11 @@ fn read_body(kind: u8, address_bytes: usize, body: &[u8]) -> Result<Entry<'_>, u
         return Err(13);
     }
 
-    // 14: "low port above high".
-    let bad = |side: &Side| side.low > side.high;
-    if bad(&local) || bad(&remote) {
-        return Err(14);
-    }
+    // 14 and 15.
+    test_sides(&local, &remote)?;
 
-    // 15: "prefix above 32 or 128, or address bits set past it".
-    let too_long = |side: &Side| side.prefix > 8 * address_bytes;
-    if too_long(&local) || too_long(&remote) {
-        return Err(15);
-    }
-    let bits_set = |side: &Side| !bits_behind_are_zero(side.address, side.prefix);
-    if bits_set(&local) || bits_set(&remote) {
-        return Err(15);
-    }
-
-    // 16: "key length 0 or above 80, or padding not zero".
-    let key_bytes = key_part[0] as usize;
-    if key_bytes == 0 || key_bytes > 80 {
-        return Err(16);
-    }
-    let (key, padding) = key_part[1..].split_at(key_bytes);
-    if padding.iter().any(|byte| *byte != 0) {
-        return Err(16);
-    }
+    // 16.
+    let key = read_key(key_part[0] as usize, &key_part[1..])?;
 
     Ok(Entry {
         kind,
@@ -277,6 +272,60 @@ fn read_body(kind: u8, address_bytes: usize, body: &[u8]) -> Result<Entry<'_>, u
         mac_bytes,
         key,
     })
+}
+
+/// A body's two sides, with addresses of 4 or 16 bytes, and what stands behind them: "local port low and
+/// high, remote port low and high (two bytes each, big-endian, ends included); local address, its prefix
+/// length; remote address, its prefix length".
+pub fn read_sides(address_bytes: usize, body: &[u8]) -> (Side<'_>, Side<'_>, &[u8]) {
+    let port = |at: usize| u16::from_be_bytes([body[at], body[at + 1]]);
+    let (local_part, rest) = body[12..].split_at(address_bytes + 1);
+    let (remote_part, rest) = rest.split_at(address_bytes + 1);
+    let local = Side {
+        low: port(4),
+        high: port(6),
+        address: &local_part[..address_bytes],
+        prefix: local_part[address_bytes] as usize,
+    };
+    let remote = Side {
+        low: port(8),
+        high: port(10),
+        address: &remote_part[..address_bytes],
+        prefix: remote_part[address_bytes] as usize,
+    };
+    (local, remote, rest)
+}
+
+/// 14 and 15 of an entry's sides.
+pub fn test_sides(local: &Side, remote: &Side) -> Result<(), u8> {
+    // 14: "low port above high".
+    let bad = |side: &Side| side.low > side.high;
+    if bad(local) || bad(remote) {
+        return Err(14);
+    }
+
+    // 15: "prefix above 32 or 128, or address bits set past it".
+    let too_long = |side: &Side| side.prefix > 8 * side.address.len();
+    if too_long(local) || too_long(remote) {
+        return Err(15);
+    }
+    let bits_set = |side: &Side| !bits_behind_are_zero(side.address, side.prefix);
+    if bits_set(local) || bits_set(remote) {
+        return Err(15);
+    }
+    Ok(())
+}
+
+/// 16: "key length 0 or above 80, or padding not zero"; `padded` is "the key, padded with zeros to 80".
+pub fn read_key(key_bytes: usize, padded: &[u8]) -> Result<&[u8], u8> {
+    if key_bytes == 0 || key_bytes > 80 {
+        return Err(16);
+    }
+    let (key, padding) = padded.split_at(key_bytes);
+    if padding.iter().any(|byte| *byte != 0) {
+        return Err(16);
+    }
+    Ok(key)
 }
 
 /// Whether any entry matches the pair, whatever its IDs.

@@ -52,10 +52,11 @@ fn disturbed(random: &mut Random, case: &Case) -> Case {
     let mut case = case.clone();
     let call = &mut case.call;
     disturb(random, &mut call.table);
+    disturb(random, &mut call.md5);
     disturb(random, &mut call.state);
     match call.function {
         Function::CheckTable => {}
-        Function::OpenActive => {
+        Function::OpenActive | Function::OpenActiveMd5 => {
             disturb(random, &mut call.source);
             disturb(random, &mut call.destination);
         }
@@ -95,16 +96,22 @@ fn every_call_returns() {
         let number = number(outcome.word);
         let allowed: Vec<u8> = match case.call.function {
             Function::CheckTable => vec![0],
-            Function::OpenActive => vec![0, 18, 19, 35],
-            Function::JudgeSyn => vec![0, 1, 19, 20, 21, 22, 24, 25, 26, 27, 29, 40],
-            Function::OpenPassive => vec![0, 1, 18, 19, 20, 21, 22, 24, 25, 26, 27, 29, 40],
-            Function::Judge => [0, 40].into_iter().chain(18..=29).collect(),
+            Function::OpenActive | Function::OpenActiveMd5 => vec![0, 18, 19, 35],
+            Function::JudgeSyn => vec![0, 1, 19, 20, 21, 22, 24, 25, 26, 27, 29, 40, 46, 47],
+            Function::OpenPassive => {
+                vec![0, 1, 18, 19, 20, 21, 22, 24, 25, 26, 27, 29, 40, 46, 47]
+            }
+            Function::Judge => [0, 40, 46, 47].into_iter().chain(18..=29).collect(),
             Function::Sign => [0, 18].into_iter().chain(30..=37).collect(),
             Function::Ask => vec![0, 18, 35],
         };
-        assert!((10..=17).contains(&number) || allowed.contains(&number));
-        assert_eq!(outcome.word as u32 >> 8, 0);
-        if number != 0 && !(10..=17).contains(&number) {
+        let of_table = (10..=17).contains(&number) || number == 45;
+        assert!(of_table || allowed.contains(&number));
+        // Whose entry it is.
+        let which = outcome.word as u32 >> 8;
+        assert!(which == 0 || which == 1 && of_table);
+        assert!(which == 1 || number != 45);
+        if number != 0 && !of_table {
             assert_eq!(outcome.word >> 32, 0);
         }
         let counted = State::place(number).is_some() && case.call.function == Function::Judge;
@@ -115,6 +122,7 @@ fn every_call_returns() {
         }
         if counted {
             assert_eq!(outcome.state[..72], case.call.state[..72]);
+            assert_eq!(outcome.state[176], case.call.state[176]);
         }
         if number != 0 {
             assert!(outcome.out.iter().all(|byte| *byte == 0xee));

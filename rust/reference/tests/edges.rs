@@ -5,6 +5,7 @@ mod common;
 use common::*;
 use reference::boundary as c;
 use reference::calls::{self, Setting};
+use reference::md5_table::Lent;
 use reference::state::STATE_BYTES;
 use reference::{Refusal, State, Verdict};
 
@@ -14,6 +15,14 @@ fn the_answer_word() {
     assert_eq!(c::word(29, 0), 29);
     assert_eq!(c::word(17, 63), 63 << 32 | 17);
     assert_eq!(c::word(0, u32::MAX), 0xffff_ffff_0000_0000);
+    // "in bits 8 to 15 ..., 0 the key table's, 1 the MD5 table's (beside 45 always 1)".
+    let good = Entry::md5(&A4, &B4);
+    let bad = [good.bytes(), vec![9]].concat();
+    assert_eq!(c::tcpao_check_table(&[], &bad), 1 << 32 | 1 << 8 | 11);
+    assert_eq!(c::tcpao_check_table(&bad, &[]), 13);
+    let keys = Entry::between(&A4, &B4).bytes();
+    assert_eq!(c::tcpao_check_table(&keys, &good.bytes()), 1 << 8 | 45);
+    assert_eq!(c::tcpao_check_table(&keys, &[]), 1 << 32);
 }
 
 /// "Every value of these bytes is a state: ... reading and writing it back gives the same bytes."
@@ -55,6 +64,9 @@ fn the_places_of_the_fields() {
     assert_eq!(state.drops[0], 0x48494a4b4c4d4e4f);
     assert_eq!(state.drops[9], 0x9091929394959697);
     assert_eq!(state.drops[10], 0x98999a9b9c9d9e9f);
+    assert_eq!(state.drops[11], 0xa0a1a2a3a4a5a6a7);
+    assert_eq!(state.drops[12], 0xa8a9aaabacadaeaf);
+    assert_eq!(state.way, 176);
 }
 
 /// What the openings write, to the byte.
@@ -147,7 +159,11 @@ fn opening_from_any_state() {
 #[test]
 fn refused_openings_by_value() {
     let (a, b) = ends(&A4, &B4);
-    let (result, state) = calls::open_active(&a.table, &lent(&a.pair), 7, 99);
+    let tables = |keys| Lent { keys, md5: &[] };
+    let (result, state) = calls::open_active(&tables(&a.table), &lent(&a.pair), 7, 99);
+    assert_eq!(result, Err(Refusal::of(35)));
+    assert_eq!(state, State::EMPTY);
+    let (result, state) = calls::open_active_md5(&tables(&a.table), &lent(&a.pair), 7);
     assert_eq!(result, Err(Refusal::of(35)));
     assert_eq!(state, State::EMPTY);
 
@@ -160,9 +176,9 @@ fn refused_openings_by_value() {
         (&[], Setting::Drop, dropped),
     ] {
         let unknown = b.arriving(&unknown);
-        let judged = calls::judge_syn(table, &A4, &B4, &unknown, setting);
+        let judged = calls::judge_syn(&tables(table), &A4, &B4, &unknown, setting);
         assert_eq!(judged, verdict);
-        let opened = calls::open_passive(table, &A4, &B4, &unknown, 7, setting);
+        let opened = calls::open_passive(&tables(table), &A4, &B4, &unknown, 7, setting);
         assert_eq!(opened, (verdict, State::EMPTY));
     }
 }
@@ -199,7 +215,7 @@ fn signing_writes_its_length() {
     for spare in 0..40 {
         let mut state = a.state.clone();
         let mut out = vec![0xee; segment.len() + 16 + spare];
-        let word = c::tcpao_sign(&a.table, &segment, &mut out, &mut state);
+        let word = c::tcpao_sign(&a.table, &[], &segment, &mut out, &mut state);
         assert_eq!(word, c::word(0, segment.len() as u32 + 16));
         let (signed, behind) = out.split_at(segment.len() + 16);
         assert!(behind.iter().all(|byte| *byte == 0xee));
@@ -256,7 +272,7 @@ fn counts_stop() {
     assert_eq!(a.state().drops[10], u64::MAX);
 }
 
-/// "These give how many bytes they wrote at the front of `out`: 20, 20, 16, 16, 32, 32". "Where `out` is
+/// "These give how many bytes they wrote at the front of `out`: 20, 20, 16, 16, 32, 32, 16". "Where `out` is
 /// shorter, or an AES key or block has not 16 bytes, they give 0 and write nothing."
 #[test]
 fn the_mac_calls() {
@@ -284,6 +300,9 @@ fn the_mac_calls() {
         let mut out = fresh.clone();
         let wrote = c::mac_hmac_sha256(b"", b"", &mut out);
         check(32, wrote, &out);
+        let mut out = fresh.clone();
+        let wrote = c::mac_md5(b"m", &mut out);
+        check(16, wrote, &out);
     }
     for length in (0..40).filter(|length| *length != 16) {
         let wrong = vec![0; length];

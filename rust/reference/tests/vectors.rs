@@ -1,4 +1,5 @@
-//! The published vectors: FIPS 180-4, FIPS 197, RFC 2202, RFC 4231, RFC 4493, RFC 9235 and RFC 9187.
+//! The published vectors: FIPS 180-4, FIPS 197, RFC 1321, RFC 2202, RFC 4231, RFC 4493, RFC 9235 and RFC 9187;
+//! and segments that Linux signed by TCP MD5.
 
 mod common;
 
@@ -68,6 +69,19 @@ fn fips_180_256() {
         assert_eq!(crypto::sha256(&message)[..], digest);
         let mut out = [0; 32];
         assert_eq!(c::mac_sha256(&message, &mut out), 32);
+        assert_eq!(out[..], digest);
+    }
+}
+
+#[test]
+fn rfc_1321() {
+    let lines = columns(include_str!("../vectors/rfc1321.txt"));
+    assert_eq!(lines.len(), 7);
+    for line in lines {
+        let (message, digest) = (bytes_or_none(line[0]), hex(line[1]));
+        assert_eq!(crypto::md5(&message)[..], digest);
+        let mut out = [0; 16];
+        assert_eq!(c::mac_md5(&message, &mut out), 16);
         assert_eq!(out[..], digest);
     }
 }
@@ -393,6 +407,125 @@ fn every_byte_counts(opened: &End, packet: &Packet) {
                 packet.section
             );
         }
+    }
+}
+
+/// A segment that Linux signed by TCP MD5.
+struct LinuxSegment {
+    source: Vec<u8>,
+    destination: Vec<u8>,
+    ports: (u16, u16),
+    key: Vec<u8>,
+    segment: Vec<u8>,
+}
+
+impl LinuxSegment {
+    fn new(line: &[&str]) -> LinuxSegment {
+        let address = |text: &str| match text.parse().unwrap() {
+            std::net::IpAddr::V4(address) => address.octets().to_vec(),
+            std::net::IpAddr::V6(address) => address.octets().to_vec(),
+        };
+        LinuxSegment {
+            source: address(line[2]),
+            destination: address(line[3]),
+            ports: (line[4].parse().unwrap(), line[5].parse().unwrap()),
+            key: hex(line[6]),
+            segment: hex(line[7]),
+        }
+    }
+
+    fn header(&self) -> Header {
+        Header::read(&self.segment).unwrap()
+    }
+
+    /// The end that sent it.
+    fn sender(&self) -> End {
+        let pair = Pair {
+            local: self.source.clone(),
+            remote: self.destination.clone(),
+            local_port: self.ports.0,
+            remote_port: self.ports.1,
+        };
+        let entry = Entry {
+            key: self.key.clone(),
+            ..Entry::md5(&self.source, &self.destination)
+        };
+        let mut end = End::new(REFERENCE, pair, vec![]);
+        end.md5 = entry.bytes();
+        end
+    }
+
+    /// The segment as it was before MD5 and its padding were put in, at bytes 20 to 39.
+    fn unsigned(&self) -> Vec<u8> {
+        let mut segment = self.segment.clone();
+        segment.drain(20..40);
+        segment[12] -= 5 << 4;
+        segment
+    }
+
+    /// Signed here, it has Linux's digest and checksum; only the two kind 1 bytes stand behind.
+    fn signs_alike(&self, end: &mut End) {
+        let signed = end.try_sign(&self.unsigned()).unwrap();
+        let theirs = &self.segment;
+        assert_eq!(signed[..20], theirs[..20]);
+        assert_eq!(theirs[20..22], [1, 1]);
+        assert_eq!(signed[20..38], theirs[22..40]);
+        assert_eq!(signed[38..40], [1, 1]);
+        assert_eq!(signed[40..], theirs[40..]);
+    }
+}
+
+/// Two connections of Linux's through the calls at both ends, in both families.
+#[test]
+fn linux_md5() {
+    let lines = columns(include_str!("../vectors/linux-6.12-md5.txt"));
+    let mut seen = 0;
+    for name in ["beyond-md5-v4", "beyond-md5-reset-v6"] {
+        let segments: Vec<LinuxSegment> = lines
+            .iter()
+            .filter(|line| line[0] == name)
+            .map(|line| LinuxSegment::new(line))
+            .collect();
+        let [syn, syn_ack, rest @ ..] = &segments[..] else {
+            panic!("not three");
+        };
+        let (mut client, mut server) = (syn.sender(), syn_ack.sender());
+        assert_eq!(client.open_active_md5(syn.header().sequence), 0);
+        syn.signs_alike(&mut client);
+        assert_eq!(server.judge_syn(&syn.segment, 0), 0);
+        let isn = syn_ack.header().sequence;
+        assert_eq!(server.open_passive(&syn.segment, isn, 0), 0);
+        syn_ack.signs_alike(&mut server);
+        assert_eq!(client.judge(&syn_ack.segment), 0);
+        for segment in rest {
+            let ends = if segment.source == syn.source {
+                [&mut client, &mut server]
+            } else {
+                [&mut server, &mut client]
+            };
+            let [sender, receiver] = ends;
+            segment.signs_alike(sender);
+            assert_eq!(receiver.judge(&segment.segment), 0);
+            every_bit_counts(receiver, &segment.segment);
+        }
+        seen += segments.len();
+        let accepted = client.state().accepted + server.state().accepted;
+        assert_eq!(accepted, rest.len() as u64);
+    }
+    assert_eq!(seen, lines.len());
+}
+
+/// A changed bit gives 40, and with a right checksum 29 or less: but where it is in an option other than MD5.
+fn every_bit_counts(receiver: &End, segment: &[u8]) {
+    let header = 4 * usize::from(segment[12] >> 4);
+    for at in (0..segment.len()).filter(|at| !(16..18).contains(at)) {
+        let mut changed = segment.to_vec();
+        changed[at] ^= 1 << (at % 8);
+        let damaged = number(receiver.clone().judge(&changed));
+        assert!(damaged == 40 || damaged == 20 && at == 12);
+        let answer = number(receiver.clone().judge(&receiver.arriving(&changed)));
+        let other_option = (20..22).contains(&at) || (40..header).contains(&at);
+        assert!(other_option || answer >= 20, "byte {at}");
     }
 }
 

@@ -1,7 +1,9 @@
 //! What the tests share: segments, and both ends of an open connection.
 #![allow(dead_code)] // each test file uses a part
 
-use embankery::{Algorithm, Connection, Covered, Entry, KeyTable, UnknownKeyId, Verdict};
+use embankery::{
+    Algorithm, Connection, Covered, Entry, KeyTable, Md5Entry, Md5Table, UnknownKeyId, Verdict,
+};
 use kit::segment::{summed, ACK, SYN};
 use kit::Segment;
 use std::net::IpAddr;
@@ -145,6 +147,74 @@ impl Ends {
             ends: [a, b],
             syn,
             syn_ack,
+            opening,
+        }
+    }
+
+    /// End 0 signs.
+    pub fn sign(&mut self, segment: &[u8]) -> Result<Vec<u8>, embankery::Refusal> {
+        self.ends[0].sign(&self.tables[0], segment)
+    }
+
+    /// A segment from end 0 to end 1 with its right checksum.
+    pub fn summed(&self, segment: &[u8]) -> Vec<u8> {
+        let [source, destination] = self.addresses.map(octets);
+        summed(&source, &destination, segment)
+    }
+
+    /// End 1 judges what comes from end 0.
+    pub fn judge(&mut self, segment: &[u8]) -> Verdict {
+        let [source, destination] = self.addresses;
+        self.ends[1].judge(&self.tables[1], source, destination, segment)
+    }
+}
+
+/// The two ends of a connection by TCP MD5, of which end 0 opened actively. Both are open.
+pub struct Md5Ends {
+    pub addresses: [IpAddr; 2],
+    pub tables: [Md5Table; 2],
+    pub ends: [Connection; 2],
+    pub syn: Vec<u8>,
+    /// End 0 when it was opening.
+    pub opening: Connection,
+}
+
+impl Md5Ends {
+    pub fn open(ipv6: bool) -> Md5Ends {
+        let addresses = Ends::open(Kind { ipv6, ..FIRST_KIND }).addresses;
+        let bits = if ipv6 { 128 } else { 32 };
+        let table = |end: usize| {
+            let entry = if ipv6 {
+                Md5Entry::ipv6()
+            } else {
+                Md5Entry::ipv4()
+            };
+            let entry = entry
+                .local(addresses[end], bits)
+                .remote(addresses[1 - end], bits)
+                .key(b"an old key");
+            Md5Table::new([&entry.build().unwrap()]).unwrap()
+        };
+        let tables = [table(0), table(1)];
+        let [here, there] = [0, 1].map(|end| (addresses[end], PORTS[end]));
+        let mut a = Connection::open_active_md5(&tables[0], here, there, ISNS[0]).unwrap();
+        let opening = a.clone();
+        let syn = a
+            .sign(&tables[0], &segment(PORTS, ISNS[0], SYN, &[], &[]))
+            .unwrap();
+        let [source, destination] = addresses;
+        let choice = UnknownKeyId::Drop;
+        let b = Connection::open_passive(&tables[1], source, destination, &syn, ISNS[1], choice);
+        let mut b = b.unwrap().unwrap();
+        let syn_ack = segment([PORTS[1], PORTS[0]], ISNS[1], SYN | ACK, &[], &[]);
+        let syn_ack = b.sign(&tables[1], &syn_ack).unwrap();
+        let verdict = a.judge(&tables[0], destination, source, &syn_ack);
+        assert_eq!(verdict, Verdict::Accept { extension: 0 });
+        Md5Ends {
+            addresses,
+            tables,
+            ends: [a, b],
+            syn,
             opening,
         }
     }

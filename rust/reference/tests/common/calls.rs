@@ -6,12 +6,12 @@ use kit::{calls_of, Boundary, Call, Outcome};
 pub const REFERENCE: Boundary = calls_of!(Boundary, reference::boundary);
 const FAULTY: Boundary = calls_of!(Boundary, faulty::boundary);
 
-/// A call, and the number and value that it must answer.
+/// A call, and what it must answer.
 #[derive(Clone, Debug)]
 pub struct Case {
     pub name: String,
     pub call: Call,
-    pub answer: (u8, u32),
+    pub answer: u64,
 }
 
 pub fn run(case: &Case) -> Outcome {

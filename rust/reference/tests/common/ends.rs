@@ -62,6 +62,40 @@ pub fn opened(a: &[u8], b: &[u8]) -> (End, End) {
     (a, b)
 }
 
+/// A and B, not opened, with an MD5 entry each for their pair, and key tables for others.
+pub fn md5_ends(a: &[u8], b: &[u8]) -> (End, End) {
+    let (mut one, mut other) = ends(a, b);
+    let entry = Entry::md5(a, b);
+    one.table = table(&keys(a, b)[2..]);
+    other.table = mirrored(&keys(a, b)[2..]);
+    one.md5 = entry.bytes();
+    other.md5 = entry.mirror().bytes();
+    (one, other)
+}
+
+/// A and B after the three opening segments by MD5.
+pub fn md5_opened(a: &[u8], b: &[u8]) -> (End, End) {
+    let (mut a, mut b) = md5_ends(a, b);
+    assert_eq!(a.open_active_md5(A_ISN), 0);
+    let syn = a.sign(A_ISN, SYN, b"");
+    assert_eq!(b.judge_syn(&syn, 1), 0);
+    assert_eq!(b.open_passive(&syn, B_ISN, 1), 0);
+    let syn_ack = b.sign(B_ISN, SYN | ACK, b"");
+    assert_eq!(a.judge(&syn_ack), 0);
+    let ack = a.sign(A_ISN + 1, ACK, b"");
+    assert_eq!(b.judge(&ack), 0);
+    (a, b)
+}
+
+/// Writes into a segment's first MD5, of length 18, the digest that the entry gives between these addresses.
+pub fn seal_md5(key: &Entry, source: &[u8], destination: &[u8], mut segment: Vec<u8>) -> Vec<u8> {
+    let header = Header::read(&segment).unwrap();
+    let md5 = read_options(&segment, &header).unwrap().md5.unwrap();
+    let digest = reference::tcp_md5::digest(source, destination, &segment, &header, &key.key);
+    segment[md5.at + 2..md5.at + 18].copy_from_slice(&digest);
+    segment
+}
+
 /// What is translated on the way, of one side.
 #[derive(Clone, Copy, Debug, PartialEq, Eq)]
 pub struct Rewritten {

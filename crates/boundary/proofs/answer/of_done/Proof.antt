@@ -8,13 +8,13 @@ use Rattle.boundary.specs.Word.{word}
 use Rattle.boundary.proofs.answer.of_done.Statement.{statement}
 use Rattle.boundary.proofs.answer.of_done.Tie as tie
 
-cast-word : tie.Need-cast-word
+cast-refused : tie.Need-cast-refused
 unfolding doneAnswer
-cast-word c =
-    let a = c .before .before .before .args in
-    let h : a .index < 2 ^ 32 =
+cast-refused c =
+    let a = c .before .before .before .before .args in
+    let h : a .index .entry < 2 ^ 32 =
     subst (λ (d : Done). doneAnswer d (a .index) .value < 2 ^ 32)
-    (c .before .answer .given .1) (c .before .before .before .pre) in
+    (c .before .before .answer .given .1) (c .before .before .before .before .pre) in
     search needs
 
 returns : tie.Need-returns
@@ -26,9 +26,9 @@ returns c =
 returns-2 : tie.Need-returns-2
 unfolding doneAnswer
 returns-2 c =
-    let a = c .before .before .before .before .args in
-    c .word2 .ensures ∙ ap (λ (d : Done). word (doneAnswer d (a .index))) (sym (c .before .before .answer .given .1))
+    let a = c .before .before .before .before .before .args in
+    c .refused .ensures ∙ ap (λ (d : Done). word (doneAnswer d (a .index))) (sym (c .before .before .before .answer .given .1))
 
 pub of-done-spec : {M : Type 1} → statement M
 of-done-spec =
-    tie.close (tie.spec (λ c. search needs) (λ c κs. search needs) (λ c. search needs) cast-word (λ c κs. search needs) returns returns-2)
+    tie.close (tie.spec (λ c. search needs) (λ c κs. search needs) (λ c. search needs) cast-refused (λ c κs. search needs) returns returns-2)

@@ -17,13 +17,13 @@ cast-word c =
     (c .before .answer .given .1) (c .before .before .before .pre) in
     search needs
 
-cast-word-2 : tie.Need-cast-word-2
+cast-refused : tie.Need-cast-refused
 unfolding signingAnswer
-cast-word-2 c =
-    let a = c .before .before .before .args in
-    let h : a .index < 2 ^ 32 =
+cast-refused c =
+    let a = c .before .before .before .before .args in
+    let h : a .index .entry < 2 ^ 32 =
     subst (λ (s : Signing). signingAnswer s (a .index) .value < 2 ^ 32)
-    (c .before .answer2 .given .1) (c .before .before .before .pre) in
+    (c .before .before .answer2 .given .1) (c .before .before .before .before .pre) in
     search needs
 
 returns : tie.Need-returns
@@ -35,10 +35,10 @@ returns c =
 returns-2 : tie.Need-returns-2
 unfolding signingAnswer
 returns-2 c =
-    let a = c .before .before .before .before .args in
-    c .word2 .ensures ∙ ap (λ (s : Signing). word (signingAnswer s (a .index))) (sym (c .before .before .answer2 .given .1))
+    let a = c .before .before .before .before .before .args in
+    c .refused .ensures ∙ ap (λ (s : Signing). word (signingAnswer s (a .index))) (sym (c .before .before .before .answer2 .given .1))
 
 pub of-signing-spec : {M : Type 1} → statement M
 of-signing-spec =
     tie.close
-    (tie.spec (λ c. search needs) cast-word (λ c κs. search needs) (λ c. search needs) cast-word-2 (λ c κs. search needs) returns returns-2)
+    (tie.spec (λ c. search needs) cast-word (λ c κs. search needs) (λ c. search needs) cast-refused (λ c κs. search needs) returns returns-2)

@@ -22,8 +22,8 @@ returns-2 c =
 returns-3 : tie.Need-returns-3
 unfolding verdictAnswer
 returns-3 c =
-    let a = c .before .before .before .before .args in
-    c .word3 .ensures ∙ ap (λ (v : Verdict). word (verdictAnswer v (a .index))) (sym (c .before .before .verdict2 .given .1))
+    let a = c .before .before .before .before .before .args in
+    c .refused .ensures ∙ ap (λ (v : Verdict). word (verdictAnswer v (a .index))) (sym (c .before .before .before .verdict2 .given .1))
 
 pub of-verdict-spec : {M : Type 1} → statement M
 of-verdict-spec =

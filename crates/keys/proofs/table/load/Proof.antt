@@ -9,10 +9,10 @@ use Rattle.keys.proofs.table.load.Statement.{statement}
 use Rattle.keys.proofs.table.load.Tie as tie
 
 abbrev Inv-loop : tie.InvT-loop
-Inv-loop table limit sends₀ recvs₀ at₀ i₀ sends recvs at i = Loading table limit sends recvs at i
+Inv-loop table limit kind sends₀ recvs₀ at₀ i₀ sends recvs at i = Loading table kind limit sends recvs at i
 
 abbrev μ-loop : tie.MeasureT-loop
-μ-loop table limit sends₀ recvs₀ at₀ i₀ sends recvs at i = length table - at
+μ-loop table limit kind sends₀ recvs₀ at₀ i₀ sends recvs at i = length table - at
 
 returns : tie.Need-returns Inv-loop μ-loop
 returns c = walk-full (c .before .before .loop .inv .walking) (c .before .loop-test .taken) (c .if1 .taken)
@@ -62,7 +62,7 @@ load-spec =
     (tie.spec
     Inv-loop
     μ-loop
-    (λ c. load-start _ _)
+    (λ c. load-start _ _ _)
     returns
     (λ c κs. search needs)
     (λ c κs. search needs)

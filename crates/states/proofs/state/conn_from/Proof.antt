@@ -9,4 +9,6 @@ unfolding decodeConnection
 returns c = cc
 
 pub conn-from-spec : {M : Type 1} → statement M
-conn-from-spec = tie.close (tie.spec (λ c κs. search needs) (λ c. search needs) (λ c κs. search needs) (λ c κs. search needs) returns)
+conn-from-spec =
+    tie.close
+    (tie.spec (λ c κs. search needs) (λ c. search needs) (λ c. search needs) (λ c κs. search needs) (λ c κs. search needs) returns)

@@ -1,4 +1,4 @@
--- `state::join`: five parts, each put where the one before ends.
+-- `state::join`: five parts, each put where the one before ends, and the way behind them.
 use borrow.Author.Needs.{needs}
 use Rattle.states.proofs.Parts.{all-put}
 use Rattle.states.proofs.state.join.Statement.{statement}
@@ -10,7 +10,8 @@ returns c =
     let put1 = c .before .before .before .before .before .before .before .before .before .before .before .before .before .before .before .before .before .copy-at .ensures in
     let put2 = c .before .before .before .before .before .before .before .before .before .before .before .before .before .copy-at2 .ensures in
     let put3 = c .before .before .before .before .before .before .before .before .before .copy-at3 .ensures in
-    all-put (a .t1) (a .t2) (a .t3) (a .t4) (a .t5) _ _ _ _ _ (search needs) (search needs) (search needs) (search needs) (search needs)
+    all-put (a .t1) (a .t2) (a .t3) (a .t4) (a .t5) _ _ _ _ _ (a .way)
+    (search needs) (search needs) (search needs) (search needs) (search needs)
     put1 put2 put3
     (c .before .before .before .before .before .words-at .ensures)
     (c .before .words-at2 .ensures)
@@ -34,4 +35,5 @@ join-spec =
     (λ c. search needs)
     (λ c. search needs)
     (λ c κs. search needs)
+    (λ c. search needs)
     returns)

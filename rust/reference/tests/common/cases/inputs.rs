@@ -11,6 +11,7 @@ pub fn states(scene: &Scene, list: &mut List) {
     for length in [0, 1, State::BYTES - 1, State::BYTES + 1, 300] {
         let mut add = |call: Call| list.add("length", &BAD_TABLE, &vec![4; length], call, answer);
         add(with_addresses(active(0), &[], &[]));
+        add(with_addresses(active_md5(), &[], &[]));
         add(passive(&[], 0));
         add(judge(&[]));
         add(sign(&[]));
@@ -39,6 +40,7 @@ pub fn addresses(scene: &Scene, list: &mut List) {
             list.add("addresses", &BAD_TABLE, state, call, (19, 0));
         };
         add(&scene.a.state, active(1));
+        add(&scene.a.state, active_md5());
         add(&scene.empty, judge_syn(&[], 0));
         add(&scene.a.state, passive(&[], 0));
         add(&scene.a.state, judge(&[]));

@@ -60,6 +60,8 @@ pub fn unreadable(scene: &Scene, list: &mut List) {
     options("two TCP-AO", &[&ao16(1), &ao16(2)], 22);
     options("MD5, then TCP-AO", &[&md5(), &ao16(1)], 22);
     options("TCP-AO, then short MD5", &[&ao16(1), &[19, 2]], 22);
+    options("two MD5", &[&md5(), &md5()], 22);
+    options("two short MD5", &[&[19, 2], &[19, 3, 0]], 22);
 }
 
 /// On an opening connection, as the opening left it, and with any bytes in it.
@@ -185,10 +187,12 @@ pub fn open(scene: &Scene, list: &mut List) {
 
     let without_ao = b.segment(1, ACK, b"");
     let options = |parts: &[&[u8]]| without_ao.clone().options(&parts.concat()).bytes();
+    let one_md5 = options(&[&[19, 6, 0, 0, 0, 0]]);
     let two_md5 = options(&[&[19, 2, 19, 6, 0, 0, 0, 0]]);
     let behind_the_end = options(&[&[0, 1, 1, 1], &ao16(2)]);
     add("TCP-AO missing", &without_ao.bytes(), 25);
-    add("MD5 twice", &two_md5, 25);
+    add("MD5", &one_md5, 25);
+    add("MD5 twice", &two_md5, 22);
     add("TCP-AO behind kind 0", &behind_the_end, 25);
     add("malformed behind kind 0", &options(&[&[0, 29, 0, 29]]), 25);
 

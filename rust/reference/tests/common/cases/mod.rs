@@ -6,6 +6,7 @@ pub mod inputs;
 pub mod judge;
 pub mod key_ids;
 pub mod mac_lengths;
+pub mod md5;
 pub mod open;
 pub mod sha256;
 pub mod sign;
@@ -51,22 +52,49 @@ pub fn cases() -> Vec<Case> {
     translation::hidden(&mut list);
     translation::not_hidden(&mut list);
     translation::as_seen(&mut list);
+    md5::bad_tables(&scene, &mut list);
+    md5::both_tables(&scene, &mut list);
+    md5::openings(&scene, &mut list);
+    md5::bare_syn(&scene, &mut list);
+    md5::opening(&scene, &mut list);
+    md5::open(&scene, &mut list);
+    md5::other_way(&scene, &mut list);
+    md5::signing(&scene, &mut list);
+    md5::asking(&scene, &mut list);
+    md5::digests(&mut list);
     ask::ids(&scene, &mut list);
     list.0
 }
 
-/// What the answer must be: the number and the value beside it.
+/// What the answer must be: the number and the value beside it. Of the MD5 table's refusals, see
+/// [`List::add_with`].
 pub type Answer = (u8, u32);
 
 /// The cases so far.
 pub struct List(Vec<Case>);
 
 impl List {
+    /// With no MD5 table but the call's.
     pub fn add(&mut self, name: &str, table: &[u8], state: &[u8], call: Call, answer: Answer) {
+        let md5 = call.md5.clone();
+        let answer = kit::word(answer.0, answer.1);
+        self.add_with(name, (table, &md5), state, call, answer);
+    }
+
+    /// With a key table and an MD5 table, and the answer's word.
+    pub fn add_with(
+        &mut self,
+        name: &str,
+        tables: (&[u8], &[u8]),
+        state: &[u8],
+        call: Call,
+        answer: u64,
+    ) {
         self.0.push(Case {
             name: name.to_string(),
             call: Call {
-                table: table.to_vec(),
+                table: tables.0.to_vec(),
+                md5: tables.1.to_vec(),
                 state: state.to_vec(),
                 ..call
             },
@@ -172,6 +200,15 @@ pub fn active(send_id: u8) -> Call {
         isn: A_ISN,
         byte: send_id,
         ..Call::new(Function::OpenActive, &[])
+    }
+}
+
+/// A opens by MD5.
+pub fn active_md5() -> Call {
+    Call {
+        function: Function::OpenActiveMd5,
+        byte: 0,
+        ..active(0)
     }
 }
 

@@ -128,6 +128,7 @@ pub fn refused(scene: &Scene, list: &mut List) {
     for (name, bad, answer) in bad_tables() {
         list.add(&name, &bad, empty, check_table(), answer);
         list.add(&name, &bad, &a.state, active(1), answer);
+        list.add(&name, &bad, &a.state, active_md5(), answer);
         list.add(&name, &bad, empty, judge_syn(syn, 0), answer);
         list.add(&name, &bad, &b.state, passive(syn, 0), answer);
         list.add(&name, &bad, &a.state, judge(from_b), answer);

@@ -1,7 +1,10 @@
-use mathlib.Core.Path.{_≡_}
+use mathlib.Core.Path.{_≡_, sym}
 use lib.ListN.{length}
 use borrow.Author.Needs.{needs}
-use Rattle.mac.proofs.Algorithms.{digested-1, digested-256}
+use Rattle.mac.specs.HashContexts.{digestRoom}
+use Rattle.mac.specs.HashLaws.{filled-full}
+use Rattle.mac.specs.declared.hash_algorithm.HashAlgorithm.the-variants.{Sha1, Sha256, Md5}
+use Rattle.mac.proofs.Algorithms.{all-eight, digested-in}
 use Rattle.mac.proofs.hash_algorithm.HashAlgorithm.digest.Statement.{statement}
 use Rattle.mac.proofs.hash_algorithm.HashAlgorithm.digest.Tie as tie
 
@@ -9,13 +12,22 @@ returns : tie.Need-returns
 returns c =
     let d = c .before .before in
     let f = d .before in
-    digested-1 _ (f .before .enum-told .given .1) _ _ _ _ (f .first-five .ensures) (d .digest .ensures) (c .in-room .ensures)
+    digested-in _ Sha1 (f .before .enum-told .given .1) _ _ _ _ (f .first-five .ensures) (d .digest .ensures) (c .in-room .ensures)
 
 returns-2 : tie.Need-returns-2
 returns-2 c =
     let t = c .before in
-    let lh : length (t .before .before .args .h) ≡ 8 = search needs in
-    digested-256 _ (t .enum-told2 .given .1) _ _ lh (c .digest2 .ensures)
+    let h = t .before .before .args .h in
+    let lh : length h ≡ 8 = search needs in
+    let lr : length (c .digest2 .result) ≡ 32 = search needs in
+    digested-in _ Sha256 (t .enum-told2 .given .1) _ h _ _ (sym (all-eight h lh)) (c .digest2 .ensures)
+    (sym (filled-full digestRoom (c .digest2 .result) lr))
+
+returns-3 : tie.Need-returns-3
+returns-3 c =
+    let d = c .before .before in
+    let f = d .before in
+    digested-in _ Md5 (f .before .enum-told3 .given .1) _ _ _ _ (f .first-four .ensures) (d .digest3 .ensures) (c .in-room2 .ensures)
 
 pub digest-spec : {M : Type 1} → statement M
 digest-spec =
@@ -28,5 +40,11 @@ digest-spec =
     (λ c κs. search needs)
     (λ c. search needs)
     (λ c κs. search needs)
+    (λ c. search needs)
+    (λ c κs. search needs)
+    (λ c κs. search needs)
+    (λ c. search needs)
+    (λ c κs. search needs)
     returns
-    returns-2)
+    returns-2
+    returns-3)

@@ -1,13 +1,12 @@
--- Each algorithm starts its own context; the other one is outside the view. Assumes nothing.
+-- Each algorithm starts its own context; the other one is outside the view, and so is the digest's key. Assumes nothing.
 use mathlib.Core.Path.{_≡_, sym, _∙_}
+use mathlib.Core.List.{[]}
 use native.Mathlib.Omega.{arith}
 use lib.ListN.{length}
 use lib.Seq.{length-take-le}
 use borrow.Author.Needs.{needs}
-use Rattle.mac.specs.HashContexts.{hmacView}
 use Rattle.mac.specs.HashLaws.{in-room}
 use Rattle.mac.specs.CmacContext.{view}
-use Rattle.traffic.specs.MacContext.{hashFor}
 use Rattle.traffic.proofs.Cases.{hmac-start, cmac-start}
 use Rattle.traffic.proofs.context.MacContext.new.Statement.{statement}
 use Rattle.traffic.proofs.context.MacContext.new.Tie as tie
@@ -31,15 +30,15 @@ returns c =
     let h = d .before .hash-for in
     let i = d .before .before in
     let a = i .before .before .args in
-    hmac-start (a .algorithm) (sym (i .before .is-hmac .ensures) ∙ i .if1 .taken) (h .result) (h .ensures) (view (c .no-cmac .result)) (a .t2) (c .before .new .result)
-    (d .digest-bytes .ensures) (c .before .new .ensures)
+    hmac-start (a .algorithm) (sym (i .before .is-hmac .ensures) ∙ i .if1 .taken) (h .result) (h .ensures) (view (c .no-cmac .result)) []
+    (a .t2) (c .before .new .result) (d .digest-bytes .ensures) (c .before .new .ensures)
 
 returns-2 : tie.Need-returns-2
 returns-2 c =
     let i = c .before .before .before in
     let a = i .before .before .args in
-    cmac-start (a .algorithm) (sym (i .before .is-hmac .ensures) ∙ i .if1 .left) (hmacView (hashFor (a .algorithm)) (c .before .before .no-hmac .result))
-    (a .t2) (c .before .first16 .ensures) (c .new2 .ensures)
+    cmac-start (a .algorithm) (c .before .before .no-hmac .result) [] (sym (i .before .is-hmac .ensures) ∙ i .if1 .left) (a .t2)
+    (c .before .first16 .ensures) (c .new2 .ensures)
 
 pub new-spec : {M : Type 1} → statement M
 new-spec =

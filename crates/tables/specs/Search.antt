@@ -1,0 +1,44 @@
+-- What a search of valid tables finds, as statements: at most one entry answers a pair and an ID, and where one does, the search gives it;
+-- at most one MD5 entry matches a pair, and none where a key entry does. SearchLaws proves them.
+use Prim.Native.Nat.{ℕ}
+use mathlib.Core.Bool.{true, false}
+use mathlib.Core.Path.{_≡_}
+use Rattle.keys.specs.Match.{matches}
+use Rattle.keys.specs.Places.{At}
+use Rattle.keys.specs.Table.{answers}
+pub use Rattle.keys.specs.Table.{hit}
+use Rattle.keys.specs.declared.entry.Entry.{Entry}
+use Rattle.keys.specs.declared.entry.Pair.{Pair}
+use Rattle.keys.specs.declared.table.By.{By}
+use Rattle.keys.specs.declared.table.By.the-variants.{Any, Send, Recv}
+use Rattle.tables.specs.Tables.{Tables, sendEntry, recvEntry, md5Entry}
+use Rattle.tables.specs.Valid.{ValidTables}
+
+-- a search that names an ID
+abbrev pub Named : By → Type 0
+Named Any = ⊥
+Named (Send id) = Unit {0}
+Named (Recv id) = Unit {0}
+
+-- in valid tables at most one key entry answers a pair and a SendID, and at most one a pair and a RecvID
+abbrev pub AnswerUnique : Type 0
+AnswerUnique = (t : Tables) (by : By) (p : Pair) (i j : ℕ) (e f : Entry) → ValidTables t → Named by → At (t .keys) i e → At (t .keys) j f
+    → answers by p e ≡ true → answers by p f ≡ true → i ≡ j
+
+-- so a search of valid tables finds the entry that answers
+abbrev pub SendFound : Type 0
+SendFound = (t : Tables) (p : Pair) (id i : ℕ) (e : Entry) → ValidTables t → At (t .keys) i e → matches (e .selector) p ≡ true
+    → e .ids .send ≡ id → sendEntry t p id ≡ hit i e
+
+abbrev pub RecvFound : Type 0
+RecvFound = (t : Tables) (p : Pair) (id i : ℕ) (e : Entry) → ValidTables t → At (t .keys) i e → matches (e .selector) p ≡ true
+    → e .ids .recv ≡ id → recvEntry t p id ≡ hit i e
+
+abbrev pub Md5Found : Type 0
+Md5Found = (t : Tables) (p : Pair) (i : ℕ) (e : Entry) → ValidTables t → At (t .md5s) i e → matches (e .selector) p ≡ true
+    → md5Entry t p ≡ hit i e
+
+-- a pair that a key entry matches, no MD5 entry does
+abbrev pub Uncrossed : Type 0
+Uncrossed = (t : Tables) (p : Pair) (i : ℕ) (e : Entry) → ValidTables t → At (t .keys) i e → matches (e .selector) p ≡ true
+    → md5Entry t p .there ≡ false

@@ -1,0 +1,167 @@
+-- What a search of valid tables finds, and what it says that one finds something or nothing.
+use Prim.Native.Nat.{ℕ, _+_}
+use mathlib.Core.Bool.{Bool, true, false}
+use mathlib.Core.Path.{_≡_, refl, sym, _∙_, subst}
+use mathlib.Core.List.{List}
+use mathlib.Core.Logic.{_⊎_, inl, inr}
+use native.Mathlib.Omega.{arith}
+use lib.Dec.{ltb}
+use borrow.Author.Tests.{eq-eqb, eqb-true, ltb-true, ltb-false}
+use Rattle.keys.specs.FormedLaws.{KeyProper, Md5Proper}
+use Rattle.keys.specs.FoundLaws.{found-only, found-there, found-none, found-nobody, any-there, answers-parts, answers-of}
+use Rattle.keys.specs.FoundLaws.{any-of as any-passing}
+use Rattle.keys.specs.Match.{matches, clash}
+use Rattle.keys.specs.MatchLaws.{clash-of, overlap-found}
+use Rattle.keys.specs.Places.{At}
+use Rattle.keys.specs.Table.{nobody, found, hasId, answers}
+use Rattle.keys.specs.declared.entry.Ids.{Ids}
+use Rattle.keys.specs.declared.entry.Entry.{Entry}
+use Rattle.keys.specs.declared.entry.Pair.{Pair}
+use Rattle.keys.specs.declared.table.By.{By}
+use Rattle.keys.specs.declared.table.By.the-variants.{Any, Send, Recv}
+use Rattle.keys.specs.declared.table.Found.{Found}
+use Rattle.tables.specs.Tables.{Tables, sendEntry, recvEntry, anyEntry, md5Entry}
+pub use Rattle.tables.specs.Search.{hit, Named}
+use Rattle.tables.specs.Search.{AnswerUnique, SendFound, RecvFound, Md5Found, Uncrossed}
+use Rattle.tables.specs.Valid.{NoClash, Digest16, ValidTables}
+use Rattle.tables.specs.ValidLaws.{valid-key, valid-md5, valid-digest}
+
+-- at most one entry answers
+
+-- entries that clash either way stand at one place
+one-place : (l : List Entry) → NoClash l → (i j : ℕ) (e f : Entry) → At l i e → At l j f → clash e f ≡ true → clash f e ≡ true → i ≡ j
+one-place l apart i j e f a b h k = go (ltb i j) (ltb j i) refl refl
+  where
+    go : (x y : Bool) → ltb i j ≡ x → ltb j i ≡ y → i ≡ j
+    go true y q r = let z : _≡_ {A = ℕ} 0 1 = cc (h, apart i j e f a b (ltb-true i j q)) in absurd (omega arith)
+    go false true q r = let z : _≡_ {A = ℕ} 0 1 = cc (k, apart j i f e b a (ltb-true j i r)) in absurd (omega arith)
+    go false false q r = let u = ltb-false i j q in let w = ltb-false j i r in omega arith
+
+same-id : (by : By) → Named by → (a b : Ids) → hasId by a ≡ true → hasId by b ≡ true → (a .send ≡ b .send) ⊎ (a .recv ≡ b .recv)
+same-id Any n a b h k = absurd n
+same-id (Send id) n a b h k = inl (eqb-true (a .send) id h ∙ sym (eqb-true (b .send) id k))
+same-id (Recv id) n a b h k = inr (eqb-true (a .recv) id h ∙ sym (eqb-true (b .recv) id k))
+
+both-clash : (by : By) (p : Pair) (e f : Entry) → Named by → answers by p e ≡ true → answers by p f ≡ true → clash e f ≡ true
+both-clash by p e f n h k =
+    let a = answers-parts by p e h in
+    let b = answers-parts by p f k in
+    clash-of e f p (a .1) (b .1) (same-id by n (e .ids) (f .ids) (a .0) (b .0))
+
+pub answer-unique : AnswerUnique
+answer-unique t by p i j e f v n a b h k =
+    one-place (t .keys) (v .apart) i j e f a b (both-clash by p e f n h k) (both-clash by p f e n k h)
+
+-- both IDs of MD5 entries are 0
+md5-clash : {t : Tables} {i j : ℕ} {e f : Entry} (v : ValidTables t) (p : Pair) → At (t .md5s) i e → At (t .md5s) j f
+    → matches (e .selector) p ≡ true → matches (f .selector) p ≡ true → clash e f ≡ true
+md5-clash {e = e} {f = f} v p a b h k = clash-of e f p h k (inl (valid-md5 v a .send ∙ sym (valid-md5 v b .send)))
+
+-- so a search finds the entry that answers
+
+answer-found : (t : Tables) (by : By) (p : Pair) {i : ℕ} {e : Entry} → ValidTables t → Named by → At (t .keys) i e → answers by p e ≡ true
+    → found (answers by p) 0 (t .keys) ≡ hit i e
+answer-found t by p {i} {e} v n a h = found-only (answers by p) a h (λ j f b k. answer-unique t by p j i f e v n b a k h)
+
+pub send-found : SendFound
+send-found t p id i e v a m s = answer-found t (Send id) p v tt a (answers-of (Send id) p e (eq-eqb (e .ids .send) id s) m)
+
+pub recv-found : RecvFound
+recv-found t p id i e v a m s = answer-found t (Recv id) p v tt a (answers-of (Recv id) p e (eq-eqb (e .ids .recv) id s) m)
+
+pub md5-found : Md5Found
+md5-found t p i e v a m =
+    found-only (answers Any p) a (answers-of Any p e refl m)
+    (λ j f b k.
+    let n = answers-parts Any p f k .1 in
+    one-place (t .md5s) (v .md5-apart) j i f e b a (md5-clash v p b a n m) (md5-clash v p a b m n))
+
+-- what a search finds, in any tables
+
+pub record Holder (l : List Entry) (p : Pair) (r : Found) : Type 0 where
+  pub place : At l (r .index) (r .entry)
+  pub matched : matches (r .entry .selector) p ≡ true
+
+found-holder : (l : List Entry) (by : By) (p : Pair) → found (answers by p) 0 l .there ≡ true
+    → Holder l p (found (answers by p) 0 l) × (hasId by (found (answers by p) 0 l .entry .ids) ≡ true)
+found-holder l by p h =
+    let r = found-there (answers by p) l 0 h in
+    let a = answers-parts by p (r .1) (r .3) in
+    let z : r .0 ≡ 0 + r .0 = omega arith in
+    subst (λ (x : Found). Holder l p x × (hasId by (x .entry .ids) ≡ true)) (sym (r .4))
+    (record { place = subst (λ (n : ℕ). At l n (r .1)) z (r .2); matched = a .1 }, a .0)
+
+module _ (t : Tables) (p : Pair) where
+  pub send-holder : (id : ℕ) → sendEntry t p id .there ≡ true
+      → Holder (t .keys) p (sendEntry t p id) × (sendEntry t p id .entry .ids .send ≡ id)
+  send-holder id h = let r = found-holder (t .keys) (Send id) p h in (r .0, eqb-true _ _ (r .1))
+
+  pub recv-holder : (id : ℕ) → recvEntry t p id .there ≡ true
+      → Holder (t .keys) p (recvEntry t p id) × (recvEntry t p id .entry .ids .recv ≡ id)
+  recv-holder id h = let r = found-holder (t .keys) (Recv id) p h in (r .0, eqb-true _ _ (r .1))
+
+  pub md5-holder : md5Entry t p .there ≡ true → Holder (t .md5s) p (md5Entry t p)
+  md5-holder h = found-holder (t .md5s) Any p h .0
+
+  -- nothing found: no entry of the table matches the pair and has the ID
+  pub send-none : (id : ℕ) {i : ℕ} {e : Entry} → sendEntry t p id .there ≡ false → At (t .keys) i e → matches (e .selector) p ≡ true
+      → e .ids .send ≡ id → ⊥
+  send-none id {i} {e} h a m s =
+      let y = answers-of (Send id) p e (eq-eqb (e .ids .send) id s) m in
+      let z : _≡_ {A = ℕ} 0 1 = cc (found-none (answers (Send id) p) 0 h a, y) in
+      omega arith
+
+  pub recv-none : (id : ℕ) {i : ℕ} {e : Entry} → recvEntry t p id .there ≡ false → At (t .keys) i e → matches (e .selector) p ≡ true
+      → e .ids .recv ≡ id → ⊥
+  recv-none id {i} {e} h a m s =
+      let y = answers-of (Recv id) p e (eq-eqb (e .ids .recv) id s) m in
+      let z : _≡_ {A = ℕ} 0 1 = cc (found-none (answers (Recv id) p) 0 h a, y) in
+      omega arith
+
+  pub md5-none : {i : ℕ} {e : Entry} → md5Entry t p .there ≡ false → At (t .md5s) i e → matches (e .selector) p ≡ true → ⊥
+  md5-none {i} {e} h a m = let z : _≡_ {A = ℕ} 0 1 = cc (found-none (answers Any p) 0 h a, answers-of Any p e refl m) in omega arith
+
+  pub send-nobody : (id : ℕ) → sendEntry t p id .there ≡ false → sendEntry t p id ≡ nobody
+  send-nobody id h = found-nobody (answers (Send id) p) (t .keys) 0 h
+
+  pub recv-nobody : (id : ℕ) → recvEntry t p id .there ≡ false → recvEntry t p id ≡ nobody
+  recv-nobody id h = found-nobody (answers (Recv id) p) (t .keys) 0 h
+
+  pub md5-nobody : md5Entry t p .there ≡ false → md5Entry t p ≡ nobody
+  md5-nobody h = found-nobody (answers Any p) (t .md5s) 0 h
+
+  -- an entry that matches the pair is there to be matched
+  pub any-of : {i : ℕ} {e : Entry} → At (t .keys) i e → matches (e .selector) p ≡ true → anyEntry t p ≡ true
+  any-of {i} {e} a m = any-passing (answers Any p) a (answers-of Any p e refl m)
+
+  pub any-holder : anyEntry t p ≡ true → (i : ℕ) × (e : Entry) × At (t .keys) i e × (matches (e .selector) p ≡ true)
+  any-holder h = let r = any-there (answers Any p) (t .keys) h in (r .0, r .1, r .2, answers-parts Any p (r .1) (r .3) .1)
+
+-- the two tables of valid tables share no pair
+
+pub uncrossed : Uncrossed
+uncrossed t p i e v a m = go (md5Entry t p .there) refl
+  where
+    go : (b : Bool) → md5Entry t p .there ≡ b → md5Entry t p .there ≡ false
+    go false q = q
+    go true q =
+        let h = md5-holder t p q in
+        let f = md5Entry t p .entry in
+        let o = overlap-found (e .selector) (f .selector) p m (h .matched) in
+        let z : _≡_ {A = ℕ} 0 1 = cc (v .uncrossed i (md5Entry t p .index) e f a (h .place), o) in
+        absurd (omega arith)
+
+-- what is found in valid tables
+
+module _ {t : Tables} (v : ValidTables t) (p : Pair) where
+  pub send-proper : (id : ℕ) → sendEntry t p id .there ≡ true → KeyProper (sendEntry t p id .entry)
+  send-proper id h = valid-key v (send-holder t p id h .0 .place)
+
+  pub recv-proper : (id : ℕ) → recvEntry t p id .there ≡ true → KeyProper (recvEntry t p id .entry)
+  recv-proper id h = valid-key v (recv-holder t p id h .0 .place)
+
+  pub md5-proper : md5Entry t p .there ≡ true → Md5Proper (md5Entry t p .entry)
+  md5-proper h = valid-md5 v (md5-holder t p h .place)
+
+  pub md5-digest : md5Entry t p .there ≡ true → Digest16 (md5Entry t p .entry)
+  md5-digest h = valid-digest v (md5-holder t p h .place)
