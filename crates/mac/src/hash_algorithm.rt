@@ -147,20 +147,20 @@ impl HashAlgorithm {
         }
     }
 
-    // The last chaining value as bytes.
+    // The last chaining value as bytes. MD5 apart again: as one arm of three it would cost the SHAs, which the compiler joins.
     pub(crate) fn digest(self, h: [u32; 8]) -> [u8; DIGEST_ROOM]
         ensures { λ r. ⌜ r ≡ filledOf digestRoom (partsOf self .digest (take (wordsOf self) h)) ⌝ }
     {
+        if let HashAlgorithm::Md5 = self {
+            let d = compression::md5::digest(first_four(h));
+            return in_room(&d);
+        }
         match self {
             HashAlgorithm::Sha1 => {
                 let d = compression::sha1::digest(first_five(h));
                 in_room(&d)
             }
-            HashAlgorithm::Sha256 => compression::sha256::digest(h),
-            HashAlgorithm::Md5 => {
-                let d = compression::md5::digest(first_four(h));
-                in_room(&d)
-            }
+            _ => compression::sha256::digest(h),
         }
     }
 
