@@ -72,11 +72,11 @@ pub(crate) fn first_sixteen(d: [u8; DIGEST_ROOM]) -> [u8; 16]
     out
 }
 
-// MD5's registers after the whole blocks of data, each handled from where it lies.
-fn md5_blocks(h: [u32; 4], data: &[u8]) -> [u32; 4]
-    ensures { λ r. ⌜ r ≡ chained md5Parts h (length (now («data» .entry)) / 64) (now («data» .entry)) ⌝ }
+// MD5's chaining value after the whole blocks of data, each handled from where it lies; between two blocks only the registers are kept.
+fn md5_blocks(h: [u32; 8], data: &[u8]) -> [u32; 8]
+    ensures { λ r. ⌜ take 4 r ≡ chained md5Parts (take 4 h) (length (now («data» .entry)) / 64) (now («data» .entry)) ⌝ }
 {
-    let mut chain = h;
+    let mut chain = first_four(h);
     let n = data.len() / 64;
     for i in 0..n {
         let at = 64 * i;
@@ -85,7 +85,16 @@ fn md5_blocks(h: [u32; 4], data: &[u8]) -> [u32; 4]
         let next = compression::md5::compress(chain, w);
         chain = next;
     }
-    chain
+    four_in_eight(chain)
+}
+
+// Its registers after the block m, by the same loop: the compiler copies a loop that is called from two places into neither, and what calls
+// it stays small. The room of eight is made here: a caller's own would have to lie in memory, and the SHAs of `compress` would pay for it.
+fn md5_block(h: [u32; 4], m: &[u8]) -> [u32; 4]
+    requires { ⌜ length (now m) ≡ 64 ⌝ }
+    ensures { λ r. ⌜ r ≡ md5Parts .compress h (now (m .entry)) ⌝ }
+{
+    first_four(md5_blocks(four_in_eight(h), m))
 }
 
 impl HashAlgorithm {
@@ -111,15 +120,14 @@ impl HashAlgorithm {
         }
     }
 
-    // The chaining value after the block m. The two SHAs read it in the same way: the text has one call for it, which the compiler then
-    // puts in place.
+    // The chaining value after the block m. The SHAs read it in the same way, by one call for both, which costs no call: the compiler
+    // copies in what is called from one place.
     pub(crate) fn compress(self, h: [u32; 8], m: &[u8]) -> [u32; 8]
         requires { ⌜ length (now m) ≡ 64 ⌝ }
         ensures { λ r. ⌜ take (wordsOf self) r ≡ partsOf self .compress (take (wordsOf self) h) (now (m .entry)) ⌝ }
     {
         if let HashAlgorithm::Md5 = self {
-            let x = compression::md5::load(m);
-            return four_in_eight(compression::md5::compress(first_four(h), x));
+            return four_in_eight(md5_block(first_four(h), m));
         }
         let w = compression::words::load(m);
         match self {
@@ -139,20 +147,20 @@ impl HashAlgorithm {
         }
     }
 
-    // The last chaining value as bytes.
+    // The last chaining value as bytes. MD5 apart again: as one arm of three it would cost the SHAs, which the compiler joins.
     pub(crate) fn digest(self, h: [u32; 8]) -> [u8; DIGEST_ROOM]
         ensures { λ r. ⌜ r ≡ filledOf digestRoom (partsOf self .digest (take (wordsOf self) h)) ⌝ }
     {
+        if let HashAlgorithm::Md5 = self {
+            let d = compression::md5::digest(first_four(h));
+            return in_room(&d);
+        }
         match self {
             HashAlgorithm::Sha1 => {
                 let d = compression::sha1::digest(first_five(h));
                 in_room(&d)
             }
-            HashAlgorithm::Sha256 => compression::sha256::digest(h),
-            HashAlgorithm::Md5 => {
-                let d = compression::md5::digest(first_four(h));
-                in_room(&d)
-            }
+            _ => compression::sha256::digest(h),
         }
     }
 
@@ -163,7 +171,7 @@ impl HashAlgorithm {
             ≡ chained (partsOf self) (take (wordsOf self) h) (length (now («data» .entry)) / 64) (now («data» .entry)) ⌝ }
     {
         if let HashAlgorithm::Md5 = self {
-            return four_in_eight(md5_blocks(first_four(h), data));
+            return md5_blocks(h, data);
         }
         let mut chain = h;
         let n = data.len() / 64;

@@ -1,7 +1,9 @@
 -- `md5_blocks`: chain has the registers after the first i blocks.
 use mathlib.Core.Path.{_≡_, refl, _∙_, ap}
 use Prim.Native.Nat.{ℕ, _+_, _-_, _*_, _/_, _≤_}
+use mathlib.Core.List.{List}
 use native.Mathlib.Omega.{arith}
+use borrow.Author.Needs.{needs}
 use lib.ListN.{length, take, drop}
 use Rattle.compression.specs.Md5Block.{compressWords, compress}
 use Rattle.mac.specs.Blocks.{chained}
@@ -24,7 +26,7 @@ loop-again c =
     let ld = c .before in
     let p = ld .before .before .before in
     let l = p .loop in
-    let d = p .before .before .args .«data» .now in
+    let d = p .before .before .before .args .«data» .now in
     let w : 64 * l .i + 64 - 64 * l .i ≡ 64 = omega arith in (
       l .inv .0,
       omega arith,
@@ -35,9 +37,12 @@ loop-again c =
 
 returns : tie.Need-returns Inv-loop μ-loop
 returns c =
-    let l = c .before .loop in
-    let q : l .i ≡ length (c .before .before .before .args .«data» .now) / 64 = omega arith in
-    rw q at (l .inv .2)
+    let p = c .before in
+    let l = p .before .loop in
+    let f = p .before .before in
+    let d = f .before .before .args .«data» .now in
+    let q : l .i ≡ length d / 64 = omega arith in
+    c .four-in-eight .ensures ∙ rw q at (l .inv .2) ∙ ap (λ (x : List ℕ). chained parts x (length d / 64) d) (f .first-four .ensures)
 
 pub md5-blocks-spec : {M : Type 1} → statement M
 md5-blocks-spec =
@@ -45,6 +50,7 @@ md5-blocks-spec =
     (tie.spec
     Inv-loop
     μ-loop
+    (λ c κs. search needs)
     (λ c. (refl, omega arith, chained-none parts _ _))
     (λ c. omega arith)
     (λ c. omega arith)
@@ -56,4 +62,5 @@ md5-blocks-spec =
     (λ c. omega arith)
     (λ c. omega arith)
     loop-again
+    (λ c κs. search needs)
     returns)

@@ -20,10 +20,7 @@ abbrev μ-loop : tie.MeasureT-loop
 μ-loop a «data» chain₀ n i₀ chain i = n - i
 
 returns : tie.Need-returns Inv-loop μ-loop
-returns c =
-    let m = c .before in
-    let f = m .before in
-    chained-in _ Md5 (f .before .enum-told .given .1) _ _ _ _ _ _ (f .first-four .ensures) (m .md5-blocks .ensures) (c .four-in-eight .ensures)
+returns c = chained-in _ Md5 (c .before .enum-told .given .1) _ _ _ _ _ _ refl (c .md5-blocks .ensures) refl
 
 compress-requires : tie.Need-compress-requires Inv-loop μ-loop
 compress-requires c κs = omega arith
@@ -55,8 +52,6 @@ compress-all-spec =
     Inv-loop
     μ-loop
     (λ c. search needs)
-    (λ c κs. search needs)
-    (λ c κs. search needs)
     (λ c κs. search needs)
     returns
     (λ c. (refl, omega arith, chained-none (partsOf (c .before .before .args .self)) _ _))
