@@ -5,6 +5,7 @@ use crate::storage::byte;
 use crate::storage::lay;
 use crate::storage::part;
 use crate::storage::put_byte;
+use keys::entry::Pair;
 use rules::State;
 
 pub const SYN: u8 = 2;
@@ -17,7 +18,7 @@ pub const SYN_ACK: u8 = 18;
 // checksum and urgent pointer zero.
 pub fn header(state: State, number: u32, flags: u8) -> [u8; 20] {
     let conn = state.conn;
-    let pair = conn.pair;
+    let pair: Pair = conn.pair;
     let p = octets::bytes16(pair.local_port);
     let q = octets::bytes16(pair.remote_port);
     let n = octets::bytes32(number);
