@@ -1,0 +1,4 @@
+pub mod Lines
+pub mod Recording
+pub mod Views
+pub mod RecordingLaws
