@@ -1,6 +1,6 @@
 -- The bytes of the record that is begun: how many are taken, and where they are held.
 use Prim.Native.Nat.{ℕ, zero, suc, _+_, _-_, _%_, _≤_, _<_, min}
-use mathlib.Core.Path.{_≡_, refl, sym, ap, _∙_, subst⁻¹}
+use mathlib.Core.Path.{_≡_, refl, sym, ap, _∙_, subst, subst⁻¹}
 use mathlib.Core.Bool.{Bool, true, false, cond}
 use mathlib.Core.List.{List, [], _∷_, _++_}
 use native.Mathlib.Omega.{arith}
@@ -34,6 +34,10 @@ kind-part (suc n) [] (b ∷ s) a = refl
 kind-part (suc n) (k ∷ h) s a = refl
 
 -- how many are taken
+
+pub of-count : (g s : List ℕ) (n : ℕ) {h k : ℕ} → h ≡ k → (n ≡ recordPart (take h g) s) × (0 < n) × (h + n ≤ 1601)
+    → (n ≡ recordPart (take k g) s) × (0 < n) × (k + n ≤ 1601)
+of-count g s n e p = subst (λ (x : ℕ). (n ≡ recordPart (take x g) s) × (0 < n) × (x + n ≤ 1601)) e p
 
 pub takes-first : (h : ℕ) (g s : List ℕ) (k n : ℕ) → h ≡ 0 → k ≡ recordBytes (getD s 0 0) → 0 < length s → n ≡ min k (length s)
     → (n ≡ recordPart (take h g) s) × (0 < n) × (h + n ≤ 1601)
@@ -129,7 +133,7 @@ waits keep c b s r ns z e =
 
 -- A call of `look`.
 
-module _ (keep : List ℕ → List ℕ) (c : C.Desk) (n : ℕ) (lg : length (c .begun) ≡ 1601) (pre : (0 < n) × (n ≤ recordBytes (kindOf (c .begun)))) where
+module _ (c : C.Desk) (n : ℕ) (lg : length (c .begun) ≡ 1601) (pre : (0 < n) × (n ≤ recordBytes (kindOf (c .begun)))) where
   pub inside : n ≤ length (c .begun)
   inside = let w = bytes-range (kindOf (c .begun)) in omega arith
 
@@ -139,16 +143,16 @@ module _ (keep : List ℕ → List ℕ) (c : C.Desk) (n : ℕ) (lg : length (c .
   begun-kind : kindOf (take n (c .begun)) ≡ kindOf (c .begun)
   begun-kind = getD-take n (c .begun) 0 0 (pre .0)
 
-  pub looks-stop : (b left : List ℕ) (r : C.Desk) (l : Line) → true ≡ faulty (c .stage) (take n (c .begun))
+  pub looks-stop : (keep : List ℕ → List ℕ) (b left : List ℕ) (r : C.Desk) (l : Line) → true ≡ faulty (c .stage) (take n (c .begun))
       → Given c b (stopped (Fault (c .records))) r l left → Given c b (λ d. looked keep (withHeld (take n (c .begun)) d)) r l left
-  looks-stop b left r l f g =
+  looks-stop keep b left r l f g =
       given-same (stopped (Fault (c .records))) (λ d. looked keep (withHeld (take n (c .begun)) d))
       (λ p. sym (looked-faulty keep (withHeld (take n (c .begun)) (deskView p b c)) (sym f))) g
 
-  pub looks-short : (b : List ℕ) (r : C.Desk) (k : ℕ) → false ≡ faulty (c .stage) (take n (c .begun)) → k ≡ recordBytes (kindOf (c .begun)) → n < k
+  pub looks-short : (keep : List ℕ → List ℕ) (b : List ℕ) (r : C.Desk) (k : ℕ) → false ≡ faulty (c .stage) (take n (c .begun)) → k ≡ recordBytes (kindOf (c .begun)) → n < k
       → ((p : List ℕ) → deskView p b r ≡ withHeld (take (n % recordBytes (kindOf (c .begun))) (c .begun)) (deskView p b c))
       → Given c b (λ d. looked keep (withHeld (take n (c .begun)) d)) r Nothing b
-  looks-short b r k f ke l v =
+  looks-short keep b r k f ke l v =
       record {
         desk =
             λ p.
@@ -163,12 +167,33 @@ module _ (keep : List ℕ → List ℕ) (c : C.Desk) (n : ℕ) (lg : length (c .
       short = let e = ap recordBytes begun-kind in omega (arith, begun-length, ke)
 
   -- the record is whole
-  module _ (f : false ≡ faulty (c .stage) (take n (c .begun))) (k : ℕ) (ke : k ≡ recordBytes (kindOf (c .begun))) (w : n < k → ⊥) where
+  module _ (f : false ≡ faulty (c .stage) (take n (c .begun))) (k : ℕ) (ke : k ≡ recordBytes (kindOf (c .begun))) (w : k ≤ n) where
     pub is-whole : (faulty (c .stage) (take n (c .begun)) ≡ false) × (length (take n (c .begun)) ≡ recordBytes (kindOf (take n (c .begun))))
     is-whole = let e = ap recordBytes begun-kind in (sym f, omega (arith, begun-length, ke, pre .1, w))
 
-    pub looks-whole : (b left : List ℕ) (r : C.Desk) (l : Line) → Given c b (λ d. settled keep (withHeld (take n (c .begun)) d)) r l left
+    pub looks-whole : (keep : List ℕ → List ℕ) (b left : List ℕ) (r : C.Desk) (l : Line) → Given c b (λ d. settled keep (withHeld (take n (c .begun)) d)) r l left
         → Given c b (λ d. looked keep (withHeld (take n (c .begun)) d)) r l left
-    looks-whole b left r l g =
+    looks-whole keep b left r l g =
         given-same (λ d. settled keep (withHeld (take n (c .begun)) d)) (λ d. looked keep (withHeld (take n (c .begun)) d))
         (λ p. sym (looked-whole keep (withHeld (take n (c .begun)) (deskView p b c)) (sym f) (let e = is-whole .1 in omega arith))) g
+
+-- A call of `finish`.
+
+pub ends-stopped : (c : C.Desk) → ltb 1 (c .stage) ≡ true → (p t : List ℕ) → finished (deskView p t c) ≡ p ++ lineText Nothing
+unfolding finished
+ends-stopped c st p t = rw st (sym (unprinted p))
+
+pub ends-open : (c : C.Desk) → c .stage ≡ 1 → heldCount c ≡ 0 → (p t : List ℕ) → finished (deskView p t c) ≡ p ++ lineText Nothing
+unfolding finished
+ends-open c st h p t = rw (st, h) (sym (unprinted p))
+
+pub ends-held : (c : C.Desk) (h : ℕ) → length (c .begun) ≡ 1601 → c .stage ≡ 1 → h ≡ heldCount c → h < 1601 → (h ≡ 0 → ⊥) → (p t : List ℕ)
+    → finished (deskView p t c) ≡ p ++ lineText (Fault (c .records))
+unfolding finished
+ends-held c h lg st he b nz p t =
+    let l : length (take (heldCount c) (c .begun)) ≡ h = length-take-le (heldCount c) (c .begun) (omega arith) ∙ sym he in
+    rw (st, l, ne-eqb h 0 nz)
+
+pub ends-early : (c : C.Desk) → ltb 1 (c .stage) ≡ false → (c .stage ≡ 1 → ⊥) → (p t : List ℕ) → finished (deskView p t c) ≡ p ++ lineText (Fault (c .records))
+unfolding finished
+ends-early c ns n p t = rw (ns, ne-eqb (c .stage) 1 n)

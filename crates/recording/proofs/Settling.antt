@@ -13,12 +13,13 @@ use Rattle.rules.specs.declared.Outcome.{Outcome}
 use Rattle.rules.specs.declared.Outcome.the-variants.{Bad}
 use Rattle.rules.specs.declared.State.{State}
 use Rattle.rules.specs.declared.Judged.{Judged}
+use Rattle.rules.specs.Connection.{empty}
 use Rattle.rules.specs.Calls.{judged}
 use Rattle.recording.specs.declared.desk.Desk as C
 use Rattle.recording.specs.declared.line.Line.{Line}
 use Rattle.recording.specs.declared.line.Line.the-variants.{Nothing, Refused}
 use Rattle.recording.specs.Lines.{verdictLine, lineText}
-use Rattle.recording.specs.Recording.{Desk, recordBytes, kindOf, usedLength, segmentBytes, next, withHeld, stopped, deskTables, openOutcome}
+use Rattle.recording.specs.Recording.{Desk, start, recordBytes, entryLength, usedLength, segmentBytes, next, withHeld, stopped, deskTables, openOutcome}
 use Rattle.recording.specs.Recording.{openState, atOpening, openedBy, arrivalFrom, judgedOn, entered, settled}
 use Rattle.recording.specs.Views.{deskView, heldCount, Given}
 
@@ -100,7 +101,51 @@ module _ {c : C.Desk} {b : List ℕ} {r : C.Desk} {l : Line} {left : List ℕ} w
   pub given-same : (f g : Desk → Desk) → ((p : List ℕ) → f (deskView p b c) ≡ g (deskView p b c)) → Given c b f r l left → Given c b g r l left
   given-same f g e q = record { desk = λ p. q .desk p ∙ e p; behind = q .behind }
 
--- The opening, and a segment.
+-- A last line, an entry, the opening, a segment. The results are written as the code makes them.
+
+abbrev bare : ℕ → ℕ → ℕ → ℕ → State → List ℕ → C.Desk
+bare stage n records segments q begun =
+    record { stage = stage; held = 0; «table_length» = n; records = records; segments = segments; state = q; begun = begun }
+
+pub starts : (q : State) (g : List ℕ) → q ≡ empty → (t : List ℕ) → deskView [] t (bare 0 0 0 0 q g) ≡ start
+starts q g e t = bare-view [] t (bare 0 0 0 0 q g) start refl refl refl refl refl refl refl e
+
+pub stops : (c : C.Desk) (l : Line) (t : List ℕ) → Given c t (stopped l) (bare 2 (c .«table_length») (c .records) (c .segments) (c .state) (c .begun)) l t
+stops c l t =
+    record {
+      desk =
+          λ p.
+            bare-view (p ++ lineText l) t (bare 2 (c .«table_length») (c .records) (c .segments) (c .state) (c .begun)) (stopped l (deskView p t c)) refl refl refl
+            refl refl refl refl refl;
+      behind = unchanged (c .«table_length») t;
+    }
+
+pub enters : (c : C.Desk) (t left h : List ℕ) (at n k : ℕ) → at ≡ min (c .«table_length») (length t) → n ≡ min (entryLength h) (length t - at)
+    → 2 + entryLength h ≤ length h → left ≡ paste t at (take (2 + n - 2) (drop 2 h)) (length (take (2 + n - 2) (drop 2 h))) → k ≡ next (c .records)
+    → Given c t (λ d. entered (take (length t)) (withHeld h d)) (bare (c .stage) (at + n) k (c .segments) (c .state) (c .begun)) Nothing left
+enters c t left h at n k ae ne fits q ke =
+    record {
+      desk =
+          λ p.
+            bare-view (p ++ lineText Nothing) left (bare (c .stage) (at + n) k (c .segments) (c .state) (c .begun))
+            (entered (take (length t)) (withHeld h (deskView p t c))) (unprinted p) refl
+            (joined-table t (drop 2 h) left (c .«table_length») (entryLength h) at n ae ne room q) refl refl ke refl refl;
+      behind = joined-behind t (drop 2 h) left (c .«table_length») (entryLength h) at n ae ne room q;
+    }
+  where
+    room : entryLength h ≤ length (drop 2 h)
+    room = let l = length-drop 2 h in omega (arith, fits)
+
+pub opens : (c : C.Desk) (q : State) (k : ℕ) → k ≡ next (c .records) → (t : List ℕ)
+    → Given c t (λ d. atOpening d q) (bare 1 (c .«table_length») k (c .segments) q (c .begun)) Nothing t
+opens c q k ke t =
+    record {
+      desk =
+          λ p.
+            bare-view (p ++ lineText Nothing) t (bare 1 (c .«table_length») k (c .segments) q (c .begun)) (atOpening (deskView p t c) q) (unprinted p) refl refl
+            refl refl ke refl refl;
+      behind = unchanged (c .«table_length») t;
+    }
 
 pub opens-at : (c r : C.Desk) (t h : List ℕ) (l : Line) (n : ℕ) (q : State) (o : Outcome) → take n t ≡ take (c .«table_length») t → o ≡ openOutcome (take n t) h
     → q ≡ openState h → ((d : Desk) → openedBy (withHeld h d) o ≡ atOpening d (openState h))
@@ -137,15 +182,20 @@ answers c r t h n u j l e ue je le s0 h0 t0 r0 g0 q0 =
         je ∙ (λ i. judged (deskTables (e i)) (arrivalFrom (c .state) (take (z i) (drop 3 h))) (c .state))
 
 -- a record by its kind
-module _ (keep : List ℕ → List ℕ) (h : List ℕ) where
-  pub settles-1 : getD h 0 0 ≡ 1 → (d : Desk) → settled keep (withHeld h d) ≡ entered keep (withHeld h d)
+module _ (keep : List ℕ → List ℕ) (h : List ℕ) {c : C.Desk} {b : List ℕ} {r : C.Desk} {l : Line} {left : List ℕ} where
+  pub settled-entry : getD h 0 0 ≡ 1 → Given c b (λ d. entered keep (withHeld h d)) r l left → Given c b (λ d. settled keep (withHeld h d)) r l left
   unfolding settled
-  settles-1 e d = rw (eq-eqb (getD h 0 0) 1 e)
+  settled-entry e g = given-same (λ d. entered keep (withHeld h d)) (λ d. settled keep (withHeld h d)) (λ p. rw (eq-eqb (getD h 0 0) 1 e)) g
 
-  pub settles-2 : (getD h 0 0 ≡ 1 → ⊥) → getD h 0 0 ≡ 2 → (d : Desk) → settled keep (withHeld h d) ≡ openedBy (withHeld h d) (openOutcome (d .table) h)
+  pub settled-opening : (getD h 0 0 ≡ 1 → ⊥) → getD h 0 0 ≡ 2 → Given c b (λ d. openedBy (withHeld h d) (openOutcome (d .table) h)) r l left
+      → Given c b (λ d. settled keep (withHeld h d)) r l left
   unfolding settled
-  settles-2 n e d = rw (ne-eqb (getD h 0 0) 1 n, eq-eqb (getD h 0 0) 2 e)
+  settled-opening n e g =
+      given-same (λ d. openedBy (withHeld h d) (openOutcome (d .table) h)) (λ d. settled keep (withHeld h d))
+      (λ p. rw (ne-eqb (getD h 0 0) 1 n, eq-eqb (getD h 0 0) 2 e)) g
 
-  pub settles-3 : (getD h 0 0 ≡ 1 → ⊥) → (getD h 0 0 ≡ 2 → ⊥) → (d : Desk) → settled keep (withHeld h d) ≡ judgedOn (withHeld h d)
+  pub settled-segment : (getD h 0 0 ≡ 1 → ⊥) → (getD h 0 0 ≡ 2 → ⊥) → Given c b (λ d. judgedOn (withHeld h d)) r l left
+      → Given c b (λ d. settled keep (withHeld h d)) r l left
   unfolding settled
-  settles-3 n m d = rw (ne-eqb (getD h 0 0) 1 n, ne-eqb (getD h 0 0) 2 m)
+  settled-segment n m g =
+      given-same (λ d. judgedOn (withHeld h d)) (λ d. settled keep (withHeld h d)) (λ p. rw (ne-eqb (getD h 0 0) 1 n, ne-eqb (getD h 0 0) 2 m)) g

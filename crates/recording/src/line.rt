@@ -80,6 +80,13 @@ impl Text {
         }
     }
 
+    fn put_from(self, s: &[u8], from: usize) -> Self
+        requires { ⌜ (from ≤ length (now s)) × (self .length + length (drop from (now s)) ≤ 64) ⌝ }
+        ensures { λ r. ⌜ (textOf r ≡ textOf self ++ drop from (now (s .entry))) × (r .length ≡ self .length + length (drop from (now (s .entry)))) ⌝ }
+    {
+        self.put(&s[from..])
+    }
+
     fn put_number(self, n: u64) -> Self
         requires { ⌜ self .length + 20 ≤ 64 ⌝ }
         ensures { λ r. ⌜ (textOf r ≡ textOf self ++ decimalOf n) × (r .length ≤ self .length + 20) ⌝ }
@@ -87,7 +94,7 @@ impl Text {
         let d = decimal(n);
         let bytes = d.bytes;
         let from = d.from;
-        self.put(&bytes[from..])
+        self.put_from(&bytes, from)
     }
 }
 

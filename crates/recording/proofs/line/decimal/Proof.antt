@@ -1,82 +1,36 @@
+-- From the last digit to the first. What is left to write, and what is written, is the number.
+use mathlib.Core.Logic.{⊎-elim}
+use mathlib.Core.Path.{refl}
+use native.Mathlib.Omega.{arith}
+use borrow.Author.Tests.{leb-true, leb-false}
+use Rattle.recording.proofs.Spelling.{Written, none-written, more-written, one-left, none-left}
 use Rattle.recording.proofs.line.decimal.Statement.{statement}
 use Rattle.recording.proofs.line.decimal.Tie as tie
-use Rattle.recording.proofs.line.decimal.Reads as reads
-use Rattle.recording.proofs.line.decimal.Lts as lts
 
 abbrev Inv-loop : tie.InvT-loop
-Inv-loop n bytes₀ i₀ rest₀ bytes i rest = ?
+Inv-loop n bytes₀ i₀ rest₀ bytes i rest = Written n bytes i rest
 
 abbrev μ-loop : tie.MeasureT-loop
-μ-loop n bytes₀ i₀ rest₀ bytes i rest = ?
+μ-loop n bytes₀ i₀ rest₀ bytes i rest = i
 
--- src/line.rt:42:5
 loop-holds : tie.Need-loop-holds Inv-loop μ-loop
-loop-holds c = ?
+loop-holds c = none-written (c .args .n) _ refl
 
--- src/line.rt:43:9
-sub-i : tie.Need-sub-i Inv-loop μ-loop
-sub-i c = ?
-
--- src/line.rt:44:25
-cast-bytes : tie.Need-cast-bytes Inv-loop μ-loop
-cast-bytes c = ?
-
--- src/line.rt:44:20
-add-bytes : tie.Need-add-bytes Inv-loop μ-loop
-add-bytes c = ?
-
--- src/line.rt:44:9
-array-write-bytes : tie.Need-array-write-bytes Inv-loop μ-loop
-array-write-bytes c = ?
-
--- src/line.rt:42:5
-loop-less : tie.Need-loop-less Inv-loop μ-loop
-loop-less c = ?
-
--- src/line.rt:42:5
 loop-again : tie.Need-loop-again Inv-loop μ-loop
-loop-again c = ?
+loop-again c =
+    let l = c .before .before .loop in
+    more-written (c .before .before .before .args .n) (l .bytes) (l .i) (l .rest) (l .inv) (c .before .loop-test .taken) (leb-true 10 (l .rest) (c .if1 .taken))
 
--- src/line.rt:47:25
-cast-bytes-2 : tie.Need-cast-bytes-2 Inv-loop μ-loop
-cast-bytes-2 c = ?
-
--- src/line.rt:47:20
-add-bytes-2 : tie.Need-add-bytes-2 Inv-loop μ-loop
-add-bytes-2 c = ?
-
--- src/line.rt:47:11
-sub-bytes : tie.Need-sub-bytes Inv-loop μ-loop
-sub-bytes c = ?
-
--- src/line.rt:47:5
-array-write-bytes-2 : tie.Need-array-write-bytes-2 Inv-loop μ-loop
-array-write-bytes-2 c = ?
-
--- src/line.rt:50:15
-sub-t15 : tie.Need-sub-t15 Inv-loop μ-loop
-sub-t15 c = ?
-
--- src/line.rt:36:1
 returns : tie.Need-returns Inv-loop μ-loop
-returns c = ?
+returns c =
+    let l = c .before .loop in
+    ⊎-elim (λ t. none-left (c .before .before .args .n) (l .bytes) (l .i) (l .rest) (l .inv) (leb-false 10 (l .rest) (t .1 .left)))
+    (λ t. one-left (c .before .before .args .n) (l .bytes) (l .i) (l .rest) (l .inv) (t .left)) (c .loop-test .came)
 
 pub decimal-spec : {M : Type 1} → statement M
 decimal-spec =
-    tie.close
-    (tie.spec
-    Inv-loop
-    μ-loop
-    loop-holds
-    sub-i
-    cast-bytes
-    add-bytes
-    array-write-bytes
-    loop-less
-    loop-again
-    cast-bytes-2
-    add-bytes-2
-    sub-bytes
-    array-write-bytes-2
-    sub-t15
+    tie.close (tie.spec Inv-loop μ-loop loop-holds (λ c. c .before .before .loop .inv .0) (λ c. omega arith)
+    (λ c. record { fits = omega arith }) (λ c. let w = c .before .before .loop .inv in omega (arith, w .0, w .1)) (λ c. omega
+    (arith, c .before .before .loop .inv .0)) loop-again (λ c. omega arith) (λ c. record { fits = omega arith })
+    (λ c. c .before .loop .inv .0) (λ c. let w = c .before .loop .inv in omega (arith, w .0, w .1)) (λ c. c .before .loop .inv .0)
     returns)

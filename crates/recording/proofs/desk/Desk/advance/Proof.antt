@@ -1,75 +1,61 @@
+-- Bytes of one record are looked at together.
+use mathlib.Core.Path.{_≡_, sym, _∙_, ap}
+use native.Mathlib.Omega.{arith}
 use borrow.Author.Needs.{needs}
+use borrow.Author.Tests.{lt-ltb, le-ltb}
+use Prim.Native.Nat.{ℕ, _+_}
+use lib.ListN.{length, take}
+use lib.Seq.{length-take-le}
+use Rattle.recording.specs.Views.{heldCount}
+use Rattle.recording.proofs.Holding.{idles, waits, looks, advances, takes}
 use Rattle.recording.proofs.desk.Desk.advance.Statement.{statement}
 use Rattle.recording.proofs.desk.Desk.advance.Tie as tie
-use Rattle.recording.proofs.desk.Desk.advance.Reads as reads
-use Rattle.recording.proofs.desk.Desk.advance.Lts as lts
-use Rattle.recording.proofs.desk.Desk.held_bytes.Reads as held-bytes-reads
-use Rattle.recording.proofs.desk.Desk.hold.Reads as hold-reads
-use Rattle.recording.proofs.desk.Desk.idle.Reads as idle-reads
-use Rattle.recording.proofs.desk.Desk.look.Reads as look-reads
-use Rattle.recording.proofs.desk.Desk.to_take.Reads as to-take-reads
 
--- src/desk.rt:260:13
-idle-requires : tie.Need-idle-requires
-idle-requires c κs = search needs
+length-begun : (s : tie.Start) → length (s .args .self .begun) ≡ 1601
+length-begun s = search needs
 
--- src/desk.rt:260:13
 returns : tie.Need-returns
-returns c = ?
+returns c =
+    let b = c .before .before .before .before in
+    idles (take (length (b .args .table .now))) (b .args .self) (b .args .table .now) (b .args .«data» .now) _ (lt-ltb _ _ (c .before .if1 .taken)) (c .idle .ensures)
 
--- src/desk.rt:263:13
-idle-requires-2 : tie.Need-idle-requires-2
-idle-requires-2 c κs = search needs
-
--- src/desk.rt:263:13
 returns-2 : tie.Need-returns-2
-returns-2 c = ?
+returns-2 c =
+    let b = c .before .before .before .before .before in
+    waits (take (length (b .args .table .now))) (b .args .self) (b .args .table .now) (b .args .«data» .now) _ (le-ltb _ _ (c .before .before .if1 .left))
+    (c .before .if2 .taken) (c .idle2 .ensures)
 
--- src/desk.rt:265:13
-to-take-requires : tie.Need-to-take-requires
-to-take-requires c κs = search needs
-
--- src/desk.rt:266:17
-held-bytes-requires : tie.Need-held-bytes-requires
-held-bytes-requires c κs = search needs
-
--- src/desk.rt:266:17
-add-n : tie.Need-add-n
-add-n c = search needs
-
--- src/desk.rt:267:30
 slice-aggregate-hold : tie.Need-slice-aggregate-hold
-slice-aggregate-hold c = ?
+slice-aggregate-hold c = sym (length-take-le _ _ (omega (arith, c .before .before .to-take .ensures .0)))
 
--- src/desk.rt:267:20
 hold-requires : tie.Need-hold-requires
-hold-requires c κs = ?
+hold-requires c κs =
+    let b = c .before .before .before .before .before .before .before in
+    let t = c .before .before .to-take in
+    omega (arith, t .ensures .0, t .ensures .2, length-take-le (t .result) (b .args .«data» .now) (omega (arith, t .ensures .0)))
 
--- src/desk.rt:267:13
 look-requires : tie.Need-look-requires
-look-requires c κs = ?
+look-requires c κs =
+    let b = c .before .before .before .before .before .before .before .before .before in
+    let t = c .before .before .before .before .to-take in
+    looks (b .args .self) _ (b .args .«data» .now) (t .result) _ (length-begun b) (t .ensures .0) (t .ensures .1) (t .ensures .2)
+    (ap (λ (k : ℕ). k + t .result) (c .before .before .before .held-bytes .ensures .0)) (c .before .hold .ensures)
 
--- src/desk.rt:253:5
-same-length : tie.Need-same-length
-same-length c = search needs
-
--- src/desk.rt:253:5
 returns-3 : tie.Need-returns-3
-returns-3 c = ?
+returns-3 c =
+    let f = c .before .before .before .before .before .before .before .before .before .before in
+    let b = f .before .before .before in
+    let t = c .before .before .before .before .before .before .before .before .to-take in
+    let n = ap (λ (k : ℕ). k + t .result) (c .before .before .before .before .before .before .before .held-bytes .ensures .0) in
+    let h = c .before .before .before .before .before .hold in
+    let s = le-ltb _ _ (f .if1 .left) in (
+      advances (b .args .self) (h .result) (b .args .«data» .now) (t .result) _ (length-begun b) (t .ensures .0) (t .ensures .1) (t .ensures .2) n (h .ensures)
+      (take (length (b .args .table .now))) (b .args .table .now) _ _ _ s (c .before .before .before .look .ensures),
+      takes (b .args .self) (h .result) (b .args .«data» .now) (t .result) _ (length-begun b) (t .ensures .0) (t .ensures .1) (t .ensures .2) n (h .ensures)
+      (b .args .table .now) s,
+    )
 
 pub advance-spec : {M : Type 1} → statement M
 advance-spec =
-    tie.close
-    (tie.spec
-    idle-requires
-    returns
-    idle-requires-2
-    returns-2
-    to-take-requires
-    held-bytes-requires
-    add-n
-    slice-aggregate-hold
-    hold-requires
-    look-requires
-    same-length
-    returns-3)
+    tie.close (tie.spec (λ c κs. search needs) returns (λ c κs. search needs) returns-2 (λ c κs. search needs)
+    (λ c κs. search needs) (λ c. search needs) slice-aggregate-hold hold-requires look-requires (λ c. search needs) returns-3)

@@ -1,17 +1,12 @@
+-- The state is the opening's.
 use borrow.Author.Needs.{needs}
+use Rattle.recording.proofs.Settling.{opens}
 use Rattle.recording.proofs.desk.Desk.at_opening.Statement.{statement}
 use Rattle.recording.proofs.desk.Desk.at_opening.Tie as tie
-use Rattle.recording.proofs.desk.Desk.at_opening.Reads as reads
-use Rattle.recording.proofs.desk.Desk.at_opening.Lts as lts
-use Rattle.std.proofs.num.wrapping_add_u64.Reads as wrapping-add-u64-reads
 
--- src/desk.rt:130:9
-wrapping-add-u64-requires : tie.Need-wrapping-add-u64-requires
-wrapping-add-u64-requires c κs = search needs
-
--- src/desk.rt:124:5
 returns : tie.Need-returns
-returns c = ?
+returns c = let a = c .before .args in opens (a .self) (a .state) _ (c .wrapping-add-u64 .ensures)
 
 pub at-opening-spec : {M : Type 1} → statement M
-at-opening-spec = tie.close (tie.spec wrapping-add-u64-requires returns)
+at-opening-spec =
+    tie.close (tie.spec (λ c κs. search needs) returns)

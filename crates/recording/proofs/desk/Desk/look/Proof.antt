@@ -1,79 +1,65 @@
+-- A fault, a record that is not whole, a whole one.
+use mathlib.Core.Path.{_≡_, refl, sym, _∙_}
+use native.Mathlib.Omega.{arith}
 use borrow.Author.Needs.{needs}
+use lib.ListN.{length, take}
+use lib.Seq.{length-take-le}
+use Rattle.recording.proofs.Holding.{inside, looks-stop, looks-short, is-whole, looks-whole}
 use Rattle.recording.proofs.desk.Desk.look.Statement.{statement}
 use Rattle.recording.proofs.desk.Desk.look.Tie as tie
-use Rattle.recording.proofs.desk.Desk.look.Reads as reads
-use Rattle.recording.proofs.desk.Desk.look.Lts as lts
-use Rattle.recording.proofs.desk.Desk.settle.Reads as settle-reads
-use Rattle.recording.proofs.desk.Desk.stop.Reads as stop-reads
-use Rattle.recording.proofs.form.faulty.Reads as faulty-reads
-use Rattle.recording.proofs.form.record_bytes.Reads as record-bytes-reads
 
--- src/desk.rt:192:31
+length-begun : (s : tie.Start) → length (s .args .self .begun) ≡ 1601
+length-begun s = search needs
+
 array-share-prefix-begun : tie.Need-array-share-prefix-begun
-array-share-prefix-begun c = ?
+array-share-prefix-begun c =
+    let b = c .before .before in
+    inside (b .args .self) (b .args .n) (length-begun b) (b .pre)
 
--- src/desk.rt:192:31
 slice-aggregate-faulty : tie.Need-slice-aggregate-faulty
-slice-aggregate-faulty c = ?
+slice-aggregate-faulty c =
+    let b = c .before .before .before in
+    sym (length-take-le _ _ (inside (b .args .self) (b .args .n) (length-begun b) (b .pre)))
 
--- src/desk.rt:192:12
-faulty-requires : tie.Need-faulty-requires
-faulty-requires c κs = search needs
-
--- src/desk.rt:193:13
-stop-requires : tie.Need-stop-requires
-stop-requires c κs = search needs
-
--- src/desk.rt:193:13
 returns : tie.Need-returns
-returns c = ?
+returns c =
+    let b = c .before .before .before .before .before .before in
+    looks-stop (b .args .self) (b .args .n) (length-begun b) (b .pre) (take (length (b .args .table .now))) (b .args .table .now) _ _ _
+    (sym (c .before .if1 .taken) ∙ c .before .before .faulty .ensures) (c .stop .ensures (b .args .table .now))
 
--- src/desk.rt:195:29
-array-read-record-bytes : tie.Need-array-read-record-bytes
-array-read-record-bytes c = search needs
-
--- src/desk.rt:195:16
-record-bytes-requires : tie.Need-record-bytes-requires
-record-bytes-requires c κs = search needs
-
--- src/desk.rt:198:13
 returns-2 : tie.Need-returns-2
-returns-2 c = ?
+returns-2 c =
+    let b = c .before .before .before .before .before .before .before in
+    looks-short (b .args .self) (b .args .n) (length-begun b) (b .pre) (take (length (b .args .table .now))) (b .args .table .now) _ _
+    (sym (c .before .before .if1 .left) ∙ c .before .before .before .faulty .ensures) (c .before .record-bytes .ensures .0) (c .if2 .taken) (λ p. refl)
 
--- src/desk.rt:203:28
 array-share-prefix-begun-2 : tie.Need-array-share-prefix-begun-2
-array-share-prefix-begun-2 c = ?
+array-share-prefix-begun-2 c =
+    let b = c .before .before .before .before .before .before .before .before in
+    inside (b .args .self) (b .args .n) (length-begun b) (b .pre)
 
--- src/desk.rt:203:28
 slice-aggregate-settle : tie.Need-slice-aggregate-settle
-slice-aggregate-settle c = ?
+slice-aggregate-settle c =
+    let b = c .before .before .before .before .before .before .before .before .before in
+    sym (length-take-le _ _ (inside (b .args .self) (b .args .n) (length-begun b) (b .pre)))
 
--- src/desk.rt:203:9
 settle-requires : tie.Need-settle-requires
-settle-requires c κs = ?
+settle-requires c κs =
+    let b = c .before .before .before .before .before .before .before .before .before in
+    is-whole (b .args .self) (b .args .n) (length-begun b) (b .pre)
+    (sym (c .before .before .before .before .if1 .left) ∙ c .before .before .before .before .before .faulty .ensures) _
+    (c .before .before .before .record-bytes .ensures .0) (c .before .before .if2 .left)
 
--- src/desk.rt:186:5
-same-length : tie.Need-same-length
-same-length c = search needs
-
--- src/desk.rt:186:5
 returns-3 : tie.Need-returns-3
-returns-3 c = ?
+returns-3 c =
+    let f = c .before .before .before .before .before .before .before in
+    let b = f .before .before .before .before .before in
+    looks-whole (b .args .self) (b .args .n) (length-begun b) (b .pre) (sym (f .if1 .left) ∙ f .before .faulty .ensures) _
+    (c .before .before .before .before .before .before .record-bytes .ensures .0) (c .before .before .before .before .before .if2 .left)
+    (take (length (b .args .table .now))) (b .args .table .now) _ _ _ (c .before .before .settle .ensures)
 
 pub look-spec : {M : Type 1} → statement M
 look-spec =
-    tie.close
-    (tie.spec
-    array-share-prefix-begun
-    slice-aggregate-faulty
-    faulty-requires
-    stop-requires
-    returns
-    array-read-record-bytes
-    record-bytes-requires
-    returns-2
-    array-share-prefix-begun-2
-    slice-aggregate-settle
-    settle-requires
-    same-length
-    returns-3)
+    tie.close (tie.spec array-share-prefix-begun slice-aggregate-faulty (λ c κs. search needs) (λ c κs. search needs) returns
+    (λ c. search needs) (λ c κs. search needs) returns-2 array-share-prefix-begun-2 slice-aggregate-settle settle-requires
+    (λ c. search needs) returns-3)

@@ -1,17 +1,13 @@
+-- Nothing has been read.
 use borrow.Author.Needs.{needs}
+use lib.ListN.{replicate}
+use Rattle.recording.proofs.Settling.{starts}
 use Rattle.recording.proofs.desk.Desk.new.Statement.{statement}
 use Rattle.recording.proofs.desk.Desk.new.Tie as tie
-use Rattle.recording.proofs.desk.Desk.new.Reads as reads
-use Rattle.recording.proofs.desk.Desk.new.Lts as lts
-use Rattle.states.proofs.writers.empty.Reads as empty-reads
 
--- src/desk.rt:82:20
-empty-requires : tie.Need-empty-requires
-empty-requires c κs = search needs
-
--- src/desk.rt:73:5
 returns : tie.Need-returns
-returns c = ?
+returns c = starts _ (replicate 1601 0) (c .empty .ensures)
 
 pub new-spec : {M : Type 1} → statement M
-new-spec = tie.close (tie.spec empty-requires returns)
+new-spec =
+    tie.close (tie.spec (λ c κs. search needs) returns)

@@ -1,63 +1,29 @@
+-- Up to the end of the record.
+use mathlib.Core.Path.{_≡_}
 use borrow.Author.Needs.{needs}
+use lib.ListN.{length}
+use Rattle.recording.proofs.Holding.{of-count, takes-first, takes-more}
 use Rattle.recording.proofs.desk.Desk.to_take.Statement.{statement}
 use Rattle.recording.proofs.desk.Desk.to_take.Tie as tie
-use Rattle.recording.proofs.desk.Desk.to_take.Reads as reads
-use Rattle.recording.proofs.desk.Desk.to_take.Lts as lts
-use Rattle.recording.proofs.desk.Desk.held_bytes.Reads as held-bytes-reads
-use Rattle.recording.proofs.desk.smaller.Reads as smaller-reads
-use Rattle.recording.proofs.form.record_bytes.Reads as record-bytes-reads
 
--- src/desk.rt:230:13
-held-bytes-requires : tie.Need-held-bytes-requires
-held-bytes-requires c κs = search needs
-
--- src/desk.rt:232:41
-shared-slice-read-record-bytes : tie.Need-shared-slice-read-record-bytes
-shared-slice-read-record-bytes c = search needs
-
--- src/desk.rt:232:28
-record-bytes-requires : tie.Need-record-bytes-requires
-record-bytes-requires c κs = search needs
-
--- src/desk.rt:232:13
-smaller-requires : tie.Need-smaller-requires
-smaller-requires c κs = search needs
-
--- src/desk.rt:232:13
 returns : tie.Need-returns
-returns c = ?
+returns c =
+    let b = c .before .before .before .before .before .before in
+    let h = c .before .before .before .before .held-bytes in
+    of-count (b .args .self .begun) (b .args .«data» .now) _ (h .ensures .0)
+    (takes-first (h .result) (b .args .self .begun) (b .args .«data» .now) _ _ (c .before .before .before .if1 .taken) (c .before .record-bytes .ensures .0)
+    (b .pre) (c .smaller .ensures))
 
--- src/desk.rt:235:30
-array-read-record-bytes : tie.Need-array-read-record-bytes
-array-read-record-bytes c = search needs
-
--- src/desk.rt:235:17
-record-bytes-requires-2 : tie.Need-record-bytes-requires-2
-record-bytes-requires-2 c κs = search needs
-
--- src/desk.rt:235:17
-sub-smaller : tie.Need-sub-smaller
-sub-smaller c = search needs
-
--- src/desk.rt:235:9
-smaller-requires-2 : tie.Need-smaller-requires-2
-smaller-requires-2 c κs = search needs
-
--- src/desk.rt:226:5
 returns-2 : tie.Need-returns-2
-returns-2 c = ?
+returns-2 c =
+    let b = c .before .before .before .before .before .before in
+    let h = c .before .before .before .before .held-bytes in
+    let l : length (b .args .self .begun) ≡ 1601 = search needs in
+    of-count (b .args .self .begun) (b .args .«data» .now) _ (h .ensures .0)
+    (takes-more (h .result) (b .args .self .begun) (b .args .«data» .now) _ _ (c .before .before .before .if1 .left) (h .ensures .1) l
+    (c .before .record-bytes2 .ensures .0) (b .pre) (c .smaller2 .ensures))
 
 pub to-take-spec : {M : Type 1} → statement M
 to-take-spec =
-    tie.close
-    (tie.spec
-    held-bytes-requires
-    shared-slice-read-record-bytes
-    record-bytes-requires
-    smaller-requires
-    returns
-    array-read-record-bytes
-    record-bytes-requires-2
-    sub-smaller
-    smaller-requires-2
-    returns-2)
+    tie.close (tie.spec (λ c κs. search needs) (λ c. search needs) (λ c κs. search needs) (λ c κs. search needs) returns
+    (λ c. search needs) (λ c κs. search needs) (λ c. search needs) (λ c κs. search needs) returns-2)

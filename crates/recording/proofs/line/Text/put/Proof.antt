@@ -1,25 +1,24 @@
+-- Behind the text.
+use mathlib.Core.Path.{refl, _≡_}
+use native.Mathlib.Omega.{arith}
 use borrow.Author.Needs.{needs}
+use lib.ListN.{length}
+use Rattle.recording.proofs.Spelling.{puts}
 use Rattle.recording.proofs.line.Text.put.Statement.{statement}
 use Rattle.recording.proofs.line.Text.put.Tie as tie
-use Rattle.recording.proofs.line.Text.put.Reads as reads
-use Rattle.recording.proofs.line.Text.put.Lts as lts
-use Rattle.octets.proofs.copy_at.Reads as copy-at-reads
 
--- src/line.rt:76:25
-slice-aggregate-copy-at : tie.Need-slice-aggregate-copy-at
-slice-aggregate-copy-at c = search needs
-
--- src/line.rt:76:9
 copy-at-requires : tie.Need-copy-at-requires
-copy-at-requires c κs = ?
+copy-at-requires c κs =
+    let b = c .before .before .before in
+    let l : length (b .args .self .bytes) ≡ 64 = search needs in
+    omega (arith, b .pre, l)
 
--- src/line.rt:79:21
-add-t10 : tie.Need-add-t10
-add-t10 c = search needs
-
--- src/line.rt:70:5
 returns : tie.Need-returns
-returns c = ?
+returns c =
+    let b = c .before .before .before .before .before in
+    let l : length (b .args .self .bytes) ≡ 64 = search needs in
+    (puts (b .args .self .bytes) (b .args .s .now) _ (b .args .self .length) l (b .pre) (c .before .copy-at .ensures), refl)
 
 pub put-spec : {M : Type 1} → statement M
-put-spec = tie.close (tie.spec slice-aggregate-copy-at copy-at-requires add-t10 returns)
+put-spec =
+    tie.close (tie.spec (λ c. search needs) copy-at-requires (λ c. search needs) returns)
