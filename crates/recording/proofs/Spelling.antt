@@ -5,7 +5,7 @@ use mathlib.Core.Bool.{Bool, true, false, cond}
 use mathlib.Core.List.{List, [], _∷_, _++_, append-assoc, append-nil}
 use native.Mathlib.Omega.{arith}
 use lib.ListN.{length, getD, take, drop, set, length-set, length-drop}
-use lib.Seq.{paste, take-paste, take-length, drop-cons, drop-set-lt, getD-set-same, drop-length}
+use lib.Seq.{paste, take-all, take-paste, take-length, drop-cons, drop-set-lt, getD-set-same, drop-length}
 use lib.Dec.{ltb}
 use borrow.Author.Tests.{lt-ltb, le-ltb, ltb-true, ltb-false}
 use Rattle.recording.specs.declared.line.Line.the-variants.{Segment, Fault, Refused}
@@ -75,6 +75,10 @@ pub none-left : (n : ℕ) (b : List ℕ) (i rest : ℕ) → Written n b i rest �
 none-left n b i rest w h =
     let s : i ≡ suc (i - 1) = omega (arith, w .0) in
     last-place n b i rest w (ap (λ (k : ℕ). digits k rest) s ∙ digits-small (i - 1) rest h)
+
+-- the part of a text from some place on
+pub rest-of : (s : List ℕ) (n : ℕ) → take (length s - n) (drop n s) ≡ drop n s
+rest-of s n = take-all (length s - n) (drop n s) (let l = length-drop n s in omega arith)
 
 -- text behind text
 pub puts : (b s e : List ℕ) (n : ℕ) → length b ≡ 64 → n + length s ≤ 64 → e ≡ paste b n s (length s) → take (n + length s) e ≡ take n b ++ s

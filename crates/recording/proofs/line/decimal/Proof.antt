@@ -1,6 +1,7 @@
 -- From the last digit to the first. What is left to write, and what is written, is the number.
 use mathlib.Core.Logic.{⊎-elim}
 use mathlib.Core.Path.{refl}
+use lib.ListN.{replicate}
 use native.Mathlib.Omega.{arith}
 use borrow.Author.Tests.{leb-true, leb-false}
 use Rattle.recording.proofs.Spelling.{Written, none-written, more-written, one-left, none-left}
@@ -14,7 +15,7 @@ abbrev μ-loop : tie.MeasureT-loop
 μ-loop n bytes₀ i₀ rest₀ bytes i rest = i
 
 loop-holds : tie.Need-loop-holds Inv-loop μ-loop
-loop-holds c = none-written (c .args .n) _ refl
+loop-holds c = none-written (c .args .n) (replicate 20 0) refl
 
 loop-again : tie.Need-loop-again Inv-loop μ-loop
 loop-again c =
