@@ -2,3 +2,5 @@ pub mod Lines
 pub mod Recording
 pub mod Views
 pub mod RecordingLaws
+pub mod Live
+pub mod LiveLaws
