@@ -4,3 +4,5 @@ pub mod Views
 pub mod RecordingLaws
 pub mod Live
 pub mod LiveLaws
+pub mod TableLaws
+pub mod KeptLaws
