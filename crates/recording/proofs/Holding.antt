@@ -95,9 +95,9 @@ module _ (c m : C.Desk) (s : List ℕ) (t n : ℕ) (lg : length (c .begun) ≡ 1
       record {
         desk =
             λ p.
-              g .desk p
-              ∙ ap (looked keep) (ho .rest p b (take n (m .begun)) ∙ ap (λ (h : List ℕ). withHeld h (deskView p b c)) begun-is)
-              ∙ sym (absorb-part keep (deskView p b c) (take t s) ns (omega (arith, lt)) part-fits);
+            g .desk p
+            ∙ ap (looked keep) (ho .rest p b (take n (m .begun)) ∙ ap (λ (h : List ℕ). withHeld h (deskView p b c)) begun-is)
+            ∙ sym (absorb-part keep (deskView p b c) (take t s) ns (omega (arith, lt)) part-fits);
         behind = g .behind;
       }
 
@@ -108,8 +108,7 @@ module _ (c m : C.Desk) (s : List ℕ) (t n : ℕ) (lg : length (c .begun) ≡ 1
 pub idles : (keep : List ℕ → List ℕ) (c : C.Desk) (b s : List ℕ) (r : Step) → ltb 1 (c .stage) ≡ true → r ≡ record { desk = c; took = length s; line = Nothing }
     → (Given c b (λ d. absorb keep d (take (r .took) s)) (r .desk) (r .line) b) × (r .took ≡ taken (deskView [] b c) s)
 idles keep c b s r st e =
-    subst⁻¹ (λ (x : Step). (Given c b (λ d. absorb keep d (take (x .took) s)) (x .desk) (x .line) b) × (x .took ≡ taken (deskView [] b c) s)) e
-    (
+    subst⁻¹ (λ (x : Step). (Given c b (λ d. absorb keep d (take (x .took) s)) (x .desk) (x .line) b) × (x .took ≡ taken (deskView [] b c) s)) e (
       record {
         desk = λ p. (λ i. deskView (unprinted p i) b c) ∙ sym (absorb-stopped keep (deskView p b c) (take (length s) s) st);
         behind = unchanged (c .«table_length») b;
@@ -122,8 +121,7 @@ pub waits : (keep : List ℕ → List ℕ) (c : C.Desk) (b s : List ℕ) (r : St
     → (Given c b (λ d. absorb keep d (take (r .took) s)) (r .desk) (r .line) b) × (r .took ≡ taken (deskView [] b c) s)
 unfolding absorb
 waits keep c b s r ns z e =
-    subst⁻¹ (λ (x : Step). (Given c b (λ d. absorb keep d (take (x .took) s)) (x .desk) (x .line) b) × (x .took ≡ taken (deskView [] b c) s)) e
-    (
+    subst⁻¹ (λ (x : Step). (Given c b (λ d. absorb keep d (take (x .took) s)) (x .desk) (x .line) b) × (x .took ≡ taken (deskView [] b c) s)) e (
       record {
         desk = λ p. λ i. deskView (unprinted p i) b c;
         behind = unchanged (c .«table_length») b;
@@ -156,10 +154,10 @@ module _ (c : C.Desk) (n : ℕ) (lg : length (c .begun) ≡ 1601) (pre : (0 < n)
       record {
         desk =
             λ p.
-              (λ i. deskView (unprinted p i) b r)
-              ∙ v p
-              ∙ ap (λ (j : ℕ). withHeld (take j (c .begun)) (deskView p b c)) (mod-eq-of-lt (let z : n < recordBytes (kindOf (c .begun)) = omega (arith, ke) in z))
-              ∙ sym (looked-short keep (withHeld (take n (c .begun)) (deskView p b c)) (sym f) short);
+            (λ i. deskView (unprinted p i) b r)
+            ∙ v p
+            ∙ ap (λ (j : ℕ). withHeld (take j (c .begun)) (deskView p b c)) (mod-eq-of-lt (let z : n < recordBytes (kindOf (c .begun)) = omega (arith, ke) in z))
+            ∙ sym (looked-short keep (withHeld (take n (c .begun)) (deskView p b c)) (sym f) short);
         behind = unchanged (r .«table_length») b;
       }
     where

@@ -33,15 +33,15 @@ pub bare-view : (p t : List ℕ) (r : C.Desk) (d : Desk) → p ≡ d .printed �
     → [] ≡ d .held → r .records ≡ d .records → r .segments ≡ d .segments → r .state ≡ d .state → deskView p t r ≡ d
 bare-view p t r d pe se te he hd re ge qe =
     λ i.
-      record {
-        stage = se i;
-        table = te i;
-        held = (none ∙ hd) i;
-        records = re i;
-        segments = ge i;
-        state = qe i;
-        printed = pe i;
-      }
+    record {
+      stage = se i;
+      table = te i;
+      held = (none ∙ hd) i;
+      records = re i;
+      segments = ge i;
+      state = qe i;
+      printed = pe i;
+    }
   where
     none : take (heldCount r) (r .begun) ≡ []
     none = ap (λ (n : ℕ). take n (r .begun)) (ap (λ (n : ℕ). n % recordBytes (getD (r .begun) 0 0)) he ∙ zero-mod (recordBytes (getD (r .begun) 0 0)))
@@ -115,8 +115,8 @@ stops c l t =
     record {
       desk =
           λ p.
-            bare-view (p ++ lineText l) t (bare 2 (c .«table_length») (c .records) (c .segments) (c .state) (c .begun)) (stopped l (deskView p t c)) refl refl refl
-            refl refl refl refl refl;
+          bare-view (p ++ lineText l) t (bare 2 (c .«table_length») (c .records) (c .segments) (c .state) (c .begun)) (stopped l (deskView p t c)) refl refl refl
+          refl refl refl refl refl;
       behind = unchanged (c .«table_length») t;
     }
 
@@ -127,9 +127,9 @@ enters c t left h at n k ae ne fits q ke =
     record {
       desk =
           λ p.
-            bare-view (p ++ lineText Nothing) left (bare (c .stage) (at + n) k (c .segments) (c .state) (c .begun))
-            (entered (take (length t)) (withHeld h (deskView p t c))) (unprinted p) refl
-            (joined-table t (drop 2 h) left (c .«table_length») (entryLength h) at n ae ne room q) refl refl ke refl refl;
+          bare-view (p ++ lineText Nothing) left (bare (c .stage) (at + n) k (c .segments) (c .state) (c .begun))
+          (entered (take (length t)) (withHeld h (deskView p t c))) (unprinted p) refl
+          (joined-table t (drop 2 h) left (c .«table_length») (entryLength h) at n ae ne room q) refl refl ke refl refl;
       behind = joined-behind t (drop 2 h) left (c .«table_length») (entryLength h) at n ae ne room q;
     }
   where
@@ -142,8 +142,8 @@ opens c q k ke t =
     record {
       desk =
           λ p.
-            bare-view (p ++ lineText Nothing) t (bare 1 (c .«table_length») k (c .segments) q (c .begun)) (atOpening (deskView p t c) q) (unprinted p) refl refl
-            refl refl ke refl refl;
+          bare-view (p ++ lineText Nothing) t (bare 1 (c .«table_length») k (c .segments) q (c .begun)) (atOpening (deskView p t c) q) (unprinted p) refl refl
+          refl refl ke refl refl;
       behind = unchanged (c .«table_length») t;
     }
 
@@ -153,9 +153,9 @@ pub opens-at : (c r : C.Desk) (t h : List ℕ) (l : Line) (n : ℕ) (q : State) 
 opens-at c r t h l n q o e p qe k g =
     given-same (λ d. atOpening d q) (λ d. openedBy (withHeld h d) (openOutcome (d .table) h))
     (λ x.
-      ap (atOpening (deskView x t c)) qe
-      ∙ sym (k (deskView x t c))
-      ∙ ap (openedBy (withHeld h (deskView x t c))) (p ∙ ap (λ (z : List ℕ). openOutcome z h) e)) g
+    ap (atOpening (deskView x t c)) qe
+    ∙ sym (k (deskView x t c))
+    ∙ ap (openedBy (withHeld h (deskView x t c))) (p ∙ ap (λ (z : List ℕ). openOutcome z h) e)) g
 
 pub refuses : (c r : C.Desk) (t h : List ℕ) (l : Line) (n m i : ℕ) (o : Outcome) → take n t ≡ take (c .«table_length») t → o ≡ openOutcome (take n t) h
     → o ≡ Bad m i → Given c t (stopped (Refused m)) r l t → Given c t (λ d. openedBy (withHeld h d) (openOutcome (d .table) h)) r l t
@@ -171,8 +171,8 @@ answers c r t h n u j l e ue je le s0 h0 t0 r0 g0 q0 =
     record {
       desk =
           λ p.
-            bare-view (p ++ lineText l) t r _ (ap (λ (x : Line). p ++ lineText x) (le ∙ ap (λ (x : Judged). verdictLine (c .segments) (x .verdict)) is)) s0
-            (ap (λ (x : ℕ). take x t) t0) h0 refl r0 g0 (q0 ∙ ap (λ (x : Judged). x .state) is);
+          bare-view (p ++ lineText l) t r _ (ap (λ (x : Line). p ++ lineText x) (le ∙ ap (λ (x : Judged). verdictLine (c .segments) (x .verdict)) is)) s0
+          (ap (λ (x : ℕ). take x t) t0) h0 refl r0 g0 (q0 ∙ ap (λ (x : Judged). x .state) is);
       behind = unchanged (r .«table_length») t;
     }
   where

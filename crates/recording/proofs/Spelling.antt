@@ -58,9 +58,9 @@ more-written n b i rest w h r =
       omega (arith, w .1),
       length-set b (i - 1) (48 + rest % 10) ∙ w .2,
       w .3
-      ∙ ap (λ (z : List ℕ). z ++ drop i b) d
-      ∙ append-assoc (digits (i - 1) (rest / 10)) ((48 + rest % 10) ∷ []) (drop i b)
-      ∙ ap (λ (z : List ℕ). digits (i - 1) (rest / 10) ++ z) (sym (next-place n b i rest w)),
+          ∙ ap (λ (z : List ℕ). z ++ drop i b) d
+          ∙ append-assoc (digits (i - 1) (rest / 10)) ((48 + rest % 10) ∷ []) (drop i b)
+          ∙ ap (λ (z : List ℕ). digits (i - 1) (rest / 10) ++ z) (sym (next-place n b i rest w)),
     )
 
 -- the last digit, where there is room for no other, or none is left

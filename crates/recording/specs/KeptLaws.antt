@@ -115,8 +115,7 @@ module _ (room : ℕ) (h : enough ≤ room) where
       go : (a b : Bool) → eqb (kindOf (d .held)) 1 ≡ a → eqb (kindOf (d .held)) 2 ≡ b
           → (settled (take room) (kept d) ≡ kept (settled whole d)) × Whole (settled whole d)
       go true b p q =
-          rw p
-          (
+          rw p (
             ap (λ (t : List ℕ). withTable t (entered whole d)) (take-join room (d .table) (entryBytes (d .held))),
             λ s. absurd (before d f p s),
           )

@@ -56,7 +56,7 @@ entries-read [] d t e n = record { stage = n .stage; held = n .held; table = n .
 entries-read (r ∷ l) d t e n =
     let a = entry-read d r (n .stage) (n .held) (e .0) in
     let m : Entered (entered whole (withHeld r d)) (t ++ entryBytes r) =
-        record { stage = n .stage; held = refl; table = ap (λ (x : List ℕ). x ++ entryBytes r) (n .table); segments = n .segments; printed = n .printed } in
+    record { stage = n .stage; held = refl; table = ap (λ (x : List ℕ). x ++ entryBytes r) (n .table); segments = n .segments; printed = n .printed } in
     subst⁻¹ (λ (x : Desk). Entered x (t ++ (entryBytes r ++ tableOf l))) (absorb-append whole d r (joined l) ∙ ap (λ (x : Desk). absorb whole x (joined l)) a)
     (subst (Entered (absorb whole (entered whole (withHeld r d)) (joined l))) (append-assoc t (entryBytes r) (tableOf l))
     (entries-read l (entered whole (withHeld r d)) (t ++ entryBytes r) (e .1) m))
@@ -95,12 +95,12 @@ segments-read [] d t c e o n = (n, sym (append-nil (d .printed)))
 segments-read (r ∷ l) d t c e o n =
     let a = segment-read d r (n .stage) (n .held) (e .0) ∙ same in
     let m : Open next-desk t c =
-        record { stage = n .stage; held = refl; table = n .table; conn = judged-conn (deskTables t) (from c r) (d .state) (ap isOpen (n .conn) ∙ o) ∙ n .conn } in
+    record { stage = n .stage; held = refl; table = n .table; conn = judged-conn (deskTables t) (from c r) (d .state) (ap isOpen (n .conn) ∙ o) ∙ n .conn } in
     let p = segments-read l next-desk t c (e .1) o m in
     subst⁻¹
     (λ (x : Desk).
-      Open x t c
-      × (x .printed ≡ d .printed ++ (lineText (verdictLine (d .segments) (judged (deskTables t) (from c r) (d .state) .verdict)) ++ rest)))
+    Open x t c
+    × (x .printed ≡ d .printed ++ (lineText (verdictLine (d .segments) (judged (deskTables t) (from c r) (d .state) .verdict)) ++ rest)))
     (absorb-append whole d r (joined l) ∙ ap (λ (x : Desk). absorb whole x (joined l)) a) (p .0, p .1 ∙ append-assoc (d .printed) _ rest)
   where
     next-desk : Desk
@@ -121,15 +121,15 @@ segments-read (r ∷ l) d t c e o n =
     same : judgedOn (withHeld r d) ≡ next-desk
     same =
         λ i.
-          record {
-            stage = d .stage;
-            table = d .table;
-            held = [];
-            records = next (d .records);
-            segments = next (d .segments);
-            state = judged (deskTables (n .table i)) (from (n .conn i) r) (d .state) .state;
-            printed = d .printed ++ lineText (verdictLine (d .segments) (judged (deskTables (n .table i)) (from (n .conn i) r) (d .state) .verdict));
-          }
+        record {
+          stage = d .stage;
+          table = d .table;
+          held = [];
+          records = next (d .records);
+          segments = next (d .segments);
+          state = judged (deskTables (n .table i)) (from (n .conn i) r) (d .state) .state;
+          printed = d .printed ++ lineText (verdictLine (d .segments) (judged (deskTables (n .table i)) (from (n .conn i) r) (d .state) .verdict));
+        }
 
 -- the opening between them
 
@@ -147,14 +147,14 @@ ends-well d s h = rw (s, h)
 pub live : Live
 live es o ss ee oe se k =
     let n : Entered (absorb whole start (joined es)) (tableOf es) =
-        entries-read es start [] ee (record { stage = refl; held = refl; table = refl; segments = refl; printed = refl }) in
+    entries-read es start [] ee (record { stage = refl; held = refl; table = refl; segments = refl; printed = refl }) in
     let d = absorb whole start (joined es) in
     let m = atOpening d (openState o) in
     let p = segments-read ss m (tableOf es) (openState o .conn) se refl (record { stage = refl; held = refl; table = n .table; conn = refl }) in
     let all : absorb whole start (joined es ++ (o ++ joined ss)) ≡ absorb whole m (joined ss) =
-        absorb-append whole start (joined es) (o ++ joined ss)
-        ∙ absorb-append whole d o (joined ss)
-        ∙ ap (λ (x : Desk). absorb whole x (joined ss)) (opening-read d o (tableOf es) n oe k) in
+    absorb-append whole start (joined es) (o ++ joined ss)
+    ∙ absorb-append whole d o (joined ss)
+    ∙ ap (λ (x : Desk). absorb whole x (joined ss)) (opening-read d o (tableOf es) n oe k) in
     ap finished all
     ∙ ends-well (absorb whole m (joined ss)) (p .0 .stage) (p .0 .held)
     ∙ p .1

@@ -62,12 +62,12 @@ module _ (r : ℕ) (s : List ℕ) (h : 129 ≤ r) where
   unfolding sideOf
   side w ports at lw lp la =
       λ j.
-        record {
-          low = two ports (omega arith) j;
-          high = two (ports + 2) (omega arith) j;
-          bits = byte (at + w) (omega arith) j;
-          address = padded (part-same at w r s (omega arith) j);
-        }
+      record {
+        low = two ports (omega arith) j;
+        high = two (ports + 2) (omega arith) j;
+        bits = byte (at + w) (omega arith) j;
+        address = padded (part-same at w r s (omega arith) j);
+      }
 
   kind : getD (take r s) 0 0 ≡ getD s 0 0
   kind = byte 0 (omega arith)
@@ -90,23 +90,23 @@ module _ (r : ℕ) (s : List ℕ) (h : 129 ≤ r) where
     unfolding selectorOf idsOf secretOf
     fields-same =
         λ j.
-          record {
-            selector =
-                record {
-                  family = familyOf k;
-                  local = side (width (familyOf k)) 5 13 w-le (omega arith) (omega arith) j;
-                  remote = side (width (familyOf k)) 9 (14 + width (familyOf k)) w-le (omega arith) (omega (arith, w-le)) j;
-                };
-            ids = record { send = byte 3 (omega arith) j; recv = byte 4 (omega arith) j };
-            secret =
-                record {
-                  flags = byte 1 (omega arith) j;
-                  algorithm = byte 2 (omega arith) j;
-                  «mac_bytes» = mac-same j;
-                  «key_len» = byte (sidesEnd k + extra k) (omega (arith, w-le, x-le)) j;
-                  key = part-same (sidesEnd k + extra k + 1) 80 r s (omega (arith, w-le, x-le)) j;
-                };
-          }
+        record {
+          selector =
+              record {
+                family = familyOf k;
+                local = side (width (familyOf k)) 5 13 w-le (omega arith) (omega arith) j;
+                remote = side (width (familyOf k)) 9 (14 + width (familyOf k)) w-le (omega arith) (omega (arith, w-le)) j;
+              };
+          ids = record { send = byte 3 (omega arith) j; recv = byte 4 (omega arith) j };
+          secret =
+              record {
+                flags = byte 1 (omega arith) j;
+                algorithm = byte 2 (omega arith) j;
+                «mac_bytes» = mac-same j;
+                «key_len» = byte (sidesEnd k + extra k) (omega (arith, w-le, x-le)) j;
+                key = part-same (sidesEnd k + extra k + 1) 80 r s (omega (arith, w-le, x-le)) j;
+              };
+        }
 
   entry-same : entryOf (take r s) ≡ entryOf s
   unfolding entryOf
@@ -128,11 +128,11 @@ module _ (r : ℕ) (s : List ℕ) (h : 129 ≤ r) where
   unfolding item
   item-same v =
       λ j.
-        record {
-          kind-known = knownKind (kind j);
-          whole = (ap (λ (k : ℕ). leb (size k) (length (take r s))) kind ∙ whole-same v) j;
-          entry = entry-same j;
-        }
+      record {
+        kind-known = knownKind (kind j);
+        whole = (ap (λ (k : ℕ). leb (size k) (length (take r s))) kind ∙ whole-same v) j;
+        entry = entry-same j;
+      }
 
 -- The loader.
 
@@ -161,8 +161,8 @@ step limit i before s h =
     ap (loadedFrom limit i before) (items-at s 0 h)
     ∙ ap
     (λ (n : ℕ).
-      refusing (numberOf (loadTests limit i before (item s))) i
-      (loadedFrom limit (i + 1) (before ++ (entryOf s ∷ [])) (cond (sound (item s)) (items 0 (drop n s)) [])))
+    refusing (numberOf (loadTests limit i before (item s))) i
+    (loadedFrom limit (i + 1) (before ++ (entryOf s ∷ [])) (cond (sound (item s)) (items 0 (drop n s)) [])))
     z
 
 -- the limit is reached: 12, whatever begins
@@ -171,8 +171,8 @@ full limit before s h =
     step limit limit before s h
     ∙ ap
     (λ (n : ℕ).
-      refusing n limit
-      (loadedFrom limit (limit + 1) (before ++ (entryOf s ∷ [])) (cond (sound (item s)) (items 0 (drop (size (getD s 0 0)) s)) [])))
+    refusing n limit
+    (loadedFrom limit (limit + 1) (before ++ (entryOf s ∷ [])) (cond (sound (item s)) (items 0 (drop (size (getD s 0 0)) s)) [])))
     (at-limit limit before (item s))
 
 -- an unknown kind: 11
@@ -183,7 +183,7 @@ strange limit i before s h n v =
     step limit i before s h
     ∙ ap
     (λ (m : ℕ).
-      refusing m i (loadedFrom limit (i + 1) (before ++ (entryOf s ∷ [])) (cond (sound (item s)) (items 0 (drop (size (getD s 0 0)) s)) [])))
+    refusing m i (loadedFrom limit (i + 1) (before ++ (entryOf s ∷ [])) (cond (sound (item s)) (items 0 (drop (size (getD s 0 0)) s)) [])))
     (unknown limit i before (item s) n v)
 
 -- bytes, or none
@@ -199,9 +199,9 @@ entry-from : (limit i r : ℕ) (before : List Entry) (s : List ℕ) → 0 < leng
 entry-from limit i r before s h long q ih =
     step limit i before (take r s) (let l = length-take r s in omega arith)
     ∙ (λ j.
-      refusing (numberOf (loadTests limit i before (item-same r s long q j))) i
-      (loadedFrom limit (i + 1) (before ++ (entry-same r s long j ∷ []))
-      (cond (sound (item-same r s long q j)) (items 0 (drop (size (kind r s long j)) (take r s))) [])))
+    refusing (numberOf (loadTests limit i before (item-same r s long q j))) i
+    (loadedFrom limit (i + 1) (before ++ (entry-same r s long j ∷ []))
+    (cond (sound (item-same r s long q j)) (items 0 (drop (size (kind r s long j)) (take r s))) [])))
     ∙ ap (refusing (numberOf (loadTests limit i before (item s))) i) (rest (sound (item s)))
     ∙ sym (step limit i before s h)
   where
@@ -221,17 +221,17 @@ kept-from : (k limit i r : ℕ) (before : List Entry) (s : List ℕ) → limit �
 kept-from zero limit i r before s e h =
     ⊎-elim (λ z. ap (λ (x : List ℕ). loadedFrom limit i before (items 0 x)) (ap (take r) z ∙ take-nil r ∙ sym z))
     (λ l.
-      let z : limit ≡ i = omega arith in
-      let l2 : 0 < length (take r s) = (let q = length-take r s in omega arith) in
-      ap (λ (n : ℕ). loadedFrom n i before (items 0 (take r s))) z
-      ∙ full i before (take r s) l2
-      ∙ sym (ap (λ (n : ℕ). loadedFrom n i before (items 0 s)) z ∙ full i before s l)) (some s)
+    let z : limit ≡ i = omega arith in
+    let l2 : 0 < length (take r s) = (let q = length-take r s in omega arith) in
+    ap (λ (n : ℕ). loadedFrom n i before (items 0 (take r s))) z
+    ∙ full i before (take r s) l2
+    ∙ sym (ap (λ (n : ℕ). loadedFrom n i before (items 0 s)) z ∙ full i before s l)) (some s)
 kept-from (suc k) limit i r before s e h =
     ⊎-elim (λ z. ap (λ (x : List ℕ). loadedFrom limit i before (items 0 x)) (ap (take r) z ∙ take-nil r ∙ sym z))
     (λ l.
-      go (knownKind (getD s 0 0)) refl l
-      (λ m.
-        kept-from k limit (i + 1) (r - size (getD s 0 0)) (before ++ (entryOf s ∷ [])) (drop (size (getD s 0 0)) s) (omega arith) (omega (arith, m))))
+    go (knownKind (getD s 0 0)) refl l
+    (λ m.
+    kept-from k limit (i + 1) (r - size (getD s 0 0)) (before ++ (entryOf s ∷ [])) (drop (size (getD s 0 0)) s) (omega arith) (omega (arith, m))))
     (some s)
   where
     go : (v : Bool) → knownKind (getD s 0 0) ≡ v → 0 < length s
@@ -255,15 +255,15 @@ unfolding item
 short-from zero limit i n before s e v =
     ⊎-elim (λ z. let l : length s ≡ 0 = ap length z in omega arith)
     (λ l.
-      let z : limit ≡ i = omega arith in
-      let w = sym (ap (λ (m : ℕ). loadedFrom m i before (items 0 s)) z ∙ full i before s l) ∙ v in
-      let x : _≡_ {A = ℕ} 0 1 = cc w in
-      absurd (omega arith)) (some s)
+    let z : limit ≡ i = omega arith in
+    let w = sym (ap (λ (m : ℕ). loadedFrom m i before (items 0 s)) z ∙ full i before s l) ∙ v in
+    let x : _≡_ {A = ℕ} 0 1 = cc w in
+    absurd (omega arith)) (some s)
 short-from (suc k) limit i n before s e v =
     ⊎-elim (λ z. let l : length s ≡ 0 = ap length z in omega arith)
     (λ l.
-      go (numberOf (loadTests limit i before (item s))) refl l
-      (λ x. short-from k limit (i + 1) n (before ++ (entryOf s ∷ [])) (drop (size (getD s 0 0)) s) (omega arith) x)) (some s)
+    go (numberOf (loadTests limit i before (item s))) refl l
+    (λ x. short-from k limit (i + 1) n (before ++ (entryOf s ∷ [])) (drop (size (getD s 0 0)) s) (omega arith) x)) (some s)
   where
     after : Bool → Loaded
     after c = loadedFrom limit (i + 1) (before ++ (entryOf s ∷ [])) (cond c (items 0 (drop (size (getD s 0 0)) s)) [])
@@ -277,7 +277,7 @@ short-from (suc k) limit i n before s e v =
     go zero q l ih =
         let p = passed limit i before (item s) q .1 in
         let w : after true ≡ Valid n =
-            sym (step limit i before s l ∙ ap (λ (x : ℕ). refusing x i (after (sound (item s)))) q ∙ ap after p) ∙ v in
+        sym (step limit i before s l ∙ ap (λ (x : ℕ). refusing x i (after (sound (item s)))) q ∙ ap after p) ∙ v in
         let a = and-true (knownKind (getD s 0 0)) (leb (size (getD s 0 0)) (length s)) p in
         let z = size-le (getD s 0 0) (a .0) in
         let d = length-drop (size (getD s 0 0)) s in

@@ -45,10 +45,7 @@ fn decimal(n: u64) -> Digits
         rest = rest / 10;
     }
     bytes[i - 1] = 48 + (rest % 10) as u8;
-    Digits {
-        bytes,
-        from: i - 1,
-    }
+    Digits { bytes, from: i - 1 }
 }
 
 // A line as bytes: the first `length` ones. What stands behind them means nothing.
@@ -105,8 +102,7 @@ pub fn text_of(line: Line) -> Text
     let t = Text::new();
     match line {
         Line::Nothing => t,
-        Line::Segment(index, number, extension) => t
-            .put_number(index)
+        Line::Segment(index, number, extension) => t.put_number(index)
             .put(b" ")
             .put_number(number as u64)
             .put(b" ")

@@ -32,7 +32,7 @@ returns-4 c =
     (c .if3 .left)
 
 pub faulty-spec : {M : Type 1} → statement M
-faulty-spec = 
+faulty-spec =
     tie.close
     (tie.spec (λ c κs. search needs) (λ c κs. search needs) returns (λ c κs. search needs) returns-2 (λ c κs. search needs) (λ c κs. search needs)
     (λ c κs. search needs) returns-3 returns-4)

@@ -9,7 +9,7 @@ use Rattle.recording.proofs.line.text_of.Tie as tie
 
 returns : tie.Need-returns
 unfolding lineText
-returns c =  let n = c .before .before .new in (n .ensures .0 ∙ sym (ap lineText (c .enum-told .given .1)), omega (arith, n .ensures .1))
+returns c = let n = c .before .before .new in (n .ensures .0 ∙ sym (ap lineText (c .enum-told .given .1)), omega (arith, n .ensures .1))
 
 returns-2 : tie.Need-returns-2
 returns-2 c =
@@ -22,7 +22,7 @@ returns-2 c =
     let n1 = k .put-number in
     let n0 = k .before .before .before .before .new in (
       segment-text _ _ _ _ _ _ _ _ _ _ (n0 .ensures .0) (n1 .ensures .0) (p1 .ensures .0) (n2 .ensures .0) (p2 .ensures .0) (n3 .ensures .0) (p3 .ensures .0)
-      ∙ sym (ap lineText (k .before .before .line .given .1)),
+          ∙ sym (ap lineText (k .before .before .line .given .1)),
       omega (arith, n0 .ensures .1, n1 .ensures .1, p1 .ensures .1, n2 .ensures .1, p2 .ensures .1, n3 .ensures .1, p3 .ensures .1),
     )
 

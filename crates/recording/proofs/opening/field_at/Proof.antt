@@ -10,6 +10,6 @@ returns c =
     field-is (b .args .at) (b .args .bytes .now) _ (b .pre) (c .before .copy-at .ensures)
 
 pub field-at-spec : {M : Type 1} → statement M
-field-at-spec = 
+field-at-spec =
     tie.close
     (tie.spec (λ c. search needs) (λ c. search needs) (λ c. search needs) (λ c. search needs) (λ c. search needs) (λ c κs. search needs) returns)

@@ -10,6 +10,6 @@ returns c =
     (c .before .before .before .before .field-at .ensures) (c .before .before .before .field-at2 .ensures)
 
 pub open-pair-spec : {M : Type 1} → statement M
-open-pair-spec = 
+open-pair-spec =
     tie.close
     (tie.spec (λ c κs. search needs) (λ c κs. search needs) (λ c. search needs) (λ c κs. search needs) (λ c κs. search needs) returns)

@@ -50,9 +50,9 @@ returns-3 c =
     let h = c .before .before .before .before .before .hold in
     let s = le-ltb _ _ (f .if1 .left) in (
       advances (b .args .self) (h .result) (b .args .«data» .now) (t .result) _ (length-begun b) (t .ensures .0) (t .ensures .1) (t .ensures .2) n (h .ensures)
-      (take (length (b .args .table .now))) (b .args .table .now) _ _ _ s (c .before .before .before .look .ensures),
+          (take (length (b .args .table .now))) (b .args .table .now) _ _ _ s (c .before .before .before .look .ensures),
       takes (b .args .self) (h .result) (b .args .«data» .now) (t .result) _ (length-begun b) (t .ensures .0) (t .ensures .1) (t .ensures .2) n (h .ensures)
-      (b .args .table .now) s,
+          (b .args .table .now) s,
     )
 
 pub advance-spec : {M : Type 1} → statement M
