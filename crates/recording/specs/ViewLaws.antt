@@ -5,7 +5,7 @@ use mathlib.Core.Bool.{Bool, true, false}
 use mathlib.Core.List.{List, [], _∷_, _++_}
 use native.Mathlib.Omega.{arith}
 use native.Mathlib.Nat.{mod-lt}
-use lib.ListN.{length, getD, take, length-take}
+use lib.ListN.{length, getD, take, drop, length-take, length-drop}
 use lib.Dec.{eqb, ltb}
 use Rattle.recording.specs.declared.desk.Desk as C
 use Rattle.recording.specs.Recording.{Desk, kindOf, recordBytes, isStopped}
@@ -40,3 +40,14 @@ taken-some p t c s l = go (ltb 1 (c .stage)) refl
     go : (b : Bool) → ltb 1 (c .stage) ≡ b → 0 < taken (deskView p t c) s
     go true e = rw e l
     go false e = rw e (part-some (c .begun) s (heldCount c) (mod-lt (c .held) (bytes-some (getD (c .begun) 0 0))) l)
+
+-- for a loop over the bytes b, of which those before `at` are taken: it goes on, and stays inside
+pub goes-on : (p t : List ℕ) (c : C.Desk) (b : List ℕ) (at n : ℕ) → at < length b → n ≡ taken (deskView p t c) (take (length b - at) (drop at b))
+    → (0 < n) × (at + n ≤ length b)
+goes-on p t c b at n h e =
+    let s = take (length b - at) (drop at b) in
+    let l = length-take (length b - at) (drop at b) in
+    let d = length-drop at b in
+    let w = taken-le (deskView p t c) s in
+    let z = taken-some p t c s (omega arith) in
+    (omega arith, omega arith)
