@@ -16,7 +16,8 @@ use Rattle.recording.specs.declared.line.Line.the-variants.{Nothing, Fau
 use Rattle.recording.specs.Lines.{lineText}
 use Rattle.recording.specs.Recording.{Desk, kindOf, recordBytes, isStopped, withHeld, stopped, faulty, settled, looked, absorb, finished}
 use Rattle.recording.specs.RecordingLaws.{absorb-stopped, absorb-part, looked-faulty, looked-short, looked-whole}
-use Rattle.recording.specs.Views.{deskView, heldCount, Given, Holds, recordPart, taken}
+use Rattle.recording.specs.Views.{deskView, heldCount, Given, recordPart, taken}
+use Rattle.recording.specs.Held.{Holds}
 use Rattle.recording.proofs.Forms.{bytes-range}
 use Rattle.recording.proofs.Settling.{unprinted, unchanged, given-same}
 

@@ -1,6 +1,7 @@
 pub mod Lines
 pub mod Recording
 pub mod Views
+pub mod Held
 pub mod ViewLaws
 pub mod RecordingLaws
 pub mod Live

@@ -8,7 +8,7 @@ use Rattle.recording.specs.declared.line.Line.{Line}
 use Rattle.recording.specs.declared.line.Text.{Text}
 use Rattle.recording.specs.declared.desk.Desk as C
 use Rattle.recording.specs.Lines.{lineText}
-use Rattle.recording.specs.Recording.{Desk, kindOf, recordBytes, isStopped, withHeld}
+use Rattle.recording.specs.Recording.{Desk, kindOf, recordBytes, isStopped}
 
 -- the bytes of a line
 abbrev pub textOf : Text → List ℕ
@@ -44,9 +44,3 @@ recordPart h s = min (recordBytes (kindOf (h ++ s)) - length h) (length s)
 -- how many bytes a call takes: up to the end of a record, or all that there are; all where the desk has stopped
 abbrev pub taken : Desk → List ℕ → ℕ
 taken d s = cond (isStopped d) (length s) (recordPart (d .held) s)
-
--- the desk r is that of c with more bytes of the record that is begun, which it does not count yet
-pub record Holds (c : C.Desk) (more : List ℕ) (r : C.Desk) : Type 0 where
-  pub bytes : take (heldCount c + length more) (r .begun) ≡ take (heldCount c) (c .begun) ++ more
-  pub rest : (printed table h : List ℕ) → withHeld h (deskView printed table r) ≡ withHeld h (deskView printed table c)
-  pub counts : r .«table_length» ≡ c .«table_length»
