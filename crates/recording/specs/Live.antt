@@ -72,7 +72,8 @@ linesFrom i (v ∷ l) = lineText (verdictLine i v) ++ linesFrom (next i) l
 -- "What it prints must be what the live calls would give": of a good recording that neither 18, 10 to 17 nor 35 refuses, the lines are the
 -- verdicts of judging its segments one after another, each in the state that the one before left, from the state just after the opening
 abbrev pub Live : Type 0
-Live = (entries : List (List ℕ)) (opening : List ℕ) (segments : List (List ℕ)) → Each IsEntry entries → IsOpening opening → Each IsSegment segments
+Live = (entries : List (List ℕ)) (opening : List ℕ) (segments : List (List ℕ))
+    → Each IsEntry entries → IsOpening opening → Each IsSegment segments
     → openOutcome (tableOf entries) opening ≡ unrefused
     → deskText (joined entries ++ (opening ++ joined segments))
     ≡ linesFrom 0 (judgeAll (deskTables (tableOf entries)) (openState opening) (arrivals opening segments) .verdicts)

@@ -8,8 +8,9 @@ ghost use mathlib.Core.Bool.{false};
 ghost use lib.ListN.{length, take, drop};
 ghost use Rattle.recording.specs.Lines.{lineText};
 ghost use Rattle.rules.specs.Calls.{judged as judgedOf};
-ghost use Rattle.recording.specs.Recording.{start, recordBytes, kindOf, entryLength, usedLength, faulty as faultyOf, stopped, entered};
-ghost use Rattle.recording.specs.Recording.{atOpening, openedBy, openOutcome, deskTables, arrivalFrom, judgedOn, withHeld, settled, looked, absorb, finished};
+ghost use Rattle.recording.specs.Recording.{start, recordBytes, kindOf, entryLength, usedLength, faulty as faultyOf};
+ghost use Rattle.recording.specs.Recording.{stopped, entered, atOpening, openedBy, openOutcome, deskTables, arrivalFrom, judgedOn};
+ghost use Rattle.recording.specs.Recording.{withHeld, settled, looked, absorb, finished};
 ghost use Rattle.recording.specs.Views.{heldCount, deskView, Given, recordPart, taken};
 ghost use Rattle.recording.specs.Held.{Holds};
 use crate::form::RECORD_BYTES;
@@ -105,7 +106,8 @@ impl Desk {
     // "All entries, joined in order, make the table": as much of it as the buffer holds.
     fn enter(self, table: &mut [u8], bytes: &[u8]) -> Told
         requires { ⌜ 2 + entryLength (now bytes) ≤ length (now bytes) ⌝ }
-        ensures { λ r. ⌜ Given self (now (table .entry)) (λ d. entered (take (length (now (table .entry)))) (withHeld (now (bytes .entry)) d))
+        ensures { λ r. ⌜ Given self (now (table .entry))
+            (λ d. entered (take (length (now (table .entry)))) (withHeld (now (bytes .entry)) d))
             (r .desk) (r .line) (now (table .exit)) ⌝ }
     {
         let at = self.table_bytes(table.len());
@@ -177,7 +179,8 @@ impl Desk {
     // A record that is whole and has no fault.
     fn settle(self, table: &mut [u8], bytes: &[u8]) -> Told
         requires { ⌜ (faultyOf (self .stage) (now bytes) ≡ false) × (length (now bytes) ≡ recordBytes (kindOf (now bytes))) ⌝ }
-        ensures { λ r. ⌜ Given self (now (table .entry)) (λ d. settled (take (length (now (table .entry)))) (withHeld (now (bytes .entry)) d))
+        ensures { λ r. ⌜ Given self (now (table .entry))
+            (λ d. settled (take (length (now (table .entry)))) (withHeld (now (bytes .entry)) d))
             (r .desk) (r .line) (now (table .exit)) ⌝ }
     {
         let kind = bytes[0];
@@ -205,7 +208,8 @@ impl Desk {
     fn look(self, n: usize, table: &mut [u8]) -> Told
         requires { ⌜ (0 < n) × (n ≤ recordBytes (kindOf (self .begun))) ⌝ }
         ensures { λ r. ⌜ Given self (now (table .entry))
-            (λ d. looked (take (length (now (table .entry)))) (withHeld (take n (self .begun)) d)) (r .desk) (r .line) (now (table .exit)) ⌝ }
+            (λ d. looked (take (length (now (table .entry)))) (withHeld (take n (self .begun)) d))
+            (r .desk) (r .line) (now (table .exit)) ⌝ }
     {
         let begun = self.begun;
         if faulty(self.stage, &begun[..n]) {
@@ -233,7 +237,8 @@ impl Desk {
     // Of these bytes those up to the end of the record that is begun, or that they begin.
     fn to_take(self, data: &[u8]) -> usize
         requires { ⌜ 0 < length (now «data») ⌝ }
-        ensures { λ r. ⌜ (r ≡ recordPart (take (heldCount self) (self .begun)) (now («data» .entry))) × (0 < r) × (heldCount self + r ≤ 1601) ⌝ }
+        ensures { λ r. ⌜ (r ≡ recordPart (take (heldCount self) (self .begun)) (now («data» .entry)))
+            × (0 < r) × (heldCount self + r ≤ 1601) ⌝ }
     {
         let held = self.held_bytes();
         if held == 0 {
@@ -260,7 +265,8 @@ impl Desk {
     // stopped takes all.
     pub fn advance(self, table: &mut [u8], data: &[u8]) -> Step
         ensures desk { λ r. ⌜ Given self (now (table .entry))
-            (λ d. absorb (take (length (now (table .entry)))) d (take (r .took) (now («data» .entry)))) (r .desk) (r .line) (now (table .exit)) ⌝ }
+            (λ d. absorb (take (length (now (table .entry)))) d (take (r .took) (now («data» .entry))))
+            (r .desk) (r .line) (now (table .exit)) ⌝ }
         ensures took { λ r. ⌜ r .took ≡ taken (deskView [] (now (table .entry)) self) (now («data» .entry)) ⌝ }
     {
         let stage = self.stage;

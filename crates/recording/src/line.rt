@@ -79,7 +79,8 @@ impl Text {
 
     fn put_from(self, s: &[u8], from: usize) -> Self
         requires { ⌜ (from ≤ length (now s)) × (self .length + length (drop from (now s)) ≤ 64) ⌝ }
-        ensures { λ r. ⌜ (textOf r ≡ textOf self ++ drop from (now (s .entry))) × (r .length ≡ self .length + length (drop from (now (s .entry)))) ⌝ }
+        ensures { λ r. ⌜ (textOf r ≡ textOf self ++ drop from (now (s .entry)))
+            × (r .length ≡ self .length + length (drop from (now (s .entry)))) ⌝ }
     {
         self.put(&s[from..])
     }
