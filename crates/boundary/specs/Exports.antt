@@ -1,4 +1,4 @@
--- What the calls on a key table and on a connection answer, and what they leave in the buffers lent to them: docs/BOUNDARY.md, "Tables",
+-- What the calls on both tables and on a connection answer, and what they leave in the buffers lent to them: docs/BOUNDARY.md, "Tables",
 -- "The calls on one connection" and "The state". What the calls do is defined in Calls.antt of `rules`, and a state's bytes in
 -- Layout.antt of `states`; here are the rules of the boundary alone, and then each export, one definition. Assumes nothing.
 use Prim.Native.Nat.{ℕ}

@@ -42,7 +42,7 @@ pub record Fits (a : Answer) : Type 0 where
   pub together : together a ≡ true
 
 abbrev pub TableFits : Type 0
-TableFits = (t : Lent) → Fits (tableAnswer (tables t .answer))
+TableFits = (lent : Lent) → Fits (tableAnswer (tables lent .answer))
 
 -- a verdict's number, and the index beside it
 pub record Verdicts (v : Verdict) (i : Index) : Type 0 where
@@ -52,30 +52,31 @@ pub record Verdicts (v : Verdict) (i : Index) : Type 0 where
   pub together : together (verdictAnswer v i) ≡ true
 
 abbrev pub JudgedFits : Type 0
-JudgedFits = (t : Lent) (a : Arrival) (q : State) → Verdicts (judged (tables t) a q .verdict) (judged (tables t) a q .index)
+JudgedFits = (lent : Lent) (a : Arrival) (q : State) → Verdicts (judged (tables lent) a q .verdict) (judged (tables lent) a q .index)
 
 abbrev pub JudgedSynFits : Type 0
-JudgedSynFits = (t : Lent) (a : Arrival) (strict : Bool) → Verdicts (judgedSyn (tables t) a strict .verdict) (judgedSyn (tables t) a strict .index)
+JudgedSynFits = (lent : Lent) (a : Arrival) (strict : Bool)
+    → Verdicts (judgedSyn (tables lent) a strict .verdict) (judgedSyn (tables lent) a strict .index)
 
 abbrev pub OpenedFits : Type 0
-OpenedFits = (t : Lent) (a : Arrival) (isn : ℕ) (strict : Bool)
-    → Verdicts (openedPassively (tables t) a isn strict .verdict) (openedPassively (tables t) a isn strict .index)
+OpenedFits = (lent : Lent) (a : Arrival) (isn : ℕ) (strict : Bool)
+    → Verdicts (openedPassively (tables lent) a isn strict .verdict) (openedPassively (tables lent) a isn strict .index)
 
 -- an opening, or a key to ask for
 abbrev pub AskedFits : Type 0
-AskedFits = (t : Lent) (id : ℕ) (q : State) → Fits (ofSettled (asked (tables t) id q))
+AskedFits = (lent : Lent) (id : ℕ) (q : State) → Fits (ofSettled (asked (tables lent) id q))
 
 abbrev pub ActiveFits : Type 0
-ActiveFits = (t : Lent) (local remote : List ℕ) (localPort remotePort isn sendId : ℕ)
-    → Fits (ofSettled (openedActively (tables t) local remote localPort remotePort isn sendId))
+ActiveFits = (lent : Lent) (local remote : List ℕ) (localPort remotePort isn sendId : ℕ)
+    → Fits (ofSettled (openedActively (tables lent) local remote localPort remotePort isn sendId))
 
 abbrev pub ActiveMd5Fits : Type 0
-ActiveMd5Fits = (t : Lent) (local remote : List ℕ) (localPort remotePort isn : ℕ)
-    → Fits (ofSettled (openedActivelyMd5 (tables t) local remote localPort remotePort isn))
+ActiveMd5Fits = (lent : Lent) (local remote : List ℕ) (localPort remotePort isn : ℕ)
+    → Fits (ofSettled (openedActivelyMd5 (tables lent) local remote localPort remotePort isn))
 
 -- "of `sign` the signed length"
 abbrev pub SignedFits : Type 0
-SignedFits = (t : Lent) (s out : List ℕ) (q : State) → Fits (ofSigned (signed (tables t) s out q))
+SignedFits = (lent : Lent) (s out : List ℕ) (q : State) → Fits (ofSigned (signed (tables lent) s out q))
 
 -- so what C reads in the answer of a call that takes a state buffer b is the number and the value, or 18 and 0
 abbrev pub AnsweredReads : Type 0
@@ -86,38 +87,38 @@ AnsweredReads = (b : List ℕ) (a : Answer) → a .number < 2 ^ 8 → a .table <
 
 -- the answer of a call, and what it says: accept or done, or pass
 abbrev pub answerOf : Request → Answer
-answerOf (on (judge t a) q) = ofJudged (judged (tables t) a q)
-answerOf (on (sign t s out) q) = ofSigned (signed (tables t) s out q)
-answerOf (on (ask t id) q) = ofSettled (asked (tables t) id q)
-answerOf (judgeSyn t a strict) = ofSynJudged (judgedSyn (tables t) a strict)
-answerOf (openPassively t a isn strict) = ofJudged (openedPassively (tables t) a isn strict)
-answerOf (openActively t local remote localPort remotePort isn sendId) =
-    ofSettled (openedActively (tables t) local remote localPort remotePort isn sendId)
-answerOf (openActivelyMd5 t local remote localPort remotePort isn) =
-    ofSettled (openedActivelyMd5 (tables t) local remote localPort remotePort isn)
+answerOf (on (judge lent a) q) = ofJudged (judged (tables lent) a q)
+answerOf (on (sign lent s out) q) = ofSigned (signed (tables lent) s out q)
+answerOf (on (ask lent id) q) = ofSettled (asked (tables lent) id q)
+answerOf (judgeSyn lent a strict) = ofSynJudged (judgedSyn (tables lent) a strict)
+answerOf (openPassively lent a isn strict) = ofJudged (openedPassively (tables lent) a isn strict)
+answerOf (openActively lent local remote localPort remotePort isn sendId) =
+    ofSettled (openedActively (tables lent) local remote localPort remotePort isn sendId)
+answerOf (openActivelyMd5 lent local remote localPort remotePort isn) =
+    ofSettled (openedActivelyMd5 (tables lent) local remote localPort remotePort isn)
 
 abbrev pub signs : Signing → Bool
 signs (S.Signed n) = true
 signs (S.Refused n) = false
 
 abbrev pub isDone : Request → Bool
-isDone (on (judge t a) q) = accepts (judged (tables t) a q .verdict)
-isDone (on (sign t s out) q) = signs (signed (tables t) s out q .answer)
-isDone (on (ask t id) q) = opens (asked (tables t) id q .answer)
-isDone (judgeSyn t a strict) = accepts (judgedSyn (tables t) a strict .verdict)
-isDone (openPassively t a isn strict) = accepts (openedPassively (tables t) a isn strict .verdict)
-isDone (openActively t local remote localPort remotePort isn sendId) =
-    opens (openedActively (tables t) local remote localPort remotePort isn sendId .answer)
-isDone (openActivelyMd5 t local remote localPort remotePort isn) =
-    opens (openedActivelyMd5 (tables t) local remote localPort remotePort isn .answer)
+isDone (on (judge lent a) q) = accepts (judged (tables lent) a q .verdict)
+isDone (on (sign lent s out) q) = signs (signed (tables lent) s out q .answer)
+isDone (on (ask lent id) q) = opens (asked (tables lent) id q .answer)
+isDone (judgeSyn lent a strict) = accepts (judgedSyn (tables lent) a strict .verdict)
+isDone (openPassively lent a isn strict) = accepts (openedPassively (tables lent) a isn strict .verdict)
+isDone (openActively lent local remote localPort remotePort isn sendId) =
+    opens (openedActively (tables lent) local remote localPort remotePort isn sendId .answer)
+isDone (openActivelyMd5 lent local remote localPort remotePort isn) =
+    opens (openedActivelyMd5 (tables lent) local remote localPort remotePort isn .answer)
 
 -- only a bare SYN that is judged without a state can pass
 abbrev pub isPassed : Request → Bool
 isPassed (on c q) = false
-isPassed (judgeSyn t a strict) = isPass (judgedSyn (tables t) a strict .verdict)
-isPassed (openPassively t a isn strict) = isPass (openedPassively (tables t) a isn strict .verdict)
-isPassed (openActively t local remote localPort remotePort isn sendId) = false
-isPassed (openActivelyMd5 t local remote localPort remotePort isn) = false
+isPassed (judgeSyn lent a strict) = isPass (judgedSyn (tables lent) a strict .verdict)
+isPassed (openPassively lent a isn strict) = isPass (openedPassively (tables lent) a isn strict .verdict)
+isPassed (openActively lent local remote localPort remotePort isn sendId) = false
+isPassed (openActivelyMd5 lent local remote localPort remotePort isn) = false
 
 -- an answer's number n tells these two
 pub record Tells (n : ℕ) (done passed : Bool) : Type 0 where
@@ -141,4 +142,5 @@ AnsweredTells = (b : List ℕ) (c : Request)
 
 -- and of `check_table`: 0 exactly where the table is not refused, and never 1
 abbrev pub TableTells : Type 0
-TableTells = (t : Lent) → Tells (word (tableAnswer (tables t .answer)) % 2 ^ 8) (not (isRefused (tables t .answer))) false
+TableTells = (lent : Lent)
+    → Tells (word (tableAnswer (tables lent .answer)) % 2 ^ 8) (not (isRefused (tables lent .answer))) false

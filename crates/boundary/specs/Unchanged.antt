@@ -55,24 +55,25 @@ ActivelyMd5Refused = (t : Tables) (local remote : List ℕ) (localPort remotePor
 -- The calls on a connection, whose state is decodeOf b.
 
 abbrev pub judging : (b : List ℕ) → Lent → (source destination segment : List ℕ) → Judged
-judging b t source destination segment = judged (tables t) (arrivalOf source destination segment) (decodeOf b)
+judging b lent source destination segment = judged (tables lent) (arrivalOf source destination segment) (decodeOf b)
 
 -- a drop adds one to its count if the connection is open and the number is counted, and nothing else
 abbrev pub JudgeRefused : Type 0
-JudgeRefused = (b : List ℕ) → Octets b → (t : Lent) (source destination segment : List ℕ) (n : ℕ)
-    → judging b t source destination segment .verdict ≡ Drop n
-    → judgeExport (tables t) source destination segment b .state
+JudgeRefused = (b : List ℕ) → Octets b → (lent : Lent) (source destination segment : List ℕ) (n : ℕ)
+    → judging b lent source destination segment .verdict ≡ Drop n
+    → judgeExport (tables lent) source destination segment b .state
     ≡ stateWhere b (isOpen (decodeOf b .conn) && isCounted n) (oneMore n (decodeOf b))
 
 -- and judging never passes: that is for a bare SYN without a state
 abbrev pub JudgePassesNone : Type 0
-JudgePassesNone = (b : List ℕ) → Octets b → (t : Lent) (source destination segment : List ℕ)
-    → judging b t source destination segment .verdict ≡ Pass → ⊥
+JudgePassesNone = (b : List ℕ) → Octets b → (lent : Lent) (source destination segment : List ℕ)
+    → judging b lent source destination segment .verdict ≡ Pass → ⊥
 
 abbrev pub SignRefused : Type 0
-SignRefused = (b : List ℕ) → Octets b → (t : Lent) (s out : List ℕ) (n : ℕ) → signed (tables t) s out (decodeOf b) .answer ≡ S.Refused n
-    → (signExport (tables t) s out b .state ≡ b) × (signExport (tables t) s out b .out ≡ out)
+SignRefused = (b : List ℕ) → Octets b → (lent : Lent) (s out : List ℕ) (n : ℕ)
+    → signed (tables lent) s out (decodeOf b) .answer ≡ S.Refused n
+    → (signExport (tables lent) s out b .state ≡ b) × (signExport (tables lent) s out b .out ≡ out)
 
 abbrev pub AskRefused : Type 0
-AskRefused = (b : List ℕ) → Octets b → (t : Lent) (id n : ℕ) → asked (tables t) id (decodeOf b) .answer ≡ D.Refused n
-    → askExport (tables t) id b .state ≡ b
+AskRefused = (b : List ℕ) → Octets b → (lent : Lent) (id n : ℕ) → asked (tables lent) id (decodeOf b) .answer ≡ D.Refused n
+    → askExport (tables lent) id b .state ≡ b

@@ -24,7 +24,7 @@ fn refused(number: u8, table: u8, entry: u32) -> u64
     number as u64 + table as u64 * 256 + entry as u64 * 4294967296
 }
 
-// "accept, or done: the extension"; "pass"; a drop's number, with "the entry's index" where the table is refused.
+// "accept, or done: the extension"; "pass"; a drop's number; where a table is refused, with "the entry's index" and whose entry it is.
 pub(crate) fn of_verdict(verdict: Verdict, index: Index) -> u64
     requires { ⌜ index .entry < 2 ^ 32 ⌝ }
     ensures { λ r. ⌜ r ≡ wordOf (verdictAnswer verdict index) ⌝ }

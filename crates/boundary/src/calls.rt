@@ -1,4 +1,4 @@
-// The calls on a key table and on a connection: docs/BOUNDARY.md, "Tables", "The calls on one connection" and "The state". Each
+// The calls on both tables and on a connection: docs/BOUNDARY.md, "Tables", "The calls on one connection" and "The state". Each
 // turns the lent bytes into a state, makes the call of the crate `tcpao`, and turns the state back. Assumes nothing.
 ghost use mathlib.Core.Path.{_≡_};
 ghost use Rattle.tables.specs.Tables.{tablesOf};
@@ -60,7 +60,8 @@ pub fn open_active(
     state: &mut [u8],
 ) -> u64
     ensures { λ r. ⌜ leaves r (now (state .exit))
-        ≡ openActiveExport (tablesOf (now (keys .entry)) (now (md5 .entry))) (now (local .entry)) (now (remote .entry)) «local_port» «remote_port» isn «send_id»
+        ≡ openActiveExport (tablesOf (now (keys .entry)) (now (md5 .entry))) (now (local .entry)) (now (remote .entry)) «local_port»
+        «remote_port» isn «send_id»
         (now (state .entry)) ⌝ }
 {
     if !is_state(state) {
@@ -94,7 +95,8 @@ pub fn open_active_md5(
     state: &mut [u8],
 ) -> u64
     ensures { λ r. ⌜ leaves r (now (state .exit))
-        ≡ openActiveMd5Export (tablesOf (now (keys .entry)) (now (md5 .entry))) (now (local .entry)) (now (remote .entry)) «local_port» «remote_port» isn
+        ≡ openActiveMd5Export (tablesOf (now (keys .entry)) (now (md5 .entry))) (now (local .entry)) (now (remote .entry)) «local_port»
+        «remote_port» isn
         (now (state .entry)) ⌝ }
 {
     if !is_state(state) {
@@ -117,7 +119,8 @@ pub fn judge_syn(
     setting: u8,
 ) -> u64
     ensures { λ r. ⌜ answers r
-        ≡ judgeSynExport (tablesOf (now (keys .entry)) (now (md5 .entry))) (now (source .entry)) (now (destination .entry)) (now (segment .entry)) setting ⌝ }
+        ≡ judgeSynExport (tablesOf (now (keys .entry)) (now (md5 .entry)))
+        (now (source .entry)) (now (destination .entry)) (now (segment .entry)) setting ⌝ }
 {
     let r = tcpao::judge::judge_syn(keys, md5, source, destination, segment, setting != 0);
     let verdict = r.verdict;
@@ -136,7 +139,8 @@ pub fn open_passive(
     state: &mut [u8],
 ) -> u64
     ensures { λ r. ⌜ leaves r (now (state .exit))
-        ≡ openPassiveExport (tablesOf (now (keys .entry)) (now (md5 .entry))) (now (source .entry)) (now (destination .entry)) (now (segment .entry)) isn setting
+        ≡ openPassiveExport (tablesOf (now (keys .entry)) (now (md5 .entry)))
+        (now (source .entry)) (now (destination .entry)) (now (segment .entry)) isn setting
         (now (state .entry)) ⌝ }
 {
     if !is_state(state) {
@@ -159,7 +163,8 @@ pub fn judge(
     state: &mut [u8],
 ) -> u64
     ensures { λ r. ⌜ leaves r (now (state .exit))
-        ≡ judgeExport (tablesOf (now (keys .entry)) (now (md5 .entry))) (now (source .entry)) (now (destination .entry)) (now (segment .entry)) (now (state .entry)) ⌝ }
+        ≡ judgeExport (tablesOf (now (keys .entry)) (now (md5 .entry)))
+        (now (source .entry)) (now (destination .entry)) (now (segment .entry)) (now (state .entry)) ⌝ }
 {
     if !is_state(state) {
         return word(WRONG_STATE, 0);
@@ -190,7 +195,8 @@ pub fn sign(keys: &[u8], md5: &[u8], segment: &[u8], out: &mut [u8], state: &mut
 
 // Sets the RecvID asked of the peer.
 pub fn ask(keys: &[u8], md5: &[u8], recv_id: u8, state: &mut [u8]) -> u64
-    ensures { λ r. ⌜ leaves r (now (state .exit)) ≡ askExport (tablesOf (now (keys .entry)) (now (md5 .entry))) «recv_id» (now (state .entry)) ⌝ }
+    ensures { λ r. ⌜ leaves r (now (state .exit)) ≡ askExport (tablesOf (now (keys .entry)) (now (md5 .entry)))
+        «recv_id» (now (state .entry)) ⌝ }
 {
     if !is_state(state) {
         return word(WRONG_STATE, 0);

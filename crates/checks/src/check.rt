@@ -241,7 +241,8 @@ fn keyed_syn(
 ) -> Begun
     requires { ⌜ (isRefused (tablesOf (now keys) (now md5) .answer) ≡ false) × (wellSized (now segment) ≡ true)
         × (header ≡ headerOf (length (now segment)) (now segment)) ⌝ }
-    ensures { λ r. ⌜ KeyedSyn (tablesOf (now (keys .entry)) (now (md5 .entry))) pair strict (arrivingOn pair (sequenceOf (now (segment .entry))) 0)
+    ensures { λ r. ⌜ KeyedSyn (tablesOf (now (keys .entry)) (now (md5 .entry)))
+        pair strict (arrivingOn pair (sequenceOf (now (segment .entry))) 0)
         (now (segment .entry)) r ⌝ }
 {
     let options = header.options;
@@ -318,7 +319,8 @@ pub fn check_syn(
     strict: bool,
 ) -> Outcome
     ensures { λ r. ⌜ r
-        ≡ checkSyn (tablesOf (now (keys .entry)) (now (md5 .entry))) (arrivalOf (now (source .entry)) (now (destination .entry)) (now (segment .entry))) strict ⌝ }
+        ≡ checkSyn (tablesOf (now (keys .entry)) (now (md5 .entry)))
+        (arrivalOf (now (source .entry)) (now (destination .entry)) (now (segment .entry))) strict ⌝ }
 {
     let begun = begin_syn(keys, md5, source, destination, segment, strict);
     finished(begun, segment)

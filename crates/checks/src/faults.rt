@@ -64,7 +64,8 @@ pub fn address_faults(a: &[u8], b: &[u8]) -> Outcome
 
 // Without a state: 19, then the table's number.
 fn input_faults(keys: &[u8], md5: &[u8], a: &[u8], b: &[u8]) -> Outcome
-    ensures { λ r. ⌜ r ≡ first (inputTests (tablesOf (now (keys .entry)) (now (md5 .entry))) (now (a .entry)) (now (b .entry))) unrefused ⌝ }
+    ensures { λ r. ⌜ r ≡ first (inputTests (tablesOf (now (keys .entry)) (now (md5 .entry)))
+        (now (a .entry)) (now (b .entry))) unrefused ⌝ }
 {
     let sizes = address_faults(a, b);
     let loaded = table_faults(keys, md5);
@@ -82,7 +83,8 @@ fn state_faults(
     destination: &[u8],
     conn: Connection,
 ) -> Outcome
-    ensures { λ r. ⌜ r ≡ first (stateTests (tablesOf (now (keys .entry)) (now (md5 .entry))) (now (source .entry)) (now (destination .entry)) conn) unrefused ⌝ }
+    ensures { λ r. ⌜ r ≡ first (stateTests (tablesOf (now (keys .entry)) (now (md5 .entry)))
+        (now (source .entry)) (now (destination .entry)) conn) unrefused ⌝ }
 {
     let family = family_faults(conn);
     let Outcome::Good(_, _) = family else {

@@ -15,7 +15,8 @@ use states::writers::is_md5;
 
 // 10 to 17 and 45, then 35, where no entry answers.
 pub fn key_faults(keys: &[u8], md5: &[u8], there: bool) -> Outcome
-    ensures { λ r. ⌜ r ≡ first (tableTests (tablesOf (now (keys .entry)) (now (md5 .entry))) ++ (test (refuse 35) (not there) ∷ [])) unrefused ⌝ }
+    ensures { λ r. ⌜ r ≡ first (tableTests (tablesOf (now (keys .entry)) (now (md5 .entry))) ++ (test (refuse 35)
+        (not there) ∷ [])) unrefused ⌝ }
 {
     let loaded = table_faults(keys, md5);
     let Outcome::Good(_, _) = loaded else {

@@ -1,4 +1,4 @@
-// Words of 32 bits: FIPS 180-4 §3.2, the functions of §4.1 that both hashes have, and a block's words.
+// Words of 32 bits: FIPS 180-4 §3.2, the functions of §4.1 that both SHAs have, and a block's words.
 ghost use mathlib.Core.Path.{_≡_};
 ghost use lib.ListN.{length};
 ghost use Rattle.compression.specs.Words.{add32, Ch, Maj, words};

@@ -1,4 +1,4 @@
-// The calls on a key table and on a connection for C: docs/BOUNDARY.md, "Tables", "The calls on one connection" and "The
+// The calls on both tables and on a connection for C: docs/BOUNDARY.md, "Tables", "The calls on one connection" and "The
 // state". They are those of the crate `boundary`. Assumes nothing.
 ghost use mathlib.Core.Path.{_≡_};
 ghost use Rattle.tables.specs.Tables.{tablesOf};
@@ -27,7 +27,8 @@ pub extern "C" fn tcpao_open_active(
     state: &mut [u8],
 ) -> u64
     ensures { λ r. ⌜ leaves r (now (state .exit))
-        ≡ openActiveExport (tablesOf (now (keys .entry)) (now (md5 .entry))) (now (local .entry)) (now (remote .entry)) «local_port» «remote_port» isn «send_id»
+        ≡ openActiveExport (tablesOf (now (keys .entry)) (now (md5 .entry))) (now (local .entry)) (now (remote .entry)) «local_port»
+        «remote_port» isn «send_id»
         (now (state .entry)) ⌝ }
 {
     boundary::calls::open_active(
@@ -56,7 +57,8 @@ pub extern "C" fn tcpmd5_open_active(
     state: &mut [u8],
 ) -> u64
     ensures { λ r. ⌜ leaves r (now (state .exit))
-        ≡ openActiveMd5Export (tablesOf (now (keys .entry)) (now (md5 .entry))) (now (local .entry)) (now (remote .entry)) «local_port» «remote_port» isn
+        ≡ openActiveMd5Export (tablesOf (now (keys .entry)) (now (md5 .entry))) (now (local .entry)) (now (remote .entry)) «local_port»
+        «remote_port» isn
         (now (state .entry)) ⌝ }
 {
     boundary::calls::open_active_md5(
@@ -82,7 +84,8 @@ pub extern "C" fn tcpao_judge_syn(
     setting: u8,
 ) -> u64
     ensures { λ r. ⌜ answers r
-        ≡ judgeSynExport (tablesOf (now (keys .entry)) (now (md5 .entry))) (now (source .entry)) (now (destination .entry)) (now (segment .entry)) setting ⌝ }
+        ≡ judgeSynExport (tablesOf (now (keys .entry)) (now (md5 .entry)))
+        (now (source .entry)) (now (destination .entry)) (now (segment .entry)) setting ⌝ }
 {
     boundary::calls::judge_syn(keys, md5, source, destination, segment, setting)
 }
@@ -100,7 +103,8 @@ pub extern "C" fn tcpao_open_passive(
     state: &mut [u8],
 ) -> u64
     ensures { λ r. ⌜ leaves r (now (state .exit))
-        ≡ openPassiveExport (tablesOf (now (keys .entry)) (now (md5 .entry))) (now (source .entry)) (now (destination .entry)) (now (segment .entry)) isn setting
+        ≡ openPassiveExport (tablesOf (now (keys .entry)) (now (md5 .entry)))
+        (now (source .entry)) (now (destination .entry)) (now (segment .entry)) isn setting
         (now (state .entry)) ⌝ }
 {
     boundary::calls::open_passive(keys, md5, source, destination, segment, isn, setting, state)
@@ -117,7 +121,8 @@ pub extern "C" fn tcpao_judge(
     state: &mut [u8],
 ) -> u64
     ensures { λ r. ⌜ leaves r (now (state .exit))
-        ≡ judgeExport (tablesOf (now (keys .entry)) (now (md5 .entry))) (now (source .entry)) (now (destination .entry)) (now (segment .entry)) (now (state .entry)) ⌝ }
+        ≡ judgeExport (tablesOf (now (keys .entry)) (now (md5 .entry)))
+        (now (source .entry)) (now (destination .entry)) (now (segment .entry)) (now (state .entry)) ⌝ }
 {
     boundary::calls::judge(keys, md5, source, destination, segment, state)
 }
@@ -140,7 +145,8 @@ pub extern "C" fn tcpao_sign(
 // Sets the RecvID asked of the peer.
 #[no_mangle]
 pub extern "C" fn tcpao_ask(keys: &[u8], md5: &[u8], recv_id: u8, state: &mut [u8]) -> u64
-    ensures { λ r. ⌜ leaves r (now (state .exit)) ≡ askExport (tablesOf (now (keys .entry)) (now (md5 .entry))) «recv_id» (now (state .entry)) ⌝ }
+    ensures { λ r. ⌜ leaves r (now (state .exit)) ≡ askExport (tablesOf (now (keys .entry)) (now (md5 .entry)))
+        «recv_id» (now (state .entry)) ⌝ }
 {
     boundary::calls::ask(keys, md5, recv_id, state)
 }

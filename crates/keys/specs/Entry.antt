@@ -1,5 +1,5 @@
--- What the table's bytes mean: document 01, "Key table (house bytes)", and document 02, Tickets 4 and 10. A later kind of entry moves
--- this file.
+-- What a table's bytes mean, the key table's or the MD5 table's: document 01, "Key table (house bytes)", and document 02, Tickets 4, 9
+-- and 10. A later kind of entry moves this file.
 -- Any list of bytes has a meaning: a byte that is not there counts as 0, and the numbers 10 to 17 (specs/Table.antt) say what is refused.
 use Prim.Native.Nat.{ℕ, zero, suc, _+_, _*_, _-_, _/_, _%_}
 use mathlib.Core.Bool.{Bool, cond, _&&_, _||_}

@@ -1,5 +1,5 @@
-// One entry of the key table (an MKT of RFC 5925, section 3.1), by value and read from its bytes: document 01, "Key table (house bytes)",
-// and document 02, Tickets 4 and 10.
+// One entry of either table (of the key table, an MKT of RFC 5925, section 3.1), by value and read from its bytes: document 01, "Key table
+// (house bytes)", and document 02, Tickets 4, 9 and 10.
 // The functions here ask that the entry is there whole; the walks of table.rt see to it.
 ghost use mathlib.Core.Bool.{true, not, _&&_};
 ghost use mathlib.Core.Path.{_≡_};

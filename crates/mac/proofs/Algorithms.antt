@@ -1,15 +1,19 @@
 -- The hashes by their algorithm, as the code of src/hash_algorithm.rt comes to them: what it does in the arm of one, in the room of the
 -- longest, is what the algorithm's parts say. Assumes nothing.
-use mathlib.Core.Path.{_≡_, sym, _∙_, ap, ap₂, subst}
+use mathlib.Core.Path.{_≡_, refl, sym, _∙_, ap, ap₂, subst}
 use mathlib.Core.List.{List, [], _∷_, _++_}
+use mathlib.Core.Logic.{_⊎_, inl, inr}
 use Prim.Native.Nat.{ℕ}
 use native.Mathlib.Omega.{arith}
+use denote.Enum.Declared.{tagOf}
 use lib.ListN.{length, take, getD}
 use lib.Seq.{take-all}
 use Rattle.mac.specs.Blocks.{chained}
 use Rattle.mac.specs.Hmac.{filled}
 use Rattle.mac.specs.HashContexts.{partsOf, wordsOf, digestBytes, digestRoom}
 use Rattle.mac.specs.declared.hash_algorithm.HashAlgorithm.{HashAlgorithm}
+use Rattle.mac.specs.declared.hash_algorithm.HashAlgorithm.the-variants.{Sha1, Sha256, Md5}
+use Rattle.mac.proofs.hash_algorithm.HashAlgorithm.{the-type}
 use Rattle.mac.proofs.Places.{elements}
 
 -- the first five of eight words, and the first four
@@ -53,6 +57,20 @@ Suffix a n r = r ≡ partsOf a .suffix n
 
 abbrev pub Chained : HashAlgorithm → List ℕ → ℕ → List ℕ → List ℕ → Type 0
 Chained a h n d r = take (wordsOf a) r ≡ chained (partsOf a) (take (wordsOf a) h) n d
+
+-- What is neither MD5, the third variant, nor SHA-1, the first.
+abbrev pub NotMd5 : HashAlgorithm → Type 0
+NotMd5 a = (tagOf the-type a ≡ 0) ⊎ (tagOf the-type a ≡ 1)
+
+abbrev pub NotSha1 : HashAlgorithm → Type 0
+NotSha1 a = (tagOf the-type a ≡ 1) ⊎ (tagOf the-type a ≡ 2)
+
+pub is-sha256 : (a : HashAlgorithm) → NotMd5 a → NotSha1 a → a ≡ Sha256
+is-sha256 Sha1 m (inl e) = let z : _≡_ {A = ℕ} 0 1 = e in absurd (omega arith)
+is-sha256 Sha1 m (inr e) = let z : _≡_ {A = ℕ} 0 2 = e in absurd (omega arith)
+is-sha256 Sha256 m s = refl
+is-sha256 Md5 (inl e) s = let z : _≡_ {A = ℕ} 2 0 = e in absurd (omega arith)
+is-sha256 Md5 (inr e) s = let z : _≡_ {A = ℕ} 2 1 = e in absurd (omega arith)
 
 -- In the arm of the algorithm b.
 module _ (a b : HashAlgorithm) (is : a ≡ b) where

@@ -111,21 +111,20 @@ impl HashAlgorithm {
         }
     }
 
-    // The chaining value after the block m.
+    // The chaining value after the block m. The two SHAs read it in the same way: the text has one call for it, which the compiler then
+    // puts in place.
     pub(crate) fn compress(self, h: [u32; 8], m: &[u8]) -> [u32; 8]
         requires { ⌜ length (now m) ≡ 64 ⌝ }
         ensures { λ r. ⌜ take (wordsOf self) r ≡ partsOf self .compress (take (wordsOf self) h) (now (m .entry)) ⌝ }
     {
+        if let HashAlgorithm::Md5 = self {
+            let x = compression::md5::load(m);
+            return four_in_eight(compression::md5::compress(first_four(h), x));
+        }
+        let w = compression::words::load(m);
         match self {
-            HashAlgorithm::Sha1 => {
-                let w = compression::words::load(m);
-                five_in_eight(compression::sha1::compress(first_five(h), w))
-            }
-            HashAlgorithm::Sha256 => compression::sha256::compress(h, compression::words::load(m)),
-            HashAlgorithm::Md5 => {
-                let w = compression::md5::load(m);
-                four_in_eight(compression::md5::compress(first_four(h), w))
-            }
+            HashAlgorithm::Sha1 => five_in_eight(compression::sha1::compress(first_five(h), w)),
+            _ => compression::sha256::compress(h, w),
         }
     }
 
@@ -157,11 +156,15 @@ impl HashAlgorithm {
         }
     }
 
-    // The chaining value after the whole blocks of data, each compressed from where it lies.
-    fn by_blocks(self, h: [u32; 8], data: &[u8]) -> [u32; 8]
+    // The chaining value after the whole blocks of data, each compressed from where it lies. MD5 has a loop of its own: a block takes it so
+    // little time that the room of eight words, written and read between two blocks, would cost a tenth of it.
+    pub(crate) fn compress_all(self, h: [u32; 8], data: &[u8]) -> [u32; 8]
         ensures { λ r. ⌜ take (wordsOf self) r
             ≡ chained (partsOf self) (take (wordsOf self) h) (length (now («data» .entry)) / 64) (now («data» .entry)) ⌝ }
     {
+        if let HashAlgorithm::Md5 = self {
+            return four_in_eight(md5_blocks(first_four(h), data));
+        }
         let mut chain = h;
         let n = data.len() / 64;
         for i in 0..n {
@@ -171,18 +174,5 @@ impl HashAlgorithm {
             chain = next;
         }
         chain
-    }
-
-    // The same. MD5 has a loop of its own: a block takes it so little time that the room of eight words, written and read between two
-    // blocks, would cost a tenth of it.
-    pub(crate) fn compress_all(self, h: [u32; 8], data: &[u8]) -> [u32; 8]
-        ensures { λ r. ⌜ take (wordsOf self) r
-            ≡ chained (partsOf self) (take (wordsOf self) h) (length (now («data» .entry)) / 64) (now («data» .entry)) ⌝ }
-    {
-        match self {
-            HashAlgorithm::Sha1 => self.by_blocks(h, data),
-            HashAlgorithm::Sha256 => self.by_blocks(h, data),
-            HashAlgorithm::Md5 => four_in_eight(md5_blocks(first_four(h), data)),
-        }
     }
 }

@@ -3,6 +3,7 @@
 ghost use mathlib.Core.Path.{_≡_};
 ghost use mathlib.Core.Bool.{_&&_};
 ghost use lib.Dec.{eqb};
+ghost use Rattle.tables.specs.Tables.{noIndex};
 ghost use Rattle.rules.specs.Answers.{verdictAnswer, signingAnswer};
 use columns::report::number;
 use columns::report::text;
@@ -16,7 +17,7 @@ pub struct Answer {
 }
 
 pub fn of_verdict(v: Verdict) -> Answer
-    ensures { λ r. ⌜ (r .number ≡ verdictAnswer v 0 .number) × (r .value ≡ verdictAnswer v 0 .value) ⌝ }
+    ensures { λ r. ⌜ (r .number ≡ verdictAnswer v noIndex .number) × (r .value ≡ verdictAnswer v noIndex .value) ⌝ }
 {
     match v {
         Verdict::Accept(extension) => good(extension as u64),
@@ -26,7 +27,7 @@ pub fn of_verdict(v: Verdict) -> Answer
 }
 
 pub fn of_signing(s: Signing) -> Answer
-    ensures { λ r. ⌜ (r .number ≡ signingAnswer s 0 .number) × (r .value ≡ signingAnswer s 0 .value) ⌝ }
+    ensures { λ r. ⌜ (r .number ≡ signingAnswer s noIndex .number) × (r .value ≡ signingAnswer s noIndex .value) ⌝ }
 {
     match s {
         Signing::Signed(length) => good(length as u64),

@@ -26,7 +26,8 @@ fn arriving(pair: Pair, source_isn: u32, destination_isn: u32) -> Flow {
 pub fn traffic_key(e: End, source_isn: u32, destination_isn: u32) -> [u8; 32] {
     let pair = e.pair;
     let t = table(e);
-    let found = tables::find_recv(entries(&t, pair.family), &t[..0], pair, e.recv_id);
+    let no_md5 = [0u8; 0];
+    let found = tables::find_recv(entries(&t, pair.family), &no_md5, pair, e.recv_id);
     let entry = found.entry;
     let secret = entry.secret;
     derive::traffic_key(secret, arriving(pair, source_isn, destination_isn))

@@ -157,9 +157,10 @@ pub fn judge_syn(e: End, segment: &[u8]) -> SynJudged {
     let source = pair.remote;
     let destination = pair.local;
     let t = table(e);
+    let no_md5 = [0u8; 0];
     tcpao::judge::judge_syn(
         entries(&t, pair.family),
-        &t[..0],
+        &no_md5,
         address(&source, pair.family),
         address(&destination, pair.family),
         segment,
@@ -172,9 +173,10 @@ pub fn open_passive(e: End, segment: &[u8], isn: u32) -> Judged {
     let source = pair.remote;
     let destination = pair.local;
     let t = table(e);
+    let no_md5 = [0u8; 0];
     tcpao::judge::open_passive(
         entries(&t, pair.family),
-        &t[..0],
+        &no_md5,
         address(&source, pair.family),
         address(&destination, pair.family),
         segment,
@@ -188,9 +190,10 @@ pub fn open_active(e: End, isn: u32) -> Settled {
     let local = pair.local;
     let remote = pair.remote;
     let t = table(e);
+    let no_md5 = [0u8; 0];
     tcpao::open::open_active(
         entries(&t, pair.family),
-        &t[..0],
+        &no_md5,
         address(&local, pair.family),
         address(&remote, pair.family),
         pair.local_port,
@@ -205,9 +208,10 @@ pub fn judge(e: End, segment: &[u8], state: State) -> Judged {
     let source = pair.remote;
     let destination = pair.local;
     let t = table(e);
+    let no_md5 = [0u8; 0];
     tcpao::judge::judge(
         entries(&t, pair.family),
-        &t[..0],
+        &no_md5,
         address(&source, pair.family),
         address(&destination, pair.family),
         segment,
@@ -218,5 +222,6 @@ pub fn judge(e: End, segment: &[u8], state: State) -> Judged {
 pub fn sign(e: End, segment: &[u8], out: &mut [u8], state: State) -> Signed {
     let pair = e.pair;
     let t = table(e);
-    tcpao::sign::sign(entries(&t, pair.family), &t[..0], segment, out, state)
+    let no_md5 = [0u8; 0];
+    tcpao::sign::sign(entries(&t, pair.family), &no_md5, segment, out, state)
 }

@@ -36,9 +36,10 @@ fn with_state(client: bool, state: State, ends: Ends) -> Ends {
 
 fn signed(client: bool, wire: &mut [u8], no: u8, state: State) -> State {
     let t = key_tables::table(client);
+    let no_md5 = [0u8; 0];
     let segment = segments::unsigned(state, no);
     let mut out = [0u8; 60];
-    let s = tcpao::sign::sign(&t, &t[..0], &segment, &mut out, state);
+    let s = tcpao::sign::sign(&t, &no_md5, &segment, &mut out, state);
     lay(wire, segments::start(no), &out);
     s.state
 }
@@ -69,16 +70,18 @@ fn sent(wire: &mut [u8], places: &mut [u64], no: u8, ends: Ends) -> Ends {
 fn asked(ends: Ends) -> Ends {
     rows::asking();
     let t = key_tables::table(false);
-    let s = tcpao::operator::ask(&t, &t[..0], key_tables::CLIENT_2, ends.server);
+    let no_md5 = [0u8; 0];
+    let s = tcpao::operator::ask(&t, &no_md5, key_tables::CLIENT_2, ends.server);
     with_state(false, s.state, ends)
 }
 
 // Judges a segment that arrives at the client, or at the server.
 pub fn judged(client: bool, segment: &[u8], state: State) -> Judged {
     let t = key_tables::table(client);
+    let no_md5 = [0u8; 0];
     let source = key_tables::address(!client);
     let destination = key_tables::address(client);
-    tcpao::judge::judge(&t, &t[..0], &source, &destination, segment, state)
+    tcpao::judge::judge(&t, &no_md5, &source, &destination, segment, state)
 }
 
 // Judges one arrival, keeps its verdict, and prints it in the first run.

@@ -14,11 +14,12 @@ const SERVER_ISN: u32 = 0xffffffd8;
 
 fn active() -> State {
     let t = key_tables::table(true);
+    let no_md5 = [0u8; 0];
     let local = key_tables::address(true);
     let remote = key_tables::address(false);
     let opened = tcpao::open::open_active(
         &t,
-        &t[..0],
+        &no_md5,
         &local,
         &remote,
         key_tables::CLIENT_PORT,
@@ -32,26 +33,29 @@ fn active() -> State {
 // Signs a segment without data: header 20, TCP-AO 16.
 fn signed(client: bool, number: u32, flags: u8, state: State, out: &mut [u8; 36]) -> State {
     let t = key_tables::table(client);
+    let no_md5 = [0u8; 0];
     let segment = segments::header(state, number, flags);
-    let s = tcpao::sign::sign(&t, &t[..0], &segment, out, state);
+    let s = tcpao::sign::sign(&t, &no_md5, &segment, out, state);
     s.state
 }
 
 // The SYN is first judged without a state.
 fn judge_syn(syn: &[u8; 36]) {
     let t = key_tables::table(false);
+    let no_md5 = [0u8; 0];
     let source = key_tables::address(true);
     let destination = key_tables::address(false);
-    let c = tcpao::judge::judge_syn(&t, &t[..0], &source, &destination, syn, true);
+    let c = tcpao::judge::judge_syn(&t, &no_md5, &source, &destination, syn, true);
     let v = c.verdict;
     rows::opening(true, b"SYN, no state yet    ", syn, coded(v), 0);
 }
 
 fn passive(syn: &[u8; 36]) -> State {
     let t = key_tables::table(false);
+    let no_md5 = [0u8; 0];
     let source = key_tables::address(true);
     let destination = key_tables::address(false);
-    let j = tcpao::judge::open_passive(&t, &t[..0], &source, &destination, syn, SERVER_ISN, true);
+    let j = tcpao::judge::open_passive(&t, &no_md5, &source, &destination, syn, SERVER_ISN, true);
     let v = j.verdict;
     let state = j.state;
     rows::opening(true, b"SYN, opens           ", syn, coded(v), state.send_id);

@@ -20,7 +20,8 @@ use tables::Admitted;
 // How many entries a valid table has.
 fn entries(client: bool) {
     let t = key_tables::table(client);
-    let answer = tcpao::operator::check_table(&t, &t[..0]);
+    let no_md5 = [0u8; 0];
+    let answer = tcpao::operator::check_table(&t, &no_md5);
     match answer {
         Admitted::Valid(n) => decimal(n as u64),
         Admitted::Refused(_, _) => text(b"no valid"),

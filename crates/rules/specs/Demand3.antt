@@ -8,10 +8,12 @@ use Rattle.rules.specs.declared.Verdict.{Verdict}
 use Rattle.rules.specs.declared.Verdict.the-variants.{Accept}
 use Rattle.rules.specs.declared.Connection.{Connection}
 use Rattle.rules.specs.declared.State.{State}
+use Rattle.tables.specs.declared.Admitted.the-variants.{Valid}
 use Rattle.tables.specs.Tables.{Tables}
 use Rattle.tables.specs.Valid.{ValidTables}
 use Rattle.rules.specs.Connection.{Arrival, isOpen, isMd5, sized, extensionOf, stop, available}
 use Rattle.rules.specs.Calls.{judged}
+use Rattle.rules.specs.Lent.{Lent, tables}
 use Rattle.rules.specs.Ends.{Typed, Allowed, TrueSegment, Verifies}
 
 -- A list of calls: "each call gets the state that the one before returned, and nothing else writes it meanwhile".
@@ -149,3 +151,8 @@ pub record Demand3 (t : Tables) (q : State) (l : List (Arriving t (q .conn))) : 
 -- "one claim about the whole list of arrivals judged on a connection"
 abbrev pub Demand3Holds : Type 0
 Demand3Holds = (t : Tables) (q : State) (l : List (Arriving t (q .conn))) → Given t q l → Demand3 t q l
+
+-- of bytes that are not refused, the same
+abbrev pub Demand3Lent : Type 0
+Demand3Lent = (b : Lent) (n : ℕ) (q : State) (l : List (Arriving (tables b) (q .conn))) → tables b .answer ≡ Valid n → Typed q
+    → Allowed (q .conn) → isOpen (q .conn) ≡ true → isMd5 (q .conn) ≡ false → Close (q .seen ∷ positions l) → Demand3 (tables b) q l

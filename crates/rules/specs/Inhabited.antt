@@ -1,6 +1,7 @@
 -- The demands are not empty: one connection across a rollover, with three true arrivals, under entries of two kinds and through address
--- translation, and one of the other sort, of which demand 3 holds; and a bare SYN that demand 2 accepts, by TCP-AO and by MD5; by MD5 also
--- the SYN+ACK that answers it and a segment once open; and a bare SYN whose KeyID is unknown. As statements, with the MAC and the digest shut: they are whatever they are. InhabitedLaws proves them.
+-- translation, and one of the other sort, of which demand 3 holds; a bare SYN that demand 2 accepts, by TCP-AO and by MD5; by MD5 also the
+-- SYN+ACK that answers it, and a segment once open; and a bare SYN whose KeyID is unknown. As statements, with the MAC and the digest
+-- shut: they are whatever they are. InhabitedLaws proves them.
 use Prim.Native.Nat.{ℕ}
 use mathlib.Core.Path.{_≡_}
 use mathlib.Core.Bool.{true, false}
@@ -222,7 +223,8 @@ pub record BareSynMd5NotEmpty : Type 0 where
   pub holds : HoldsMd5 (tables md5Table) (arrivalPair (fromThem synBytesMd5)) (md5Opener .conn .pair) (entryOf md5Entry4)
   pub accepted : judgedSyn (tables md5Table) (fromThem synBytesMd5) true ≡ record { verdict = Accept 0; index = noIndex }
 
--- We opened passively on that SYN with the ISN 100, and answer it: what SynAckMd5 and OpenedTogetherMd5 are given, and what the latter gives.
+-- We opened passively on that SYN with the ISN 100, and answer it: what SynAckMd5 and OpenedTogetherMd5 are given, and what the second
+-- gives.
 
 abbrev pub md5Passive : State
 md5Passive = opened 1 ourPair 100 4294967280 0 0

@@ -39,8 +39,8 @@ use Rattle.rules.specs.Mac.{Flow, blanked, context, trafficKey, pseudoHe
 use Rattle.rules.specs.Segment.{malformed, ao, md5, aoAt, keyId, rnextKeyId, macIn, isBareSyn, signedWith}
 use Rattle.rules.specs.Connection.{Arrival, sized, arrivalPair, localAddress, remoteAddress, isOpen, isMd5, arriving, leaving}
 use Rattle.rules.specs.Connection.{arrivingSyn, pairOf, placeOn, located, value, extensionOf, bump, opening, empty}
-use Rattle.rules.specs.Calls.{isRefused, refusal, synIsMd5, check, checkSyn, unrefused, settledBy, openedActively, askTests, checkSign}
-use Rattle.rules.specs.Calls.{signedSegment}
+use Rattle.rules.specs.Calls.{isRefused, refusal, synIsMd5, check, checkSyn, unrefused, settledBy, openedActively, askTests}
+use Rattle.rules.specs.Calls.{checkSign, signedSegment}
 use Rattle.rules.specs.Answers.{Answer, answer, verdictAnswer, placeAnswer}
 
 -- The table of numbers. "The first that applies, in this order, is given."

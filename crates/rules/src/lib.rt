@@ -1,5 +1,6 @@
-// The rules of a TCP-AO connection: the types that the calls take and give. What the calls do with them is defined in specs/;
-// the code is in `states`, `checks` and `tcpao`. Document 01, "Positions", "A connection's life", "Numbers given back".
+// The rules of a connection, by TCP-AO or by MD5: the types that the calls take and give. What the calls do with them is defined in specs/;
+// the code is in `states`, `checks` and `tcpao`. Document 01, "Positions", "A connection's life", "Numbers given back"; document 02,
+// Ticket 9.
 // Every value of these types is a value that a call may get: no field is an enum, and nothing is assumed of it.
 use keys::entry::Pair;
 use tables::Index;

@@ -1,19 +1,54 @@
--- A signed header as the code writes it: the first 24 bytes, the MAC, its padding, and what stood behind byte 20. A reader need not believe
--- these: the calls cite the crate `rules` alone.
-use Prim.Native.Nat.{ℕ, _+_, _*_, _/_, _≤_, _<_}
+-- A signed header as the code writes it: the option that carries the MAC, by either way, and the bytes in which it is laid out. A reader
+-- need not believe these: the calls cite the crate `rules` alone.
+use Prim.Native.Nat.{ℕ, _+_, _-_, _*_, _/_, _≤_, _<_}
 use mathlib.Core.Path.{_≡_}
-use mathlib.Core.List.{List, [], _∷_}
-use lib.ListN.{length, getD}
+use mathlib.Core.Bool.{cond}
+use mathlib.Core.List.{List, [], _∷_, _++_}
+use lib.ListN.{length, getD, replicate}
 use Rattle.wire.specs.Header.{headerEnd}
 use Rattle.keys.specs.declared.entry.Secret.{Secret}
-use Rattle.rules.specs.Segment.{optionBytes}
+use Rattle.rules.specs.declared.State.{State}
+use Rattle.rules.specs.Segment.{Whole, padding}
+use Rattle.rules.specs.Connection.{isMd5}
 
--- the header's twenty bytes with w words more and the checksum zero, then the first four of an option
-unfoldable pub headBytes : ℕ → ℕ → ℕ → ℕ → ℕ → List ℕ → List ℕ
-headBytes w kind len third fourth h =
+-- an option that carries a MAC: what stands in it before the MAC, how many bytes the MAC has, and how many kind 1 bytes stand behind it
+pub record Form : Type 0 where
+  pub head : List ℕ
+  pub bytes : ℕ
+  pub ones : ℕ
+
+-- "KeyID is the outgoing SendID, RNextKeyID the asked RecvID."
+abbrev pub aoForm : Secret → State → Form
+aoForm e q =
+    record {
+      head = 29 ∷ (4 + e .«mac_bytes») ∷ q .«send_id» ∷ q .«ask_id» ∷ [];
+      bytes = e .«mac_bytes»;
+      ones = padding (e .«mac_bytes»);
+    }
+
+abbrev pub md5Form : Form
+md5Form = record { head = 19 ∷ 18 ∷ []; bytes = 16; ones = 2 }
+
+abbrev pub formOf : Secret → State → Form
+formOf e q = cond (isMd5 (q .conn)) md5Form (aoForm e q)
+
+-- the option with the MAC m, and how many bytes it has
+abbrev pub optionWith : Form → List ℕ → List ℕ
+optionWith f m = f .head ++ (m ++ replicate (f .ones) 1)
+
+abbrev pub addedBy : Form → ℕ
+addedBy f = length (f .head) + f .bytes + f .ones
+
+-- the header's twenty bytes with w words more and the checksum zero
+unfoldable pub fixedBytes : ℕ → List ℕ → List ℕ
+fixedBytes w h =
     getD h 0 0 ∷ getD h 1 0 ∷ getD h 2 0 ∷ getD h 3 0 ∷ getD h 4 0 ∷ getD h 5 0 ∷ getD h 6 0 ∷ getD h 7 0 ∷ getD h 8 0 ∷ getD h 9 0
     ∷ getD h 10 0 ∷ getD h 11 0 ∷ (getD h 12 0 + 16 * w) ∷ getD h 13 0 ∷ getD h 14 0 ∷ getD h 15 0 ∷ 0 ∷ 0 ∷ getD h 18 0 ∷ getD h 19 0
-    ∷ kind ∷ len ∷ third ∷ fourth ∷ []
+    ∷ []
+
+-- and the first four of an option
+unfoldable pub headBytes : ℕ → ℕ → ℕ → ℕ → ℕ → List ℕ → List ℕ
+headBytes w kind len third fourth h = fixedBytes w h ++ (kind ∷ len ∷ third ∷ fourth ∷ [])
 
 -- an option of len bytes with zeros behind its first four, padded by kind 1 bytes to so many
 abbrev pub blankOption : ℕ → ℕ → ℕ → ℕ → ℕ → List ℕ
@@ -28,17 +63,12 @@ pub record Room (h : List ℕ) (added len : ℕ) : Type 0 where
   pub least : 4 ≤ len
   pub fits : len ≤ added
   pub near : added ≤ len + 3
-  pub whole : 4 * (added / 4) ≡ added
+  pub whole : Whole added
 
--- what the tests 30, 32 and 35 leave of a segment and an entry's secret
-pub record Signable (s : List ℕ) (secret : Secret) : Type 0 where
+-- what the tests 30, 32 and 35 leave of a segment and the option that signs it
+pub record Signable (s : List ℕ) (f : Form) : Type 0 where
   pub low : 20 ≤ headerEnd s
   pub inside : headerEnd s ≤ length s
-  pub header : headerEnd s + optionBytes (secret .«mac_bytes») ≤ 60
-  pub short : secret .«mac_bytes» ≤ 16
-
--- by MD5: what the tests 30 and 32 leave of a segment
-pub record SignableMd5 (s : List ℕ) : Type 0 where
-  pub low : 20 ≤ headerEnd s
-  pub inside : headerEnd s ≤ length s
-  pub header : headerEnd s + md5OptionBytes ≤ 60
+  pub header : headerEnd s + addedBy f ≤ 60
+  pub short : f .bytes ≤ 16
+  pub whole : Whole (addedBy f)

@@ -136,9 +136,11 @@ pub fn judge(
     state: State,
 ) -> Judged
     ensures answer { λ r. ⌜ r
-        ≡ judged (tablesOf (now (keys .entry)) (now (md5 .entry))) (arrivalOf (now (source .entry)) (now (destination .entry)) (now (segment .entry))) state ⌝ }
+        ≡ judged (tablesOf (now (keys .entry)) (now (md5 .entry)))
+        (arrivalOf (now (source .entry)) (now (destination .entry)) (now (segment .entry))) state ⌝ }
     ensures number { λ r. ⌜ verdictAnswer (r .verdict) (r .index)
-        ≡ judgedNumber (tablesOf (now (keys .entry)) (now (md5 .entry))) (arrivalOf (now (source .entry)) (now (destination .entry)) (now (segment .entry))) state ⌝ }
+        ≡ judgedNumber (tablesOf (now (keys .entry)) (now (md5 .entry)))
+        (arrivalOf (now (source .entry)) (now (destination .entry)) (now (segment .entry))) state ⌝ }
 {
     let conn = state.conn;
     let o = check(keys, md5, source, destination, segment, conn, state.seen);
@@ -163,9 +165,11 @@ pub fn judge_syn(
     strict: bool,
 ) -> SynJudged
     ensures answer { λ r. ⌜ r
-        ≡ judgedSyn (tablesOf (now (keys .entry)) (now (md5 .entry))) (arrivalOf (now (source .entry)) (now (destination .entry)) (now (segment .entry))) strict ⌝ }
+        ≡ judgedSyn (tablesOf (now (keys .entry)) (now (md5 .entry)))
+        (arrivalOf (now (source .entry)) (now (destination .entry)) (now (segment .entry))) strict ⌝ }
     ensures number { λ r. ⌜ verdictAnswer (r .verdict) (r .index)
-        ≡ synNumber (tablesOf (now (keys .entry)) (now (md5 .entry))) (arrivalOf (now (source .entry)) (now (destination .entry)) (now (segment .entry))) strict ⌝ }
+        ≡ synNumber (tablesOf (now (keys .entry)) (now (md5 .entry)))
+        (arrivalOf (now (source .entry)) (now (destination .entry)) (now (segment .entry))) strict ⌝ }
 {
     let o = check_syn(keys, md5, source, destination, segment, strict);
     let verdict = verdict_of(o);
@@ -187,7 +191,8 @@ fn opened_by(
 ) -> State
     requires { ⌜ TakenBy (tablesOf (now keys) (now md5)) (arrivalOf (now source) (now destination) (now segment)) way ids o ⌝ }
     ensures { λ r. ⌜ r
-        ≡ openedFrom (tablesOf (now (keys .entry)) (now (md5 .entry))) (arrivalOf (now (source .entry)) (now (destination .entry)) (now (segment .entry))) isn o ⌝ }
+        ≡ openedFrom (tablesOf (now (keys .entry)) (now (md5 .entry)))
+        (arrivalOf (now (source .entry)) (now (destination .entry)) (now (segment .entry))) isn o ⌝ }
 {
     let Outcome::Good(_, rnext) = o else {
         return empty();
@@ -214,7 +219,8 @@ pub fn open_passive(
         ≡ openedPassively (tablesOf (now (keys .entry)) (now (md5 .entry)))
         (arrivalOf (now (source .entry)) (now (destination .entry)) (now (segment .entry))) isn strict ⌝ }
     ensures number { λ r. ⌜ verdictAnswer (r .verdict) (r .index)
-        ≡ synNumber (tablesOf (now (keys .entry)) (now (md5 .entry))) (arrivalOf (now (source .entry)) (now (destination .entry)) (now (segment .entry))) strict ⌝ }
+        ≡ synNumber (tablesOf (now (keys .entry)) (now (md5 .entry)))
+        (arrivalOf (now (source .entry)) (now (destination .entry)) (now (segment .entry))) strict ⌝ }
 {
     let begun = begin_syn(keys, md5, source, destination, segment, strict);
     let way = begun.way;

@@ -50,9 +50,11 @@ pub fn open_active(
     send_id: u8,
 ) -> Settled
     ensures answer { λ r. ⌜ r
-        ≡ openedActively (tablesOf (now (keys .entry)) (now (md5 .entry))) (now (local .entry)) (now (remote .entry)) «local_port» «remote_port» isn «send_id» ⌝ }
+        ≡ openedActively (tablesOf (now (keys .entry)) (now (md5 .entry))) (now (local .entry)) (now (remote .entry)) «local_port»
+        «remote_port» isn «send_id» ⌝ }
     ensures number { λ r. ⌜ doneAnswer (r .answer) (r .index)
-        ≡ openedNumber (tablesOf (now (keys .entry)) (now (md5 .entry))) (now (local .entry)) (now (remote .entry)) «local_port» «remote_port» «send_id» ⌝ }
+        ≡ openedNumber (tablesOf (now (keys .entry)) (now (md5 .entry))) (now (local .entry)) (now (remote .entry)) «local_port»
+        «remote_port» «send_id» ⌝ }
 {
     let none = empty();
     let sizes = address_faults(local, remote);

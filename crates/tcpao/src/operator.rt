@@ -21,7 +21,8 @@ pub fn check_table(keys: &[u8], md5: &[u8]) -> Admitted
 
 pub fn ask(keys: &[u8], md5: &[u8], recv_id: u8, state: State) -> Settled
     ensures answer { λ r. ⌜ r ≡ asked (tablesOf (now (keys .entry)) (now (md5 .entry))) «recv_id» state ⌝ }
-    ensures number { λ r. ⌜ doneAnswer (r .answer) (r .index) ≡ askedNumber (tablesOf (now (keys .entry)) (now (md5 .entry))) «recv_id» (state .conn) ⌝ }
+    ensures number { λ r. ⌜ doneAnswer (r .answer) (r .index) ≡ askedNumber (tablesOf (now (keys .entry)) (now (md5 .entry))) «recv_id»
+        (state .conn) ⌝ }
 {
     let outcome = ask_faults(keys, md5, recv_id, state.conn);
     settled_by(outcome, state, with_asked(recv_id, state))

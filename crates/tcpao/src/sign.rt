@@ -109,7 +109,8 @@ fn refused(n: u8, i: Index, state: State) -> Signed
 // The answer with the new state, and every byte of the output.
 pub fn sign(keys: &[u8], md5: &[u8], segment: &[u8], out: &mut [u8], state: State) -> Signed
     ensures answer { λ r. ⌜ r ≡ signed (tablesOf (now (keys .entry)) (now (md5 .entry))) (now (segment .entry)) (now (out .entry)) state ⌝ }
-    ensures storage { λ _. ⌜ now (out .exit) ≡ output (tablesOf (now (keys .entry)) (now (md5 .entry))) (now (segment .entry)) (now (out .entry)) state ⌝ }
+    ensures storage { λ _. ⌜ now (out .exit) ≡ output (tablesOf (now (keys .entry)) (now (md5 .entry)))
+        (now (segment .entry)) (now (out .entry)) state ⌝ }
     ensures number { λ r. ⌜ signingAnswer (r .answer) (r .index)
         ≡ signedNumber (tablesOf (now (keys .entry)) (now (md5 .entry))) (now (segment .entry)) (now (out .entry)) state ⌝ }
 {

@@ -7,15 +7,15 @@ ghost use mathlib.Core.Bool.{cond};
 ghost use Prim.Native.Nat.{_+_, _*_, _/_, _≤_, _<_};
 ghost use lib.ListN.{length, getD, replicate};
 ghost use Rattle.wire.specs.Header.{headerEnd};
-ghost use Rattle.rules.specs.Segment.{inserted, optionOf, optionBytes};
+ghost use Rattle.rules.specs.Segment.{inserted, optionBytes};
 ghost use Rattle.rules.specs.Mac.{pseudoHeader};
 ghost use Rattle.rules.specs.Connection.{isOpen, leaving, localAddress, remoteAddress};
 ghost use Rattle.checksum.specs.Running.{begun, added as addedTo};
 ghost use Rattle.traffic.specs.Padded.{padded};
 ghost use Rattle.traffic.specs.Flow.{flowOf};
 ghost use Rattle.traffic.specs.MacContext.{macView};
-ghost use Rattle.tcpao.specs.SignedBytes.{headBytes, Room, Signable};
-ghost use Rattle.tcpao.specs.SignBegin.{Starts, Fed, checkedHeader, ended};
+ghost use Rattle.tcpao.specs.SignedBytes.{aoForm, md5Form, headBytes, blankOption, Room, Signable};
+ghost use Rattle.tcpao.specs.SignBegin.{aoFront, md5Front, macPlace, Starts, Fed, checkedHeader, ended};
 use checks::begun::mac_length;
 use checksum::Sum;
 use keys::entry::Pair;
@@ -29,9 +29,9 @@ use traffic::context::MacContext;
 use traffic::context::unused;
 use traffic::flow::Flow;
 
-// The outcome: a number, or the position with the asked RecvID. Where it is Good: the way (1 is MD5); how many bytes signing adds; the signed header with zeros
-// for MAC and checksum, in an array that has room for the longest; the MAC after its front, to be cut to so many bytes; and the checksum's
-// sum after the pseudo-header. Else these mean nothing.
+// The outcome: a number, or the position with the asked RecvID. Where it is Good: the way (1 is MD5); how many bytes signing adds; the
+// signed header with zeros for MAC and checksum, in an array that has room for the longest; the MAC after its front, to be cut to so many
+// bytes; and the checksum's sum after the pseudo-header. Else these mean nothing.
 pub struct SignBegun {
     pub outcome: Outcome,
     pub way: u8,
@@ -151,8 +151,8 @@ pub(crate) fn ready_md5(
     end: usize,
     segment: &[u8],
 ) -> SignBegun
-    requires { ⌜ SignableMd5 (now segment) × (end ≡ headerEnd (now segment)) ⌝ }
-    ensures { λ r. ⌜ StartsMd5 x secret state (now (segment .entry)) r ⌝ }
+    requires { ⌜ Signable (now segment) md5Form × (end ≡ headerEnd (now segment)) ⌝ }
+    ensures { λ r. ⌜ Starts x md5Form (md5Front secret state (now (segment .entry))) state (now (segment .entry)) r ⌝ }
 {
     let header = blank_header(&segment[..end], 20, 19, 18, 0, 0);
     let whole = end + 20;
@@ -182,8 +182,9 @@ pub(crate) fn ready(
     end: usize,
     segment: &[u8],
 ) -> SignBegun
-    requires { ⌜ Signable (now segment) secret × (end ≡ headerEnd (now segment)) × (added ≡ optionBytes (secret .«mac_bytes»)) ⌝ }
-    ensures { λ r. ⌜ Starts x secret state (now (segment .entry)) r ⌝ }
+    requires { ⌜ Signable (now segment) (aoForm secret state) × (end ≡ headerEnd (now segment)) × (added ≡ optionBytes
+        (secret .«mac_bytes»)) ⌝ }
+    ensures { λ r. ⌜ Starts x (aoForm secret state) (aoFront x secret state (now (segment .entry))) state (now (segment .entry)) r ⌝ }
 {
     let n = secret.mac_bytes;
     let more = added as usize;

@@ -15,10 +15,10 @@ use Rattle.rollover.proofs.alike.same_drops.Statement.{statement}
 use Rattle.rollover.proofs.alike.same_drops.Tie as tie
 
 abbrev Inv-loop : tie.InvT-loop
-Inv-loop a b i₀ i = (i ≤ 11) × (same a b ≡ same (drop i a) (drop i b))
+Inv-loop a b i₀ i = (i ≤ 13) × (same a b ≡ same (drop i a) (drop i b))
 
 abbrev μ-loop : tie.MeasureT-loop
-μ-loop a b i₀ i = 11 - i
+μ-loop a b i₀ i = 13 - i
 
 at : (a b : List ℕ) (i : ℕ) → i < length a → i < length b → same (drop i a) (drop i b) ≡ (eqb (getD a i 0) (getD b i 0) && same (drop (i + 1) a) (drop (i + 1) b))
 unfolding same
@@ -38,24 +38,24 @@ returns : tie.Need-returns Inv-loop μ-loop
 returns c =
     let l = c .before .before .loop in
     let a = c .before .before .before .args in
-    let h : length (a .t1) ≡ 11 = search needs in
-    let k : length (a .t2) ≡ 11 = search needs in
+    let h : length (a .t1) ≡ 13 = search needs in
+    let k : length (a .t2) ≡ 13 = search needs in
     differ (a .t1) (a .t2) (l .i) (omega arith) (omega arith) (c .if1 .taken) (l .inv .1)
 
 loop-again : tie.Need-loop-again Inv-loop μ-loop
 loop-again c =
     let l = c .before .before .loop in
     let a = c .before .before .before .args in
-    let h : length (a .t1) ≡ 11 = search needs in
-    let k : length (a .t2) ≡ 11 = search needs in
+    let h : length (a .t1) ≡ 13 = search needs in
+    let k : length (a .t2) ≡ 13 = search needs in
     (omega arith, next (a .t1) (a .t2) (l .i) (omega arith) (omega arith) (c .if1 .left) (l .inv .1))
 
 returns-2 : tie.Need-returns-2 Inv-loop μ-loop
 returns-2 c =
     let l = c .before .loop in
     let a = c .before .before .args in
-    let h : length (a .t1) ≡ 11 = search needs in
-    let k : length (a .t2) ≡ 11 = search needs in
+    let h : length (a .t1) ≡ 13 = search needs in
+    let k : length (a .t2) ≡ 13 = search needs in
     end (a .t1) (a .t2) (l .i) (omega arith) (omega arith) (l .inv .1)
 
 pub same-drops-spec : {M : Type 1} → statement M

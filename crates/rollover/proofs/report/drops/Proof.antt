@@ -5,10 +5,10 @@ use Rattle.rollover.proofs.report.drops.Statement.{statement}
 use Rattle.rollover.proofs.report.drops.Tie as tie
 
 abbrev Inv-loop : tie.InvT-loop
-Inv-loop d i₀ i = i ≤ 11
+Inv-loop d i₀ i = i ≤ 13
 
 abbrev μ-loop : tie.MeasureT-loop
-μ-loop d i₀ i = 11 - i
+μ-loop d i₀ i = 13 - i
 
 pub drops-spec : {M : Type 1} → statement M
 drops-spec =

@@ -1,6 +1,7 @@
 -- One way for each outcome: the answer and the output are those of the definition. A good outcome leaves what the writer asks.
 use borrow.Author.Needs.{needs}
-use Rattle.tables.specs.Tables.{tablesOf}
+use Rattle.tables.specs.Tables.{noIndex}
+use Rattle.rules.specs.Lent.{tables}
 use Prim.Native.Nat.{_+_}
 use mathlib.Core.Path.{_≡_, refl}
 use native.Mathlib.Omega.{arith}
@@ -21,58 +22,58 @@ remote s = search needs
 finish-requires : tie.Need-finish-requires
 finish-requires c κs =
     let o = c .before .before .before .before .begin in
-    let a = c .before .before .before .before .before .before .before .before .args in
-    may-write (tablesOf (a .keys .now) (a .md5 .now)) (a .segment .now) (a .out .now) (a .state) (o .result) (o .ensures) (c .before .before .outcome .given .1)
+    let a = c .before .before .before .before .before .before .before .before .before .args in
+    may-write (record { keys = a .keys .now; md5 = a .md5 .now }) (a .segment .now) (a .out .now) (a .state) (o .result) (o .ensures) (c .before .before .outcome .given .1)
 
-add-t17 : tie.Need-add-t17
-add-t17 c =
+add-t18 : tie.Need-add-t18
+add-t18 c =
     let p = c .before .before .before .before .before in
     let o = p .before .before .begin in
-    let a = p .before .before .before .before .before .before .args in
-    let w = sum-fits (tablesOf (a .keys .now) (a .md5 .now)) (a .segment .now) (a .out .now) (a .state) (o .result) (o .ensures) (p .outcome .given .1) in
+    let a = p .before .before .before .before .before .before .before .args in
+    let w = sum-fits (record { keys = a .keys .now; md5 = a .md5 .now }) (a .segment .now) (a .out .now) (a .state) (o .result) (o .ensures) (p .outcome .given .1) in
     record { fits = omega (arith, w) }
 
 returns : tie.Need-returns
 returns c =
     let p = c .before .before .before .before .before .before in
     let o = p .before .before .begin in
-    let a = p .before .before .before .before .before .before .args in
-    let n = adds (tablesOf (a .keys .now) (a .md5 .now)) (a .segment .now) (a .out .now) (a .state) (o .result) (o .ensures) (p .outcome .given .1) in
-    let st = p .before .before .before .before .before .before in
-    let b = writes (tablesOf (a .keys .now) (a .md5 .now)) (a .segment .now) (a .out .now) (a .state) (o .result) (o .ensures) (p .outcome .given .1)
+    let a = p .before .before .before .before .before .before .before .args in
+    let n = adds (record { keys = a .keys .now; md5 = a .md5 .now }) (a .segment .now) (a .out .now) (a .state) (o .result) (o .ensures) (p .outcome .given .1) in
+    let st = p .before .before .before .before .before .before .before in
+    let b = writes (record { keys = a .keys .now; md5 = a .md5 .now }) (a .segment .now) (a .out .now) (a .state) (o .result) (o .ensures) (p .outcome .given .1)
     (local st) (remote st) (c .before .before .before .finish .ensures) in
-    let e = answers (tablesOf (a .keys .now) (a .md5 .now)) (a .segment .now) (a .out .now) (a .state) (o .result) (o .ensures) _ (p .outcome .given .1)
-    (λ i. record { answer = S.Signed (length (a .segment .now) + n i); index = 0; state = c .with-sent .ensures i }) in (
+    let e = answers (record { keys = a .keys .now; md5 = a .md5 .now }) (a .segment .now) (a .out .now) (a .state) (o .result) (o .ensures) _ (p .outcome .given .1)
+    (λ i. record { answer = S.Signed (length (a .segment .now) + n i); index = noIndex; state = c .after-signing .ensures i }) in (
       e,
       (
-        outputs (tablesOf (a .keys .now) (a .md5 .now)) (a .segment .now) (a .out .now) (a .state) (o .result) (o .ensures) _ (p .outcome .given .1) b,
-        signed-numbered (tablesOf (a .keys .now) (a .md5 .now)) (a .segment .now) (a .out .now) (a .state) e,
+        outputs (record { keys = a .keys .now; md5 = a .md5 .now }) (a .segment .now) (a .out .now) (a .state) (o .result) (o .ensures) _ (p .outcome .given .1) b,
+        signed-numbered (tables (record { keys = a .keys .now; md5 = a .md5 .now })) (a .segment .now) (a .out .now) (a .state) e,
       ),
     )
 
 returns-2 : tie.Need-returns-2
 returns-2 c =
     let o = c .before .before .before .begin in
-    let a = c .before .before .before .before .before .before .before .args in
+    let a = c .before .before .before .before .before .before .before .before .args in
     let g = c .before .enum-told .given .1 in
-    let e = answers (tablesOf (a .keys .now) (a .md5 .now)) (a .segment .now) (a .out .now) (a .state) (o .result) (o .ensures) Passed g (c .refused .ensures) in (
+    let e = answers (record { keys = a .keys .now; md5 = a .md5 .now }) (a .segment .now) (a .out .now) (a .state) (o .result) (o .ensures) Passed g (c .refused .ensures) in (
       e,
       (
-        outputs (tablesOf (a .keys .now) (a .md5 .now)) (a .segment .now) (a .out .now) (a .state) (o .result) (o .ensures) Passed g refl,
-        signed-numbered (tablesOf (a .keys .now) (a .md5 .now)) (a .segment .now) (a .out .now) (a .state) e,
+        outputs (record { keys = a .keys .now; md5 = a .md5 .now }) (a .segment .now) (a .out .now) (a .state) (o .result) (o .ensures) Passed g refl,
+        signed-numbered (tables (record { keys = a .keys .now; md5 = a .md5 .now })) (a .segment .now) (a .out .now) (a .state) e,
       ),
     )
 
 returns-3 : tie.Need-returns-3
 returns-3 c =
     let o = c .before .before .before .before .begin in
-    let a = c .before .before .before .before .before .before .before .before .args in
+    let a = c .before .before .before .before .before .before .before .before .before .args in
     let g = c .before .before .outcome2 .given .1 in
-    let e = answers (tablesOf (a .keys .now) (a .md5 .now)) (a .segment .now) (a .out .now) (a .state) (o .result) (o .ensures) _ g (c .refused2 .ensures) in (
+    let e = answers (record { keys = a .keys .now; md5 = a .md5 .now }) (a .segment .now) (a .out .now) (a .state) (o .result) (o .ensures) _ g (c .refused2 .ensures) in (
       e,
       (
-        outputs (tablesOf (a .keys .now) (a .md5 .now)) (a .segment .now) (a .out .now) (a .state) (o .result) (o .ensures) _ g refl,
-        signed-numbered (tablesOf (a .keys .now) (a .md5 .now)) (a .segment .now) (a .out .now) (a .state) e,
+        outputs (record { keys = a .keys .now; md5 = a .md5 .now }) (a .segment .now) (a .out .now) (a .state) (o .result) (o .ensures) _ g refl,
+        signed-numbered (tables (record { keys = a .keys .now; md5 = a .md5 .now })) (a .segment .now) (a .out .now) (a .state) e,
       ),
     )
 
@@ -80,5 +81,5 @@ pub sign-spec : {M : Type 1} → statement M
 sign-spec =
     tie.close
     (tie.spec
-    (λ c κs. search needs) (λ c. search needs) finish-requires add-t17 (λ c κs. search needs) (λ c. search needs) (λ c κs. search needs)
+    (λ c κs. search needs) (λ c. search needs) finish-requires add-t18 (λ c κs. search needs) (λ c. search needs) (λ c κs. search needs)
     (λ c. search needs) (λ c κs. search needs) (λ c. search needs) returns returns-2 returns-3)

@@ -6,19 +6,25 @@ use native.Mathlib.Omega.{arith}
 use lib.ListN.{length}
 use lib.Seq.{length-take-le}
 use Rattle.traffic.specs.Flow.{flowOf}
-use Rattle.tcpao.proofs.SignedLaws.{cut, has-room, starts-is}
+use Rattle.tcpao.specs.SignedBytes.{aoForm}
+use Rattle.tcpao.proofs.SignedLaws.{cut, has-room, ao-starts}
 use Rattle.tcpao.proofs.sign_begun.ready.Statement.{statement}
 use Rattle.tcpao.proofs.sign_begun.ready.Tie as tie
 
 slice-aggregate-blank-header : tie.Need-slice-aggregate-blank-header
 slice-aggregate-blank-header c =
     let b = c .before .before in
-    cut (b .args .x) (b .args .secret) (b .args .state) (b .args .segment .now) (b .pre .0) (b .pre .1)
+    cut (aoForm (b .args .secret) (b .args .state)) (b .args .state) (b .args .segment .now) (b .pre .0) (b .pre .1)
+
+add-blank-header : tie.Need-add-blank-header
+add-blank-header c = record { fits = omega (arith, c .before .before .pre .0 .short) }
 
 blank-header-requires : tie.Need-blank-header-requires
 blank-header-requires c κs =
     let b = c .before .before in
-    has-room (b .args .x) (b .args .secret) (b .args .state) (b .args .segment .now) (b .pre .0) (b .pre .1) (b .pre .2)
+    let n = b .pre .2 in
+    has-room (aoForm (b .args .secret) (b .args .state)) (b .args .state) (b .args .segment .now) (b .pre .0) (b .pre .1) n (omega arith)
+    (omega (arith, n)) (omega (arith, n))
 
 -- the header's part of the array
 slice-aggregate-begin : tie.Need-slice-aggregate-begin
@@ -45,8 +51,8 @@ returns c =
     let f = v .before .before in
     let p = f .before .before in
     let b = p .before .before .before in
-    starts-is (b .args .x) (b .args .secret) (b .args .state) (b .args .segment .now) (b .pre .0) (flowOf (f .leaving-flow .result))
-    (v .leaving-hidden .result) (m .begin .result) (p .blank-header .result) (c .leaving-sum .result) (b .pre .1) (b .pre .2)
+    ao-starts (b .args .x) (b .args .secret) (b .args .state) (b .args .segment .now) (b .pre .0) (flowOf (f .leaving-flow .result))
+    (v .leaving-hidden .result) (m .begin .result) (c .leaving-sum .result) (b .pre .1) (b .pre .2)
     (f .leaving-flow .ensures) (v .before .extension-of .ensures) (v .leaving-hidden .ensures) (p .blank-header .ensures) (m .begin .ensures)
     (c .leaving-sum .ensures)
 
@@ -55,6 +61,7 @@ ready-spec =
     tie.close
     (tie.spec
     slice-aggregate-blank-header
+    add-blank-header
     blank-header-requires
     (λ c. search needs)
     (λ c. search needs)
