@@ -12,18 +12,24 @@ use reference::boundary::tcpao_judge;
 
 /// The recordings that the gate compares.
 pub const SEED: u64 = 20_261_116;
-pub const COUNT: usize = 600;
+pub const COUNT: usize = 2_000;
 
 /// A recording: mostly good up to some record, and then with a fault.
 pub fn recording(random: &mut Prng) -> Vec<u8> {
     let pair = tables::pair(random);
     let keys = keys(random, &pair);
     let state = state(random, &pair, &keys);
-    let mut records = joined(random, &table_of(random, &keys));
-    records.push(opening(&any_behind(random, state)));
+    let table = table_of(random, &keys);
+    let mut records = joined(random, &table);
+    records.push(opening(&state));
     records.extend(arrivals(random, &keys, state));
     for _ in 0..random.pick(&[0, 0, 0, 1, 1, 2]) {
         spoil(random, &mut records);
+    }
+    if random.one_in(10) {
+        // It ends between two records, often before the opening.
+        let most = random.pick(&[records.len(), records.len().min(4)]);
+        records.truncate(random.below(most + 1));
     }
     let mut bytes = records.concat();
     match random.below(6) {
@@ -79,18 +85,6 @@ fn state(random: &mut Prng, pair: &Pair, keys: &[Entry]) -> State {
     state
 }
 
-/// A state with any bytes behind its IPv4 addresses; an opening record has its own there.
-fn any_behind(random: &mut Prng, mut state: State) -> State {
-    if state.family == 4 {
-        random
-            .bytes(12)
-            .iter()
-            .enumerate()
-            .for_each(|(i, byte)| state.local[4 + i] = *byte);
-    }
-    state
-}
-
 /// The table's bytes, in one of five with the faults that 10 to 17 refuse, or with more entries than may be.
 fn table_of(random: &mut Prng, keys: &[Entry]) -> Vec<u8> {
     match random.below(20) {
@@ -112,7 +106,8 @@ fn too_long(random: &mut Prng) -> Vec<u8> {
     };
     let mut bytes: Vec<u8> = (0..count).flat_map(|i| one(i).bytes()).collect();
     if random.one_in(4) {
-        let at = ENTRY_ROOM * random.pick(&[0, 62, 63, usize::from(count) - 1]);
+        let last = usize::from(count) - 1;
+        let at = ENTRY_ROOM * random.pick(&[0, 62, last.min(63), last]);
         bytes[at + 2] = 9;
     }
     if random.one_in(4) {
