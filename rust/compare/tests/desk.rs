@@ -6,7 +6,9 @@
 use compare::prng::Prng;
 use compare::recordings::{recording, COUNT, SEED};
 use kit::program::{desk, printed, printed_of};
+use kit::{calls_of, Boundary};
 use std::collections::BTreeMap;
+use std::path::Path;
 
 /// What a line is: a verdict's number, 38 with an index, or a number alone.
 fn kind(line: &str) -> String {
@@ -64,5 +66,52 @@ fn the_program_prints_what_the_reference_does() {
     match program {
         Some(_) => println!("{COUNT} recordings from seed {SEED}: the program desk and the reference print the same"),
         None => println!("target/bin/desk is not there: nothing was compared with it"),
+    }
+}
+
+/// The verdicts of the demonstration's first run at one end, from its stored output, as the desk prints them.
+fn demonstrated(end: &str) -> String {
+    let top = Path::new(env!("CARGO_MANIFEST_DIR")).join("../..");
+    let output = std::fs::read_to_string(top.join("crates/rollover/stdout")).unwrap();
+    let run = output.split("First run").nth(1).unwrap();
+    let run = run.split("After the first run").next().unwrap();
+    let rows = run
+        .lines()
+        .filter(|row| row.contains(&format!("to {end} ")));
+    let verdicts = rows.map(|row| {
+        let number = |behind: &str| {
+            let from = row.find(behind)? + behind.len();
+            let digits = row[from..].chars().take_while(char::is_ascii_digit);
+            digits.collect::<String>().parse::<u32>().ok()
+        };
+        match (number("accept, extension "), number("drop ")) {
+            (Some(extension), None) => (0, extension),
+            (None, Some(number)) => (number, 0),
+            _ => panic!("{row}"),
+        }
+    });
+    let lines = verdicts.enumerate();
+    let lines = lines.map(|(index, (number, extension))| format!("{index} {number} {extension}\n"));
+    lines.collect()
+}
+
+/// The demonstration's first run, recorded at either end, gets at the desk what it got there: across the rollover, with
+/// forgeries and a key change. The same recordings stand in crates/desk/data.
+#[test]
+fn the_demonstration_at_the_desk() {
+    let reference = calls_of!(Boundary, reference::boundary);
+    let stored = Path::new(env!("CARGO_MANIFEST_DIR")).join("../../crates/desk/data");
+    for (name, bytes) in kit::rollover::recordings(reference) {
+        let expected = demonstrated(name.strip_prefix("rollover_to_").unwrap());
+        assert!(expected.lines().count() >= 6);
+        assert_eq!(reference::desk::printed(&bytes), expected, "{name}");
+        if let Some(program) = desk() {
+            assert_eq!(printed(&program, &bytes, 1 << 16), expected, "{name}");
+        }
+        if stored.is_dir() {
+            let same = std::fs::read(stored.join(name)).is_ok_and(|stored| stored == bytes);
+            let how = "cargo run --package reference --example recordings -- ../crates/desk/data";
+            assert!(same, "crates/desk/data/{name} is another: {how} writes it");
+        }
     }
 }

@@ -14,6 +14,7 @@ pub mod linux;
 pub mod pointers;
 pub mod program;
 pub mod recording;
+pub mod rollover;
 pub mod segment;
 pub mod state;
 
