@@ -2796,7 +2796,10 @@ pub const FAULTS: &[Planted] = &[
         breaks: "\"they stand before the one opening\"",
         file: "desk.rs",
         function: "fn read(",
-        edits: &[Before("match (record, connection) {", "if matches!(record, Record::Opening(_)) { connection = None; }")],
+        edits: &[Before(
+            "match (record, connection) {",
+            "if matches!(record, Record::Opening(_)) { connection = None; }",
+        )],
     },
     Planted {
         name: "DeskEntryBehindOpeningTaken",
@@ -2804,12 +2807,15 @@ pub const FAULTS: &[Planted] = &[
         breaks: "\"they stand before the one opening\"",
         file: "desk.rs",
         function: "fn read(",
-        edits: &[Before("match (record, connection) {", "if let (Record::Entry(bytes), Some(_)) = (&record, connection) {
+        edits: &[Before(
+            "match (record, connection) {",
+            "if let (Record::Entry(bytes), Some(_)) = (&record, connection) {
                 table.extend(*bytes);
                 records += 1;
                 rest = behind;
                 continue;
-            }")],
+            }",
+        )],
     },
     Planted {
         name: "DeskEarlySegmentSkipped",
@@ -2817,11 +2823,14 @@ pub const FAULTS: &[Planted] = &[
         breaks: "\"and it before all segments\"",
         file: "desk.rs",
         function: "fn read(",
-        edits: &[Before("match (record, connection) {", "if matches!(record, Record::Segment(_)) && connection.is_none() {
+        edits: &[Before(
+            "match (record, connection) {",
+            "if matches!(record, Record::Segment(_)) && connection.is_none() {
                 records += 1;
                 rest = behind;
                 continue;
-            }")],
+            }",
+        )],
     },
     Planted {
         name: "DeskLineBehindTheLast",
@@ -2829,12 +2838,15 @@ pub const FAULTS: &[Planted] = &[
         breaks: "\"stops it with a last line\"",
         file: "desk.rs",
         function: "fn read(",
-        edits: &[Before("match (record, connection) {", "if connection.is_some() && !matches!(record, Record::Segment(_)) {
+        edits: &[Before(
+            "match (record, connection) {",
+            "if connection.is_some() && !matches!(record, Record::Segment(_)) {
                 *lines += &last_line(stop);
                 records += 1;
                 rest = behind;
                 continue;
-            }")],
+            }",
+        )],
     },
     Planted {
         name: "DeskCutRecordNotReported",
@@ -2842,9 +2854,12 @@ pub const FAULTS: &[Planted] = &[
         breaks: "\"A cut, unknown or misplaced record\"",
         file: "desk.rs",
         function: "fn read(",
-        edits: &[Before("let Some((record, behind))", "if matches!(rest[0], 1..=3) && rest.len() < [131, 48, 1_601][usize::from(rest[0]) - 1] {
+        edits: &[Before(
+            "let Some((record, behind))",
+            "if matches!(rest[0], 1..=3) && rest.len() < [131, 48, 1_601][usize::from(rest[0]) - 1] {
                 break;
-            }")],
+            }",
+        )],
     },
     Planted {
         name: "DeskZeroSkipped",
@@ -2852,10 +2867,13 @@ pub const FAULTS: &[Planted] = &[
         breaks: "\"A cut, unknown or misplaced record\"",
         file: "desk.rs",
         function: "fn read(",
-        edits: &[Before("let Some((record, behind))", "if rest[0] == 0 {
+        edits: &[Before(
+            "let Some((record, behind))",
+            "if rest[0] == 0 {
                 rest = &rest[1..];
                 continue;
-            }")],
+            }",
+        )],
     },
     Planted {
         name: "DeskNoOpeningIsGood",
@@ -2879,12 +2897,15 @@ pub const FAULTS: &[Planted] = &[
         breaks: "\"judged at the opening record\"",
         file: "desk.rs",
         function: "fn read(",
-        edits: &[Before("match (record, connection) {", "if let Record::Entry(bytes) = record {
+        edits: &[Before(
+            "match (record, connection) {",
+            "if let Record::Entry(bytes) = record {
                 match table::read(&[&table[..], bytes].concat()) {
                     Err(refusal) if refusal.number != 10 => return Err(Stop::Opening(refusal.number)),
                     _ => {}
                 }
-            }")],
+            }",
+        )],
     },
     Planted {
         name: "DeskEntryInOneRecord",
@@ -2892,11 +2913,14 @@ pub const FAULTS: &[Planted] = &[
         breaks: "\"All entries, joined in order, make the table\"",
         file: "desk.rs",
         function: "fn read(",
-        edits: &[Before("match (record, connection) {", "if let Record::Entry(bytes) = record {
+        edits: &[Before(
+            "match (record, connection) {",
+            "if let Record::Entry(bytes) = record {
                 if table::read(bytes).is_err_and(|refusal| refusal.number == 10) {
                     return Err(Stop::Opening(10));
                 }
-            }")],
+            }",
+        )],
     },
     Planted {
         name: "DeskEntriesReversed",
@@ -2912,7 +2936,10 @@ pub const FAULTS: &[Planted] = &[
         breaks: "\"an entry length above 129\"",
         file: "desk.rs",
         function: "fn first_record(",
-        edits: &[Instead("body[1..].get(..length)?", "if length == 130 { body } else { body[1..].get(..length)? }")],
+        edits: &[Instead(
+            "body[1..].get(..length)?",
+            "if length == 130 { body } else { body[1..].get(..length)? }",
+        )],
     },
     Planted {
         name: "DeskUsedLength1599",
@@ -2920,7 +2947,10 @@ pub const FAULTS: &[Planted] = &[
         breaks: "\"or a used length above 1,598\"",
         file: "desk.rs",
         function: "fn first_record(",
-        edits: &[Instead("body[2..].get(..length)?", "if length == 1_599 { &body[1..] } else { body[2..].get(..length)? }")],
+        edits: &[Instead(
+            "body[2..].get(..length)?",
+            "if length == 1_599 { &body[1..] } else { body[2..].get(..length)? }",
+        )],
     },
     Planted {
         name: "DeskLongestEntryRefused",
@@ -2960,7 +2990,10 @@ pub const FAULTS: &[Planted] = &[
         breaks: "\"What it prints must be what the live calls would give.\"",
         file: "desk.rs",
         function: "fn first_record(",
-        edits: &[Instead("body[2..].get(..length)?", "{ if length < 20 { return None; } body[2..].get(..length)? }")],
+        edits: &[Instead(
+            "body[2..].get(..length)?",
+            "{ if length < 20 { return None; } body[2..].get(..length)? }",
+        )],
     },
     Planted {
         name: "DeskLengthLittleEndian",
@@ -2976,10 +3009,13 @@ pub const FAULTS: &[Planted] = &[
         breaks: "\"A cut, unknown or misplaced record\"",
         file: "desk.rs",
         function: "fn first_record(",
-        edits: &[Before("let body = recording", "if kind == 3 && (3..1_601).contains(&recording.len()) {
+        edits: &[Before(
+            "let body = recording",
+            "if kind == 3 && (3..1_601).contains(&recording.len()) {
                 let length = usize::from(u16::from_be_bytes([recording[1], recording[2]]));
                 return Some((Record::Segment(recording[3..].get(..length)?), &[]));
-            }")],
+            }",
+        )],
     },
     Planted {
         name: "DeskFamilyBehindTable",
@@ -2987,7 +3023,10 @@ pub const FAULTS: &[Planted] = &[
         breaks: "\"judged at the opening record in 01's order\"",
         file: "desk.rs",
         function: "fn opened(",
-        edits: &[Before("// 18:", "if let Err(refusal) = table::read(table) { return Err(Stop::Opening(refusal.number)); }")],
+        edits: &[Before(
+            "// 18:",
+            "if let Err(refusal) = table::read(table) { return Err(Stop::Opening(refusal.number)); }",
+        )],
     },
     Planted {
         name: "DeskLongTableCut",
@@ -3019,7 +3058,10 @@ pub const FAULTS: &[Planted] = &[
         breaks: "35: \"no entry matching the pair has the outgoing SendID\"",
         file: "desk.rs",
         function: "fn opened(",
-        edits: &[Instead("by_send_id(&entries, &pair, state.outgoing_send_id).is_none()", "!entries.iter().any(|entry| entry.send_id == state.outgoing_send_id)")],
+        edits: &[Instead(
+            "by_send_id(&entries, &pair, state.outgoing_send_id).is_none()",
+            "!entries.iter().any(|entry| entry.send_id == state.outgoing_send_id)",
+        )],
     },
     Planted {
         name: "DeskAskedIdIsSendId",
@@ -3027,7 +3069,10 @@ pub const FAULTS: &[Planted] = &[
         breaks: "35: \"or the RecvID to ask (operator call)\"",
         file: "desk.rs",
         function: "fn opened(",
-        edits: &[Instead("by_recv_id(&entries, &pair, state.asked_recv_id).is_none()", "by_send_id(&entries, &pair, state.asked_recv_id).is_none()")],
+        edits: &[Instead(
+            "by_recv_id(&entries, &pair, state.asked_recv_id).is_none()",
+            "by_send_id(&entries, &pair, state.asked_recv_id).is_none()",
+        )],
     },
     Planted {
         name: "DeskNumberNotAlone",
@@ -3051,7 +3096,10 @@ pub const FAULTS: &[Planted] = &[
         breaks: "the reading of kind 2: \"our ISN, the peer's ISN (four each)\"",
         file: "desk.rs",
         function: "fn just_opened(",
-        edits: &[Behind("state.remote.copy_from_slice(&body[31..47]);", "std::mem::swap(&mut state.our_isn, &mut state.peer_isn);")],
+        edits: &[Behind(
+            "state.remote.copy_from_slice(&body[31..47]);",
+            "std::mem::swap(&mut state.our_isn, &mut state.peer_isn);",
+        )],
     },
     Planted {
         name: "DeskStillOpening",
@@ -3075,7 +3123,10 @@ pub const FAULTS: &[Planted] = &[
         breaks: "\"a drop's extension prints as 0\"",
         file: "desk.rs",
         function: "fn judged(",
-        edits: &[Instead("(refusal.number, 0)", "(refusal.number, (state.arriving_reference >> 32) as u32)")],
+        edits: &[Instead(
+            "(refusal.number, 0)",
+            "(refusal.number, (state.arriving_reference >> 32) as u32)",
+        )],
     },
     Planted {
         name: "DeskAcceptPrintsOne",

@@ -8,7 +8,8 @@
 //! from.
 //!
 //! [`calls`] has the calls with values in and out, [`boundary`] the same calls over lent bytes, as
-//! C sees them; [`desk`] has what the program `desk` prints. The package `faulty` is this text with one of its rules turned round on purpose.
+//! C sees them; [`desk`] has what the program `desk` prints. The package `faulty` is this text with one of its
+//! rules turned round on purpose.
 //!
 //! `NOTES.md` lists what document 01 leaves open and how it was decided here.
 
