@@ -9,9 +9,9 @@ use borrow.Author.Tests.{lt-ltb, le-ltb}
 use Rattle.wire.specs.declared.options.Options.{Options}
 use Rattle.wire.specs.declared.header.Header.{Header}
 use Rattle.rules.specs.declared.Outcome.{Outcome}
-use Rattle.rules.specs.declared.Outcome.the-variants.{Good, Bad}
+use Rattle.rules.specs.declared.Outcome.the-variants.{Good}
 use Rattle.rules.specs.declared.Place.{Place}
-use Rattle.rules.specs.declared.Place.the-variants.{At}
+use Rattle.rules.specs.declared.Place.the-variants.{At, Nowhere}
 use Rattle.rules.specs.declared.Connection.{Connection}
 use Rattle.rules.specs.declared.State.{State}
 use Rattle.octets.specs.Tests.{tests, first}
@@ -26,30 +26,33 @@ fresh-is y e q = q ∙ ap (λ (k : Options). first (freshLines k) unrefused) (sy
 
 -- 32
 module _ (added end len : ℕ) where
-  pub too-wide : 60 < added → Bad 32 0 ≡ first (growthLines added end len) unrefused
+  pub too-wide : 60 < added → refuse 32 ≡ first (growthLines added end len) unrefused
   too-wide h = yes _ _ (lt-ltb 60 (end + added) (omega arith)) refl
 
-  pub long-header : added ≤ 60 → 60 - added < end → Bad 32 0 ≡ first (growthLines added end len) unrefused
+  pub long-header : added ≤ 60 → 60 - added < end → refuse 32 ≡ first (growthLines added end len) unrefused
   long-header h k = yes _ _ (lt-ltb 60 (end + added) (omega arith)) refl
 
-  pub long-segment : added ≤ 60 → end ≤ 60 - added → 65535 - added < len → Bad 32 0 ≡ first (growthLines added end len) unrefused
+  pub long-segment : added ≤ 60 → end ≤ 60 - added → 65535 - added < len → refuse 32 ≡ first (growthLines added end len) unrefused
   long-segment h k l = no _ _ (le-ltb 60 (end + added) (omega arith)) (yes _ _ (lt-ltb 65535 (len + added) (omega arith)) refl)
 
   pub grows : added ≤ 60 → end ≤ 60 - added → len ≤ 65535 - added → unrefused ≡ first (growthLines added end len) unrefused
   grows h k l = no _ _ (le-ltb 60 (end + added) (omega arith)) (no _ _ (le-ltb 65535 (len + added) (omega arith)) refl)
 
 -- 36
+pub unplaced : (l : Connection) (p : Place) (s : Bool) → p ≡ Nowhere → refuse 36 ≡ first (placeLines l p s) unrefused
+unplaced l p s e = sym (ap (λ (p : Place). first (placeLines l p s) unrefused) e)
+
 pub placed : (l : Connection) (p : Place) (x : ℕ) (b s : Bool) → p ≡ At x → b ≡ s
-    → cond (b && not (eqb x (l .isn))) (Bad 36 0) unrefused ≡ first (placeLines l p s) unrefused
+    → cond (b && not (eqb x (l .isn))) (refuse 36) unrefused ≡ first (placeLines l p s) unrefused
 placed l p x b s e q =
     (λ i. cond (q i && not (eqb x (l .isn))) (refuse 36) unrefused) ∙ ap (λ (p : Place). first (placeLines l p s) unrefused) (sym e)
 
 -- 37
 module _ (room added len : ℕ) where
-  pub no-room : room < added → Bad 37 0 ≡ first (tests (refuse 37) (ltb room (len + added) ∷ [])) unrefused
+  pub no-room : room < added → refuse 37 ≡ first (tests (refuse 37) (ltb room (len + added) ∷ [])) unrefused
   no-room h = yes _ _ (lt-ltb room (len + added) (omega arith)) refl
 
-  pub little-room : added ≤ room → room - added < len → Bad 37 0 ≡ first (tests (refuse 37) (ltb room (len + added) ∷ [])) unrefused
+  pub little-room : added ≤ room → room - added < len → refuse 37 ≡ first (tests (refuse 37) (ltb room (len + added) ∷ [])) unrefused
   little-room h k = yes _ _ (lt-ltb room (len + added) (omega arith)) refl
 
   pub room-enough : added ≤ room → len ≤ room - added → unrefused ≡ first (tests (refuse 37) (ltb room (len + added) ∷ [])) unrefused

@@ -1,6 +1,6 @@
 -- What the steps of a judging that has begun come to (src/begun.rt). Assumes nothing.
 use Prim.Native.Nat.{ℕ, _+_, _-_, _≤_, min}
-use mathlib.Core.Path.{_≡_, refl, sym, ap, _∙_}
+use mathlib.Core.Path.{_≡_, refl, sym, ap, subst, _∙_}
 use mathlib.Core.Bool.{Bool, true, false, not}
 use mathlib.Core.List.{List, _++_}
 use mathlib.Core.Logic.{inl, inr}
@@ -17,20 +17,31 @@ use Rattle.rules.specs.declared.Outcome.{Outcome}
 use Rattle.rules.specs.declared.Outcome.the-variants.{Good, Passed, Bad}
 use Rattle.rules.specs.declared.Hidden.{Hidden}
 use Rattle.rules.specs.Mac.{Flow, arrivingHidden}
-use Rattle.rules.specs.Segment.{ao}
-use Rattle.rules.specs.Connection.{extensionOf}
+use Rattle.rules.specs.Segment.{ao, md5}
+use Rattle.rules.specs.Connection.{extensionOf, aoWay, md5Way}
 use Rattle.rules.specs.Calls.{refuse}
-use Rattle.traffic.specs.MacContext.{MacView, macView, macAbsorb, macFinished, frontedBy}
+use Rattle.traffic.specs.MacContext.{MacView, macView, macAbsorb, macFinished, frontedBy, digestedBy}
 use Rattle.traffic.specs.declared.context.MacContext.{MacContext}
 use Rattle.checks.specs.GroupLaws.{Else}
-use Rattle.checks.specs.Begin.{Begins, Fed, macLength, agrees, ended}
+use Rattle.checks.specs.Begin.{Expected, byAo, byMd5, Ready, Begins, Fed, macLength, agrees, ended}
 use Rattle.checks.specs.declared.begun.Begun.{Begun}
-use Rattle.checks.proofs.Keyed.{lies}
+use Rattle.checks.proofs.Keyed.{lies, lies-md5}
 
 -- bytes at the front of zeros
 pub front-of : (n : ℕ) (x : List ℕ) {r : List ℕ} → r ≡ paste (replicate n 0) 0 x (length x) → take (length x) r ≡ x
 front-of n x e =
     ap (take (length x)) (e ∙ ap (λ (l : List ℕ). l ++ drop (0 + length x) (replicate n 0)) (take-length x)) ∙ take-at x (drop (0 + length x) (replicate n 0)) (length x) refl
+
+-- what was made ready at x
+pub starts : (w : ℕ → Expected) (x r : ℕ) (b : Begun) → b .outcome ≡ Good x r → Ready (w x) b → Begins (Good x r) w b
+starts w x r b o h = record { outcome = o; ready = λ y u g. let at : x ≡ y = cc in subst (λ (k : ℕ). Ready (w k) b) at h }
+
+-- the MAC that was carried, of m bytes at the place i of the header
+carried-is : (s : List ℕ) (i : ℕ) {n m : ℕ} (k : List ℕ) → i + m ≤ length s → n ≡ m → take (length (take n (drop i s))) k ≡ take n (drop i s)
+    → take m k ≡ take m (drop i s)
+carried-is s i {n} {m} k h e q =
+    let l : length (take n (drop i s)) ≡ m = length-take-le n (drop i s) (omega (arith, length-drop i s, h, e)) ∙ e in
+    ap (λ (j : ℕ). take j k) (sym l) ∙ q ∙ ap (λ (j : ℕ). take j (drop i s)) e
 
 -- behind 28
 module _ (x rnext : ℕ) (e : Entry) (f : Flow) (s : List ℕ) {o : Occurrence} (is : o ≡ ao s) (formed : wellSized s ≡ true) (long : o .len ≡ 4 + e .secret .«mac_bytes»)
@@ -38,29 +49,43 @@ module _ (x rnext : ℕ) (e : Entry) (f : Flow) (s : List ℕ) {o : Occurrence} 
   pub ready-is : end ≡ headerEnd s → ext ≡ extensionOf x → h ≡ arrivingHidden (e .secret) → n ≡ e .secret .«mac_bytes»
       → macView m ≡ frontedBy (e .secret) h f ext (20 + o .at) (length s) (take end s)
       → take (length (take n (drop (20 + o .at + 4) s))) k ≡ take n (drop (20 + o .at + 4) s)
-      → Begins (Good x rnext) e f s (record { outcome = Good x rnext; ids = e .ids; mac = m; carried = k; «mac_bytes» = e .secret .«mac_bytes» })
+      → Begins (Good x rnext) (byAo e f s)
+      (record { outcome = Good x rnext; way = aoWay; ids = e .ids; mac = m; carried = k; «mac_bytes» = e .secret .«mac_bytes» })
   ready-is ends extends hides counts macs carries =
-      record {
-        outcome = refl;
-        ready = λ y r g.
-            let at : x ≡ y = cc in
-            record {
-              ids = refl;
-              bytes = refl;
-              short = short;
-              carried = ap (λ (j : ℕ). take j k) (sym all) ∙ carries ∙ (λ i. take (cut i) (drop (20 + is i .at + 4) s));
-              mac = macs
-                  ∙ (λ i. frontedBy (e .secret) (hides i) f ((extends ∙ ap extensionOf at) i) (20 + is i .at) (length s) (take (ends i) s));
-            };
-      }
+      starts (byAo e f s) x rnext _ refl
+      (record {
+        way = refl;
+        ids = refl;
+        bytes = refl;
+        short = short;
+        carried =
+            let l = lies s formed is in
+            carried-is s (20 + o .at + 4) k (omega (arith, l .header, l .segment, long)) counts carries ∙ (λ i. take (cut i) (drop (20 + is i .at + 4) s));
+        mac = macs ∙ (λ i. frontedBy (e .secret) (hides i) f (extends i) (20 + is i .at) (length s) (take (ends i) s));
+      })
     where
-      all : length (take n (drop (20 + o .at + 4) s)) ≡ e .secret .«mac_bytes»
-      all =
-          let l = lies s formed is in
-          length-take-le n (drop (20 + o .at + 4) s) (omega (arith, length-drop (20 + o .at + 4) s, l .header, l .segment, long, counts)) ∙ counts
+      cut : e .secret .«mac_bytes» ≡ ao s .len - 4
+      cut = omega (arith, long, ap (λ (k : Occurrence). k .len) is)
 
-      cut : n ≡ ao s .len - 4
-      cut = omega (arith, counts, long, ap (λ (k : Occurrence). k .len) is)
+-- behind 27, by MD5
+module _ (number : ℕ) (e : Entry) (f : Flow) (s : List ℕ) {o : Occurrence} (is : o ≡ md5 s) (formed : wellSized s ≡ true) (long : o .len ≡ 18)
+    {end n : ℕ} (m : MacContext) (k : List ℕ) where
+  pub ready-md5-is : end ≡ headerEnd s → n ≡ 16 → macView m ≡ digestedBy (e .secret) f (length s) (take end s)
+      → take (length (take n (drop (20 + o .at + 2) s))) k ≡ take n (drop (20 + o .at + 2) s)
+      → Begins (Good number 0) (byMd5 e f s)
+      (record { outcome = Good number 0; way = md5Way; ids = record { send = 0; recv = 0 }; mac = m; carried = k; «mac_bytes» = 16 })
+  ready-md5-is ends counts macs carries =
+      starts (byMd5 e f s) number 0 _ refl
+      (record {
+        way = refl;
+        ids = refl;
+        bytes = refl;
+        short = omega arith;
+        carried =
+            let l = lies-md5 s formed is in
+            carried-is s (20 + o .at + 2) k (omega (arith, l .header, l .segment, long)) counts carries ∙ (λ i. take 16 (drop (20 + is i .at + 2) s));
+        mac = macs ∙ (λ i. digestedBy (e .secret) f (length s) (take (ends i) s));
+      })
 
 -- the end
 pub ended-else : (o : Outcome) (same : Bool) → Else o → o ≡ ended o same

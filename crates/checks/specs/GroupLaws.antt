@@ -8,8 +8,8 @@ use mathlib.Core.Logic.{_⊎_, inl, inr}
 use native.Mathlib.Omega.{arith}
 use denote.Enum.Declared.{tagOf}
 use Rattle.rules.proofs.Outcome.{the-type}
-use Rattle.keys.specs.declared.table.Loaded.{Loaded}
-use Rattle.keys.specs.declared.table.Loaded.the-variants.{Valid, Refused}
+use Rattle.tables.specs.declared.Admitted.{Admitted}
+use Rattle.tables.specs.declared.Admitted.the-variants.{Valid, Refused}
 use Rattle.rules.specs.declared.Outcome.{Outcome}
 use Rattle.rules.specs.declared.Outcome.the-variants.{Good, Passed, Bad}
 use Rattle.octets.specs.Tests.{Test, first}
@@ -74,7 +74,7 @@ stop a y e h = decided a [] y e h ∙ first-append a [] y
 pub pass : (a : List (Test Outcome)) {z w y : Outcome} {x r : ℕ} → eachGives isFinal a ≡ true → z ≡ first a unrefused → z ≡ Good x r → w ≡ y → w ≡ first a y
 pass a {y = y} f e g q = behind a [] y e f g q ∙ first-append a [] y
 
--- the table's numbers are refusals
-pub refusal-final : (c : Loaded) → isFinal (refusal c) ≡ true
+-- the tables' numbers are refusals
+pub refusal-final : (c : Admitted) → isFinal (refusal c) ≡ true
 refusal-final (Valid n) = refl
 refusal-final (Refused n i) = refl

@@ -9,7 +9,7 @@ use Rattle.wire.specs.Options.{isMalformed, aoIn, md5In}
 use Rattle.wire.specs.declared.options.Options.{Options}
 use Rattle.wire.specs.declared.header.Header.{Header}
 use Rattle.keys.specs.declared.entry.Pair.{Pair}
-use Rattle.keys.specs.Table.{Tables}
+use Rattle.tables.specs.Tables.{Tables}
 use Rattle.rules.specs.declared.Outcome.{Outcome}
 use Rattle.rules.specs.declared.Outcome.the-variants.{Good}
 use Rattle.rules.specs.declared.Place.{Place}

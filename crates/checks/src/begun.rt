@@ -5,7 +5,7 @@ ghost use mathlib.Core.Path.{_≡_};
 ghost use mathlib.Core.Bool.{true, false};
 ghost use Prim.Native.Nat.{_+_, _≤_, min};
 ghost use lib.ListN.{length, take, drop};
-ghost use Rattle.wire.specs.Header.{headerEnd, wellSized, sequence};
+ghost use Rattle.wire.specs.Header.{headerEnd, wellSized};
 ghost use Rattle.octets.specs.Tests.{first};
 ghost use Rattle.rules.specs.Segment.{ao, ao as aoOf, md5 as md5Of};
 ghost use Rattle.rules.specs.Calls.{keyTests, md5Tests, goodBy};
@@ -163,8 +163,7 @@ pub(crate) fn by_md5(
     option: Occurrence,
     segment: &[u8],
 ) -> Begun
-    requires { ⌜ (option ≡ md5Of (now segment)) × (ao ≡ aoOf (now segment) .count) × (wellSized (now segment) ≡ true)
-        × (number ≡ sequence (now segment)) ⌝ }
+    requires { ⌜ (option ≡ md5Of (now segment)) × (ao ≡ aoOf (now segment) .count) × (wellSized (now segment) ≡ true) ⌝ }
     ensures { λ r. ⌜ Begins (first (md5Tests found (now (segment .entry))) (goodBy true (At number) (now (segment .entry))))
         (byMd5 (found .entry) (flowOf flow) (now (segment .entry))) r ⌝ }
 {

@@ -4,6 +4,7 @@ ghost use mathlib.Core.Path.{_≡_};
 ghost use mathlib.Core.Bool.{not, _&&_};
 ghost use mathlib.Core.List.{_++_};
 ghost use Rattle.octets.specs.Tests.{first};
+ghost use Rattle.tables.specs.Tables.{tablesOf};
 ghost use Rattle.rules.specs.Connection.{arrivalOf};
 ghost use Rattle.rules.specs.Calls.{unrefused, familyTests, addressTests, tableTests, inputTests, stateTests, lengthTests, sumTests};
 ghost use Rattle.checks.specs.Groups.{intactTests, countTests, optionTests, headerPairTests, headerStageTests, headerSynTests};

@@ -4,6 +4,7 @@ ghost use mathlib.Core.Path.{_≡_};
 ghost use mathlib.Core.Bool.{not};
 ghost use mathlib.Core.List.{[], _∷_, _++_};
 ghost use Rattle.octets.specs.Tests.{test, first};
+ghost use Rattle.tables.specs.Tables.{tablesOf};
 ghost use Rattle.rules.specs.Calls.{refuse, tableTests, askTests, unrefused};
 use crate::faults::family_faults;
 use crate::faults::table_faults;

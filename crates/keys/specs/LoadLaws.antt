@@ -20,7 +20,6 @@ use Rattle.keys.specs.MatchLaws.{and-true, Fields, clash-conflict, confl
 use Rattle.keys.specs.Table.{numberOf, clashing, entryTests, ownTests, loadTests, loadedFrom, loaded}
 use Rattle.keys.specs.declared.entry.Entry.{Entry}
 use Rattle.keys.specs.declared.table.TableKind.{TableKind}
-use Rattle.keys.specs.declared.table.TableKind.the-variants.{Md5}
 use Rattle.keys.specs.declared.table.Loaded.the-variants.{Valid, Refused}
 use Rattle.keys.specs.FaultLaws.{number-none, number-low, last-given, given-last, item-lacks, own-lacks, item-low, none-passed, passed-none, listed-sound}
 use Rattle.keys.specs.PlaceLaws.{each-at, at-seam, at-left, at-below, Apart, Clear, clear-apart, apart-clear, clashing-in}

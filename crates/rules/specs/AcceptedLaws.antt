@@ -3,6 +3,7 @@ use Prim.Native.Nat.{ℕ, _-_}
 use mathlib.Core.Path.{_≡_, refl, ap, ap₂, sym, _∙_, subst⁻¹}
 use mathlib.Core.Bool.{Bool, true, false, cond, not, _&&_}
 use mathlib.Core.List.{List}
+use mathlib.Core.Logic.{_⊎_, inl, inr}
 use native.Mathlib.Omega.{arith}
 use lib.ListN.{length, take, replicate, length-append, length-replicate}
 use lib.Seq.{length-take-le}
@@ -14,12 +15,14 @@ use Rattle.keys.specs.declared.entry.Pair.{Pair}
 use Rattle.keys.specs.declared.entry.Entry.{Entry}
 use Rattle.keys.specs.Entry.{isFamily, width, padded}
 use Rattle.keys.specs.EntryLaws.{width-le}
+use Rattle.keys.specs.FormedLaws.{KeyProper}
 use Rattle.keys.specs.MatchLaws.{and-true}
 use Rattle.keys.specs.Places.{At as EntryAt}
 use Rattle.keys.specs.Mirror.{Mirror}
 use Rattle.keys.specs.declared.table.Found.{Found}
 use Rattle.tables.specs.Tables.{Tables, recvEntry}
 use Rattle.tables.specs.Valid.{ValidTables}
+use Rattle.tables.specs.ValidLaws.{valid-key}
 use Rattle.tables.specs.Search.{hit}
 use Rattle.tables.specs.SearchLaws.{recv-found, send-holder, uncrossed}
 use Rattle.rules.specs.declared.Place.{Place}
@@ -44,7 +47,8 @@ use Rattle.rules.specs.Lent.{tables}
 use Rattle.rules.specs.Ends.{Typed, Allowed, FacingUnder, OtherEnd, Delivered, SignedAt, TrueSegment}
 use Rattle.rules.specs.Demand3.{Within}
 use Rattle.rules.specs.RoundTripLaws.{Arrived}
-use Rattle.rules.specs.DeliveryLaws.{address-length, outgoing-ao, signs, mac, reads}
+use Rattle.rules.specs.DeliveryLaws.{address-length, outgoing-ao, outgoing-md5, signs, mac, reads}
+use Rattle.rules.specs.LentLaws.{lent-found-md5}
 use Rattle.rules.specs.AcceptanceLaws.{sequence-below, agree-of, syn-at, none-20, none-21, none-10, keyed}
 
 pub sized-by : (f : ℕ) (a b : List ℕ) → length a ≡ width f → length b ≡ width f → sized a b ≡ true
@@ -279,10 +283,32 @@ module _ (q : State) (typed : Typed q) (way : isMd5 (q .conn) ≡ false) (openin
           (synUnknown t (arrivalPair a) strict) (arrivingSyn a) (sequence syn-came) (v .source) (v .destination) refl refl syn-number
           (ap (λ (w : Bool). cond w (q .conn .«peer_isn») 0) (sym opening)) (ap extensionOf (syn-number ∙ sym (syn-at q e x b g its-syn)))
 
--- A true segment of demand 3 is such a one.
+-- A true segment of demand 3 is such a one. By MD5 it would be signed under an entry of algorithm 19, which no key entry mirrors.
+no-md5 : (a : ℕ) → (a ≡ 1) ⊎ ((a ≡ 2) ⊎ (a ≡ 3)) → a ≡ 19 → ⊥
+no-md5 a (inl h) z = let y : _≡_ {A = ℕ} 1 19 = sym h ∙ z in omega arith
+no-md5 a (inr (inl h)) z = let y : _≡_ {A = ℕ} 2 19 = sym h ∙ z in omega arith
+no-md5 a (inr (inr h)) z = let y : _≡_ {A = ℕ} 3 19 = sym h ∙ z in omega arith
+
+signed-by-ao : (q : State) (e ours : Entry) (x : ℕ) (b : List ℕ) → SignedAt q e x b → KeyProper ours → ours .secret .algorithm ≡ e .secret .algorithm
+    → isMd5 (q .conn) ≡ false
+signed-by-ao q e ours x b g proper same = go (isMd5 (q .conn)) refl
+  where
+    go : (w : Bool) → isMd5 (q .conn) ≡ w → isMd5 (q .conn) ≡ false
+    go false way = way
+    go true way =
+        let o = outgoing-md5 (tables (g .lent)) q way in
+        let m =
+        lent-found-md5 (g .lent) (q .conn .pair) (signs q e x b g .taken) (sym (ap (λ (f : Found). f .there) o) ∙ signs q e x b g .entry)
+        in
+        let its : e .secret .algorithm ≡ 19 =
+        ap (λ (f : Entry). f .secret .algorithm) (sym (g .under)) ∙ ap (λ (f : Found). f .entry .secret .algorithm) o ∙ m .algorithm
+        in
+        absurd (no-md5 (ours .secret .algorithm) (proper .algorithm) (same ∙ its))
+
 pub true-good : (t : Tables) → ValidTables t → (l : Connection) → isMd5 l ≡ false → Allowed l → length (l .pair .local) ≡ 16 → length (l .pair .remote) ≡ 16
     → (reference : ℕ) (a : Arrival) (x r : ℕ) → TrueSegment t l a x r → Within reference x → check t l reference a ≡ Good x r
 true-good t valid l way allowed local remote reference a x r s near =
-    open-accepted (s .peer) (s .typed) (s .way) (s .theirs) x (s .bytes) (s .signed) l a (s .delivered) (s .other .pair) t valid (s .place)
+    open-accepted (s .peer) (s .typed)
+    (signed-by-ao (s .peer) (s .theirs) (s .ours) x (s .bytes) (s .signed) (valid-key valid (s .among)) (s .mirror .algorithm)) (s .theirs) x (s .bytes) (s .signed) l a (s .delivered) (s .other .pair) t valid (s .place)
     (s .ours) (s .among) (s .mirror) way allowed local remote (s .other) reference near
     ∙ ap (Good x) (s .asks)

@@ -15,6 +15,7 @@ use Rattle.keys.specs.Entry.{isFamily, localHidden, remoteHidden, keyOf}
 use Rattle.keys.specs.Places.{At as EntryAt}
 use Rattle.keys.specs.Match.{matches}
 use Rattle.keys.specs.Mirror.{Mirror}
+use Rattle.tables.specs.declared.Admitted.the-variants.{Valid}
 use Rattle.tables.specs.Tables.{Tables, recvEntry}
 use Rattle.tables.specs.Valid.{ValidTables}
 use Rattle.rules.specs.declared.Place.the-variants.{At}
@@ -25,7 +26,7 @@ use Rattle.rules.specs.declared.Signed.{Signed}
 use Rattle.rules.specs.Mac.{arrivingHidden, segmentMac}
 use Rattle.rules.specs.Checksum.{sumsRight}
 use Rattle.rules.specs.Segment.{malformed, ao, md5, aoAt, keyId, macIn, isBareSyn}
-use Rattle.rules.specs.Connection.{Arrival, localAddress, remoteAddress, isOpen, isMd5, arriving, placeOn, slots}
+use Rattle.rules.specs.Connection.{Arrival, localAddress, remoteAddress, isOpen, arriving, placeOn, slots}
 use Rattle.rules.specs.Calls.{outgoing, signed, output}
 use Rattle.rules.specs.Lent.{Lent, tables}
 
@@ -101,6 +102,10 @@ pub record SignedAt (q : State) (e : Entry) (x : ℕ) (bytes : List ℕ) : Type 
   pub under : outgoing (tables lent) q .entry ≡ e
   pub position : placeOn (q .conn) (q .sent) (sequence unsigned) ≡ At x
 
+-- Of bytes, valid is what is not refused: so of lent tables the demands ask no more than their answer.
+abbrev pub LentValid : Type 0
+LentValid = (b : Lent) (n : ℕ) → tables b .answer ≡ Valid n → ValidTables (tables b)
+
 -- "it holds the mirrored key in a valid table": of the other end's entry e, on the connection whose pair this end holds as p and that end
 -- as q. Ticket 9: "the MD5 table given beside the key table is not refused (10 to 17, 45)"
 pub record Holds (t : Tables) (p q : Pair) (e : Entry) : Type 0 where
@@ -126,12 +131,11 @@ pub record HoldsMd5 (t : Tables) (p q : Pair) (e : Entry) : Type 0 where
 
 -- "A true segment was signed at the other end, in a state open on this connection .., under a mirror of one of the table's entries; it
 -- arrives with our state's pair and as signed, except perhaps for its checksum."; Ticket 10: "Demand 3's true segments come so too",
--- rewritten on a side whose bit is set. Its position is x, and it asks for the key r.
+-- rewritten on a side whose bit is set. Its position is x, and it asks for the key r. That it was signed by TCP-AO follows: in valid tables
+-- a key entry's algorithm is no MD5 entry's.
 pub record TrueSegment (t : Tables) (l : Connection) (a : Arrival) (x r : ℕ) : Type 0 where
   pub peer : State
   pub typed : Typed peer
-  -- it signs by TCP-AO
-  pub way : isMd5 (peer .conn) ≡ false
   pub ours : Entry
   pub theirs : Entry
   pub place : ℕ

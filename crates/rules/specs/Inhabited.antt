@@ -1,23 +1,25 @@
 -- The demands are not empty: one connection across a rollover, with three true arrivals, under entries of two kinds and through address
--- translation, and one of the other sort, of which demand 3 holds; and a bare SYN that demand 2 accepts, by TCP-AO and by MD5; and one
--- whose KeyID is unknown. As statements, with the MAC and the digest shut: they are whatever they are. InhabitedLaws proves them.
+-- translation, and one of the other sort, of which demand 3 holds; and a bare SYN that demand 2 accepts, by TCP-AO and by MD5; by MD5 also
+-- the SYN+ACK that answers it and a segment once open; and a bare SYN whose KeyID is unknown. As statements, with the MAC and the digest shut: they are whatever they are. InhabitedLaws proves them.
 use Prim.Native.Nat.{ℕ}
 use mathlib.Core.Path.{_≡_}
 use mathlib.Core.Bool.{true, false}
 use mathlib.Core.List.{List, [], _∷_, _++_}
 use lib.ListN.{replicate}
+use Rattle.wire.specs.Header.{syn}
 use Rattle.keys.specs.declared.entry.Entry.{Entry}
 use Rattle.keys.specs.declared.entry.Pair.{Pair}
 use Rattle.keys.specs.Entry.{entryOf}
 use Rattle.tables.specs.Tables.{Tables, noIndex, tablesOf, anyEntry}
 use Rattle.rules.specs.declared.Verdict.the-variants.{Accept, Pass, Drop}
 use Rattle.rules.specs.declared.State.{State}
-use Rattle.rules.specs.Connection.{Arrival, arrivalPair, isOpen, isMd5, slots}
-use Rattle.rules.specs.Calls.{judgedSyn, signedSegment}
+use Rattle.rules.specs.Connection.{Arrival, arrivalPair, isOpen, isMd5, slots, opened, withCounted}
+use Rattle.rules.specs.Calls.{judged, judgedSyn, openedPassively, signedSegment}
 use Rattle.rules.specs.Lent.{Lent, tables}
 use Rattle.rules.specs.Ends.{Typed, Facing, FacingUnder, Delivered, SignedAt, Holds, HoldsMd5, TrueSegment, Verifies}
-use Rattle.rules.specs.Demand2.{rewritten}
-use Rattle.rules.specs.Demand3.{Arriving, real, other, Given, Demand3}
+use Rattle.rules.specs.Demand2.{sent, rewritten}
+use Rattle.rules.specs.Demand2Md5.{OtherEndMd5}
+use Rattle.rules.specs.Demand3.{Within, Arriving, real, other, Given, Demand3}
 use Rattle.rules.specs.Passes.{UnknownKey}
 
 -- an entry of kind 4 with its flags, for every IPv4 pair, HMAC-SHA-1, the key 01 02
@@ -219,6 +221,46 @@ pub record BareSynMd5NotEmpty : Type 0 where
   pub delivered : Delivered (arrivalPair (fromThem synBytesMd5)) synBytesMd5 (fromThem synBytesMd5)
   pub holds : HoldsMd5 (tables md5Table) (arrivalPair (fromThem synBytesMd5)) (md5Opener .conn .pair) (entryOf md5Entry4)
   pub accepted : judgedSyn (tables md5Table) (fromThem synBytesMd5) true ≡ record { verdict = Accept 0; index = noIndex }
+
+-- We opened passively on that SYN with the ISN 100, and answer it: what SynAckMd5 and OpenedTogetherMd5 are given, and what the latter gives.
+
+abbrev pub md5Passive : State
+md5Passive = opened 1 ourPair 100 4294967280 0 0
+
+abbrev pub synAckSegment : List ℕ
+synAckSegment = 233 ∷ 215 ∷ 0 ∷ 179 ∷ 0 ∷ 0 ∷ 0 ∷ 100 ∷ 255 ∷ 255 ∷ 255 ∷ 241 ∷ 80 ∷ 18 ∷ 128 ∷ 0 ∷ 0 ∷ 0 ∷ 0 ∷ 0 ∷ []
+
+abbrev pub synAckBytes : List ℕ
+synAckBytes = signedSegment (entryOf md5Entry4) md5Passive 100 synAckSegment
+
+pub record OpenedMd5NotEmpty : Type 0 where
+  pub conn : md5Passive .conn ≡ openedPassively (tables md5Table) (fromThem synBytesMd5) 100 true .state .conn
+  pub typed : Typed md5Passive
+  pub signed : SignedAt md5Passive (entryOf md5Entry4) 100 synAckBytes
+  pub its-syn : syn (signed .unsigned) ≡ true
+  pub facing : Facing theirPair ourPair
+  pub delivered : Delivered theirPair synAckBytes (sent md5Passive synAckBytes)
+  pub holds : HoldsMd5 (tables md5Table) theirPair ourPair (entryOf md5Entry4)
+  pub together : OtherEndMd5 (judged (tables md5Table) (sent md5Passive synAckBytes) md5Opener .state) md5Passive
+
+-- Once open, the number 16 comes, more than 2^31 from the references of both ends: "MD5 asks no reference".
+
+abbrev pub md5Theirs : State
+md5Theirs = opened 1 theirPair 4294967280 100 0 0
+
+abbrev pub openBytesMd5 : List ℕ
+openBytesMd5 = signedSegment (entryOf md5Entry4) md5Theirs 16 segment
+
+pub record OpenMd5NotEmpty : Type 0 where
+  pub far-there : Within (md5Theirs .sent) 16 → ⊥
+  pub far-here : Within (md5Passive .seen) 16 → ⊥
+  pub typed : Typed md5Theirs
+  pub facing : Facing ourPair theirPair
+  pub signed : SignedAt md5Theirs (entryOf md5Entry4) 16 openBytesMd5
+  pub delivered : Delivered ourPair openBytesMd5 (fromThem openBytesMd5)
+  pub holds : HoldsMd5 (tables md5Table) ourPair theirPair (entryOf md5Entry4)
+  pub accepted : judged (tables md5Table) (fromThem openBytesMd5) md5Passive
+      ≡ record { verdict = Accept 0; index = noIndex; state = withCounted md5Passive }
 
 -- A bare SYN with the KeyID 85, where our entries have the RecvIDs 84, 94 and 74.
 

@@ -7,10 +7,11 @@ use native.Mathlib.Omega.{arith}
 use lib.ListN.{length, take, drop, replicate}
 use lib.Seq.{take-at}
 use Rattle.octets.specs.Each.{Each, Octets}
-use Rattle.wire.specs.Header.{sequence}
+use Rattle.wire.specs.Header.{sequence, syn}
 use Rattle.wire.specs.Prefix.{agree, clearTo}
 use Rattle.wire.specs.Options.{optionsOf, readFrom}
 use Rattle.keys.specs.declared.entry.Entry.{Entry}
+use Rattle.keys.specs.declared.entry.Pair.{Pair}
 use Rattle.keys.specs.Algorithm.{macBytes}
 use Rattle.keys.specs.Entry.{knownKind, familyOf, extra, isFamily, body, width, sideOf, selectorOf, idsOf, macLength, secretOf, entryOf, item}
 use Rattle.keys.specs.Entry.{items, entriesOf, entries}
@@ -26,14 +27,15 @@ use Rattle.rules.specs.declared.Outcome.{Outcome}
 use Rattle.rules.specs.declared.Outcome.the-variants.{Good}
 use Rattle.rules.specs.declared.Signing.the-variants as S
 use Rattle.rules.specs.declared.State.{State}
+use Rattle.rules.specs.declared.Judged.{Judged}
 use Rattle.rules.specs.Position.{position}
 use Rattle.checksum.specs.Checksum.{onesSum, checksummed}
 use Rattle.rules.specs.Checksum.{segmentSum, withChecksum}
 use Rattle.rules.specs.Mac.{pseudoHeader}
 use Rattle.rules.specs.Segment.{inserted, withOption}
-use Rattle.rules.specs.Connection.{arrivalPair, placeOn}
+use Rattle.rules.specs.Connection.{arrivalPair, placeOn, opened}
 use Rattle.rules.specs.Calls.{outgoing, addedOn, checkSign, authenticated, digested, signedSegment, written, signedBy, outputBy, signed}
-use Rattle.rules.specs.Calls.{output}
+use Rattle.rules.specs.Calls.{output, openedPassively}
 use Rattle.rules.specs.Lent.{Lent, tables}
 use Rattle.rules.specs.Ends.{Typed, Facing, Delivered, Holds, Md5Mirror, HoldsMd5, SignedAt, OtherEnd}
 use Rattle.rules.specs.InsertedLaws.{Fresh}
@@ -41,10 +43,12 @@ use Rattle.rules.specs.DeliveryLaws.{signed-long}
 use Rattle.rules.specs.Demand3.{Within, Given}
 use Rattle.rules.specs.OrderLaws.{demand3}
 use Rattle.rules.specs.Demand2Laws.{sent-comes, sent-faces, faces-under, rewritten-comes, bare-syn}
-use Rattle.rules.specs.Demand2Md5Laws.{bare-syn-md5}
+use Rattle.rules.specs.Demand2.{sent}
+use Rattle.rules.specs.Demand2Md5Laws.{open-segment-md5, bare-syn-md5, bare-syn-opens-md5, opened-together-md5}
 use Rattle.rules.specs.Inhabited.{entry4, entry5, ourBytes, ourTable, theirTable, theirEntry, theirShort, theirHidden, ourPair, theirPair}
 use Rattle.rules.specs.Inhabited.{hiddenPair, fromThem, ourState, theirs, segment, hiddenSegment, hiddenBytes, signedBytes, shortBytes}
 use Rattle.rules.specs.Inhabited.{Arrivals, all, Demand3NotEmpty, opener, synSegment, synBytes, BareSynNotEmpty, md5Entry4, md5Table}
+use Rattle.rules.specs.Inhabited.{md5Passive, synAckSegment, synAckBytes, OpenedMd5NotEmpty, md5Theirs, openBytesMd5, OpenMd5NotEmpty}
 use Rattle.rules.specs.Inhabited.{md5Opener, synBytesMd5, BareSynMd5NotEmpty, unknownSyn, noTable, UnknownKeyNotEmpty}
 use Rattle.rules.specs.Passes.{UnknownKey}
 use Rattle.rules.specs.PassLaws.{matched-dropped, setting-decides}
@@ -152,22 +156,28 @@ module _ (b : Lent) (e : Entry) (q : State) (s : List ℕ) (x : ℕ) (g : Signs 
       ∙ ap (λ (e : Entry). take (length bytes) (written (signedSegment e q x s) out)) (g .under)
       ∙ take-at bytes (drop (length bytes) out) (length bytes) refl)
 
-  signing : SignedAt q e x bytes
+  -- and of which segment it is
+  signing-of : (k : SignedAt q e x bytes) × (k .unsigned ≡ s)
   unfolding signed
-  signing =
-      record {
-        lent = b;
-        unsigned = s;
-        out = out;
-        octets = g .octets;
-        answer =
-            ap (λ (o : Outcome). signedBy q s (outgoing (tables b) q .entry) o .answer) (g .good)
-            ∙ ap (λ (e : Entry). S.Signed (length s + addedOn (q .conn) e)) (g .under)
-            ∙ ap S.Signed (sym long);
-        wrote = wrote;
-        under = g .under;
-        position = g .place;
-      }
+  signing-of = (
+    record {
+      lent = b;
+      unsigned = s;
+      out = out;
+      octets = g .octets;
+      answer =
+          ap (λ (o : Outcome). signedBy q s (outgoing (tables b) q .entry) o .answer) (g .good)
+          ∙ ap (λ (e : Entry). S.Signed (length s + addedOn (q .conn) e)) (g .under)
+          ∙ ap S.Signed (sym long);
+      wrote = wrote;
+      under = g .under;
+      position = g .place;
+    },
+    refl,
+  )
+
+  signing : SignedAt q e x bytes
+  signing = signing-of .0
 
 signs : Signs theirTable theirEntry (theirs theirPair 84 61) segment 4294967312
 unfolding checkSign position optionsOf readFrom agree clearTo macBytes knownKind familyOf extra isFamily body width sideOf selectorOf
@@ -283,7 +293,6 @@ arrivals =
       true-arrival =
           record {
             peer = theirs theirPair 84 61;
-            way = refl;
             typed = typed-theirs 84 61;
             other = other-end theirEntry 84 61;
             ours = entryOf (entry4 1 61 84);
@@ -299,7 +308,6 @@ arrivals =
       short-arrival =
           record {
             peer = theirs theirPair 94 71;
-            way = refl;
             typed = typed-theirs 94 71;
             other = other-end theirShort 94 71;
             ours = entryOf (entry5 71 94);
@@ -315,7 +323,6 @@ arrivals =
       hidden-arrival =
           record {
             peer = theirs hiddenPair 74 51;
-            way = refl;
             typed = typed-hidden;
             ours = entryOf (entry4 5 51 74);
             theirs = theirHidden;
@@ -435,16 +442,20 @@ md5-mirrored : Md5Mirror ourPair theirPair (entryOf md5Entry4) (entryOf md5Entry
 unfolding agree familyOf extra width sideOf selectorOf macLength idsOf secretOf entryOf holds matches
 md5-mirrored = record { here = refl; there = refl; key = refl }
 
-held-md5 : HoldsMd5 (tables md5Table) (arrivalPair (fromThem synBytesMd5)) theirPair (entryOf md5Entry4)
-unfolding signedSegment digested withOption inserted withChecksum checksummed
-held-md5 =
+-- the one MD5 entry, for any pairs that it matches
+held-for : (p q : Pair) → Md5Mirror p q (entryOf md5Entry4) (entryOf md5Entry4) → HoldsMd5 (tables md5Table) p q (entryOf md5Entry4)
+held-for p q m =
     record {
       valid = valid-md5;
       ours = entryOf md5Entry4;
       place = 0;
       among = subst⁻¹ (λ (l : List Entry). Places.At l 0 (entryOf md5Entry4)) md5s-are Places.here;
-      mirror = md5-mirrored;
+      mirror = m;
     }
+
+held-md5 : HoldsMd5 (tables md5Table) (arrivalPair (fromThem synBytesMd5)) theirPair (entryOf md5Entry4)
+unfolding signedSegment digested withOption inserted withChecksum checksummed
+held-md5 = held-for (arrivalPair (fromThem synBytesMd5)) theirPair md5-mirrored
 
 pub bare-syn-md5-not-empty : BareSynMd5NotEmpty
 unfolding width
@@ -460,6 +471,103 @@ bare-syn-md5-not-empty =
       accepted =
           bare-syn-md5 md5Opener (entryOf md5Entry4) 4294967280 synBytesMd5 (fromThem synBytesMd5) (tables md5Table) typed-md5 refl refl
           md5-facing signing-md5 delivered-md5 held-md5 true;
+    }
+
+-- The SYN+ACK by MD5, and with it all that the three steps of an opening ask.
+
+signs-syn-ack : Signs md5Table (entryOf md5Entry4) md5Passive synAckSegment 100
+unfolding checkSign position optionsOf readFrom agree clearTo macBytes knownKind familyOf extra isFamily body width sideOf selectorOf
+    macLength idsOf secretOf entryOf item items entriesOf holds matches meet overlap share clash numberOf clashing loadedFrom loaded found nobody
+    answers anyOf meetsAny besides admitted
+signs-syn-ack =
+    record {
+      good = refl;
+      under = refl;
+      short = omega arith;
+      fresh = record { long = omega arith; low = omega arith; inside = omega arith; formed = refl; no-ao = refl; no-md5 = refl };
+      octets = octets synAckSegment (omega arith);
+      place = refl;
+    }
+
+typed-passive : Typed md5Passive
+typed-passive =
+    record { sent = omega arith; seen = omega arith; isn = omega arith; peer = omega arith; local = refl; remote = refl; counts = refl }
+
+pair-is : arrivalPair (fromThem synBytesMd5) ≡ ourPair
+unfolding signedSegment digested withOption inserted withChecksum checksummed
+pair-is = refl
+
+passive-conn : md5Passive .conn ≡ openedPassively (tables md5Table) (fromThem synBytesMd5) 100 true .state .conn
+passive-conn =
+    sym
+    (ap (λ (j : Judged). j .state .conn)
+    (bare-syn-opens-md5 md5Opener (entryOf md5Entry4) 4294967280 synBytesMd5 (fromThem synBytesMd5) (tables md5Table) typed-md5 refl refl
+    md5-facing signing-md5 delivered-md5 held-md5 true 100)
+    ∙ ap (λ (p : Pair). opened 1 p 100 4294967280 0 0 .conn) pair-is)
+
+facing-them : Facing theirPair ourPair
+unfolding width
+facing-them = record { family = refl; local = refl; remote = refl; local-port = refl; remote-port = refl }
+
+signing-syn-ack : (k : SignedAt md5Passive (entryOf md5Entry4) 100 synAckBytes) × (k .unsigned ≡ synAckSegment)
+signing-syn-ack = signing-of md5Table (entryOf md5Entry4) md5Passive synAckSegment 100 signs-syn-ack
+
+delivered-syn-ack : Delivered theirPair synAckBytes (sent md5Passive synAckBytes)
+delivered-syn-ack =
+    sent-comes md5Passive (entryOf md5Entry4) 100 synAckBytes typed-passive (signing-syn-ack .0) theirPair facing-them
+
+md5-mirrored-back : Md5Mirror theirPair ourPair (entryOf md5Entry4) (entryOf md5Entry4)
+md5-mirrored-back = record { here = md5-mirrored .there; there = md5-mirrored .here; key = refl }
+
+pub opened-md5-not-empty : OpenedMd5NotEmpty
+opened-md5-not-empty =
+    record {
+      conn = passive-conn;
+      typed = typed-passive;
+      signed = signing-syn-ack .0;
+      its-syn = ap syn (signing-syn-ack .1);
+      facing = facing-them;
+      delivered = delivered-syn-ack;
+      holds = held-for theirPair ourPair md5-mirrored-back;
+      together =
+          opened-together-md5 md5Opener (entryOf md5Entry4) 4294967280 synBytesMd5 (fromThem synBytesMd5) (tables md5Table) typed-md5 refl refl
+          md5-facing signing-md5 delivered-md5 held-md5 true 100 md5Passive (entryOf md5Entry4) 100 synAckBytes (sent md5Passive synAckBytes)
+          (tables md5Table) md5Opener typed-passive passive-conn refl (signing-syn-ack .0) (ap syn (signing-syn-ack .1)) delivered-syn-ack
+          (held-for theirPair ourPair md5-mirrored-back) .0;
+    }
+
+-- A segment of the open connection.
+
+signs-open : Signs md5Table (entryOf md5Entry4) md5Theirs segment 16
+unfolding checkSign position optionsOf readFrom agree clearTo macBytes knownKind familyOf extra isFamily body width sideOf selectorOf
+    macLength idsOf secretOf entryOf item items entriesOf holds matches meet overlap share clash numberOf clashing loadedFrom loaded found nobody
+    answers anyOf meetsAny besides admitted
+signs-open = record { good = refl; under = refl; short = omega arith; fresh = signs .fresh; octets = signs .octets; place = refl }
+
+typed-open : Typed md5Theirs
+typed-open =
+    record { sent = omega arith; seen = omega arith; isn = omega arith; peer = omega arith; local = refl; remote = refl; counts = refl }
+
+signing-open : SignedAt md5Theirs (entryOf md5Entry4) 16 openBytesMd5
+signing-open = signing md5Table (entryOf md5Entry4) md5Theirs segment 16 signs-open
+
+delivered-open : Delivered ourPair openBytesMd5 (fromThem openBytesMd5)
+unfolding width
+delivered-open = sent-comes md5Theirs (entryOf md5Entry4) 16 openBytesMd5 typed-open signing-open ourPair facing
+
+pub open-md5-not-empty : OpenMd5NotEmpty
+open-md5-not-empty =
+    record {
+      far-there = λ w. let z = w .0 in omega arith;
+      far-here = λ w. let z = w .0 in omega arith;
+      typed = typed-open;
+      facing = facing;
+      signed = signing-open;
+      delivered = delivered-open;
+      holds = held-for ourPair theirPair md5-mirrored;
+      accepted =
+          open-segment-md5 md5Theirs (entryOf md5Entry4) 16 openBytesMd5 (fromThem openBytesMd5) (tables md5Table) md5Passive typed-open refl
+          refl refl refl facing signing-open delivered-open (held-for ourPair theirPair md5-mirrored);
     }
 
 -- An unknown KeyID.

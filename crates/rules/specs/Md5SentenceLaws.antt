@@ -12,19 +12,23 @@ use Rattle.octets.specs.TestLaws.{NoneApplies}
 use Rattle.mac.specs.Md5.{md5}
 use Rattle.wire.specs.Header.{sequence, dataOffset, headerEnd, sizeFaults}
 use Rattle.wire.specs.Options.{optionsOf, readFrom}
+use Rattle.wire.specs.Prefix.{agree, clearTo}
 use Rattle.keys.specs.Algorithm.{macBytes}
-use Rattle.keys.specs.Entry.{knownKind, extra, item}
-use Rattle.keys.specs.Table.{numberOf}
-use Rattle.tables.specs.Tables.{md5Entry}
+use Rattle.keys.specs.Entry.{knownKind, familyOf, extra, body, width, sideOf, selectorOf, idsOf, macLength, secretOf, entryOf, item, items}
+use Rattle.keys.specs.Entry.{entriesOf}
+use Rattle.keys.specs.Match.{holds, matches, meet, overlap, share, clash}
+use Rattle.keys.specs.Table.{anyOf, numberOf, clashing, loadedFrom, loaded, nobody, found, answers, meetsAny}
+use Rattle.tables.specs.Tables.{besides, admitted, md5Entry}
 use Rattle.rules.specs.declared.Place.the-variants.{At}
+use Rattle.rules.specs.declared.Outcome.{Outcome}
 use Rattle.rules.specs.declared.Outcome.the-variants.{Good}
 use Rattle.rules.specs.Mac.{pseudoHeader, blank}
 use Rattle.rules.specs.Checksum.{segmentSum, withChecksum}
 use Rattle.rules.specs.Digest.{digestFront, digestInput, segmentDigest}
 use Rattle.rules.specs.Segment.{inserted, withOption, md5OptionBytes}
-use Rattle.rules.specs.Connection.{arrivalPair, localAddress, remoteAddress, placeOn}
+use Rattle.rules.specs.Connection.{arrivalPair, pairOf, localAddress, remoteAddress, placeOn, opening, empty}
 use Rattle.rules.specs.Calls.{goodBy, judgeGroups, check, synGroups, checkSyn, addedBytes, outgoing, authenticated, digested}
-use Rattle.rules.specs.Calls.{signedSegment}
+use Rattle.rules.specs.Calls.{unrefused, settledBy, openedActivelyMd5, signedSegment}
 use Rattle.rules.specs.GroupLaws.{key-md5, mac-md5, syn-key-md5, syn-mac-md5}
 use Rattle.rules.specs.PositionLaws.{place-md5}
 use Rattle.rules.specs.PortLaws.{portsOf}
@@ -32,6 +36,8 @@ use Rattle.rules.specs.InsertedLaws.{fixed, headOf, shape}
 use Rattle.rules.specs.DeliveryLaws.{outgoing-md5}
 use Rattle.rules.specs.SentenceLaws.{first-flat, sign-rows}
 use Rattle.rules.specs.Md5Sentences.{judgeRowsMd5, synRowsMd5, JudgeTableMd5, SynTableMd5, SignTableMd5, EntryOrderMd5, ListedMd5}
+use Rattle.rules.specs.Sentences.{openRows}
+use Rattle.rules.specs.Md5Sentences.{OpenActiveMd5Table, WayNumbers, CrossedExample, Md5Keys, Md5Options}
 use Rattle.rules.specs.Md5Sentences.{DigestOf, SignedAsMd5, SignedExampleMd5, DigestedBytes, ReadBack}
 
 pub judge-table-md5 : JudgeTableMd5
@@ -60,6 +66,24 @@ sign-table-md5 t s room q way =
     sign-rows t s room q (md5Entry t (q .conn .pair)) (At (sequence s)) 5 (outgoing-md5 t q way)
     (place-md5 (q .conn) (q .sent) (sequence s) way)
     (ap (λ (b : Bool). cond b md5OptionBytes (addedBytes (outgoing t q .entry))) way)
+
+pub open-active-md5-table : OpenActiveMd5Table
+unfolding openedActivelyMd5
+open-active-md5-table t local remote localPort remotePort isn =
+    let p = pairOf local remote localPort remotePort in
+    ap (λ (o : Outcome). settledBy o empty (opening 1 p isn 0 0)) (first-flat (openRows t local remote (md5Entry t p)) unrefused)
+
+pub way-numbers : WayNumbers
+way-numbers = refl
+
+pub crossed-example : CrossedExample
+unfolding agree clearTo macBytes knownKind familyOf extra body width sideOf selectorOf macLength idsOf secretOf entryOf item items entriesOf
+    holds matches meet overlap share clash numberOf clashing loadedFrom loaded found nobody answers anyOf meetsAny besides admitted
+crossed-example = refl
+
+pub md5-keys : Md5Keys
+unfolding extra familyOf width sideOf selectorOf macLength idsOf secretOf entryOf
+md5-keys = record { ipv4 = refl; ipv6 = refl }
 
 pub entry-order-md5 : EntryOrderMd5
 entry-order-md5 limit i before x = refl
@@ -104,9 +128,13 @@ unfolding withOption inserted
 signed-example-md5 = refl
 
 pub digested-bytes : DigestedBytes
-unfolding digestInput digestFront pseudoHeader
-digested-bytes = record { ipv4 = λ c d. refl; ipv6 = λ c d. refl }
+unfolding digestInput digestFront pseudoHeader extra familyOf width sideOf selectorOf macLength idsOf secretOf entryOf
+digested-bytes = record { ipv4 = λ c d. refl; ipv6 = λ c d. refl; under-entry = λ c d. refl }
 
 pub read-back : ReadBack
 unfolding optionsOf readFrom
 read-back = record { count = refl; length = refl; digest-in = refl; no-ao = refl }
+
+pub md5-options : Md5Options
+unfolding optionsOf readFrom
+md5-options = record { two = refl; lengths = refl; behind = refl; behind-end = refl }

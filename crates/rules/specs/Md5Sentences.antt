@@ -1,6 +1,6 @@
 -- Document 02, Ticket 9, said of the definitions once more and apart from them, as Sentences.antt does for TCP-AO: the numbers of the MD5
 -- way row by row, the MD5 table's bytes, what RFC 2385's digest is of, and what is signed, as numerals. Md5SentenceLaws proves each.
-use Prim.Native.Nat.{ℕ}
+use Prim.Native.Nat.{ℕ, _-_}
 use mathlib.Core.Path.{_≡_}
 use mathlib.Core.Bool.{Bool, true, false, not, _&&_}
 use mathlib.Core.List.{List, [], _∷_, _++_, map}
@@ -10,13 +10,17 @@ use Rattle.octets.specs.Tests.{Test}
 use Rattle.mac.specs.Md5.{md5 as hash}
 use Rattle.wire.specs.Bytes.{sameBytes}
 use Rattle.wire.specs.Header.{sequence, headerEnd, syn, wellSized}
+use Rattle.wire.specs.Options.{optionsOf, md5In}
+use Rattle.wire.specs.declared.options.Occurrence.{Occurrence}
+use Rattle.wire.specs.declared.options.Options.the-variants.{Found as OptionsFound}
 use Rattle.keys.specs.declared.entry.Entry.{Entry}
 use Rattle.keys.specs.declared.table.Found.{Found}
 use Rattle.keys.specs.declared.table.TableKind.the-variants.{Md5}
 use Rattle.keys.specs.Algorithm.{macBytes}
-use Rattle.keys.specs.Entry.{Item, item, keyOf}
+use Rattle.keys.specs.Entry.{Item, item, entryOf, keyOf}
 use Rattle.keys.specs.Table as K
-use Rattle.tables.specs.Tables.{Tables, md5Entry}
+use Rattle.tables.specs.declared.Admitted.the-variants.{Refused}
+use Rattle.tables.specs.Tables.{Tables, admitted, md5Entry}
 use Rattle.rules.specs.declared.Outcome.the-variants.{Good}
 use Rattle.rules.specs.declared.Connection.{Connection}
 use Rattle.rules.specs.declared.State.{State}
@@ -25,9 +29,10 @@ use Rattle.rules.specs.Digest.{digestInput, segmentDigest}
 use Rattle.rules.specs.Checksum.{withChecksum}
 use Rattle.rules.specs.Ends.{rechecked}
 use Rattle.rules.specs.Segment.{ao, md5, digestIn, digestedWith}
-use Rattle.rules.specs.Connection.{Arrival, arrivalPair, localAddress, remoteAddress, isMd5}
-use Rattle.rules.specs.Calls.{synIsMd5, check, checkSyn, checkSign, signedSegment}
-use Rattle.rules.specs.Sentences.{NumberRow, row, firstOf, arrivalRows, bareRows, signRows, unsigned}
+use Rattle.rules.specs.Connection.{Arrival, arrivalPair, pairOf, localAddress, remoteAddress, isMd5, opening, empty}
+use Rattle.rules.specs.Calls.{synIsMd5, check, checkSyn, unrefused, settledBy, openedActivelyMd5, checkSign, signedSegment}
+use Rattle.rules.specs.Sentences.{NumberRow, row, firstOf, arrivalRows, bareRows, signRows, openRows, ends, unsigned}
+use Rattle.rules.specs.Inhabited.{entry4, md5Entry4, md5Entry6}
 
 -- The table of numbers.
 
@@ -73,6 +78,18 @@ SignTableMd5 = (t : Tables) (s : List ℕ) (room : ℕ) (q : State) → isMd5 (q
     ≡ firstOf (signRows t s room q (md5Entry t (q .conn .pair) .there) ((syn s && not (eqb (sequence s) (q .conn .isn))) ∷ []) 5)
     (Good (sequence s) (q .«ask_id»))
 
+-- opening actively by MD5 names no SendID: "35" where no entry matches the pair; the way is 1, and the IDs are 0
+abbrev pub OpenActiveMd5Table : Type 0
+OpenActiveMd5Table = (t : Tables) (local remote : List ℕ) (localPort remotePort isn : ℕ)
+    → openedActivelyMd5 t local remote localPort remotePort isn
+    ≡ settledBy (firstOf (openRows t local remote (md5Entry t (pairOf local remote localPort remotePort))) unrefused) empty
+    (opening 1 (pairOf local remote localPort remotePort) isn 0 0)
+
+-- way 1 is MD5, every other TCP-AO
+abbrev pub WayNumbers : Type 0
+WayNumbers = map (λ (w : ℕ). isMd5 (record { stage = 1; way = w; pair = ends; isn = 100; «peer_isn» = 4294967280 })) (0 ∷ 1 ∷ 2 ∷ 255 ∷ [])
+    ≡ false ∷ true ∷ false ∷ false ∷ []
+
 -- The MD5 table's bytes: an entry of kind 4 or 6, with flags 0, algorithm 19, SendID 0 and RecvID 0.
 
 abbrev pub EntryOrderMd5 : Type 0
@@ -95,6 +112,15 @@ pub record ListedMd5 : Type 0 where
   pub ids : map (λ (i : ℕ). listedMd5 0 19 i 0) (0 ∷ 1 ∷ 255 ∷ []) ≡ 0 ∷ 13 ∷ 13 ∷ []
   pub asked-ids : map (λ (i : ℕ). listedMd5 0 19 0 i) (0 ∷ 1 ∷ 255 ∷ []) ≡ 0 ∷ 13 ∷ 13 ∷ []
   pub digest : macBytes 19 ≡ 16
+
+-- 45, of the tables' bytes: an MD5 entry for every IPv6 pair and behind it one for every IPv4 pair, beside a key entry for every IPv4 pair
+abbrev pub CrossedExample : Type 0
+CrossedExample = admitted (entry4 1 61 84) (md5Entry6 ++ md5Entry4) ≡ Refused 45 (record { table = 1; entry = 1 })
+
+-- the key of an MD5 entry, as its bytes have it
+pub record Md5Keys : Type 0 where
+  pub ipv4 : keyOf (entryOf md5Entry4 .secret) ≡ 3 ∷ 4 ∷ []
+  pub ipv6 : keyOf (entryOf md5Entry6 .secret) ≡ 5 ∷ []
 
 -- The digest: RFC 2385, section 2.0, "1. the TCP pseudo-header .. 2. the TCP header, excluding options, and assuming a checksum of zero
 -- 3. the TCP segment data (if any) 4. an independently-specified key or password"
@@ -143,6 +169,12 @@ pub record DigestedBytes : Type 0 where
       ∷ 0 ∷ 0 ∷ 0 ∷ 47 ∷ 0 ∷ 0 ∷ 0 ∷ 6
       ∷ 0 ∷ 179 ∷ 233 ∷ 215 ∷ 0 ∷ 0 ∷ 0 ∷ 16 ∷ 1 ∷ 2 ∷ 3 ∷ 4 ∷ 176 ∷ 16 ∷ 128 ∷ 0 ∷ 0 ∷ 0 ∷ 7 ∷ 8
       ∷ 97 ∷ 98 ∷ 99 ∷ 75 ∷ 76 ∷ []
+  -- under the key of an entry's bytes
+  pub under-entry : (c d : ℕ)
+      → digestInput (keyOf (entryOf md5Entry4 .secret)) (172 ∷ 27 ∷ 28 ∷ 29 ∷ []) (10 ∷ 11 ∷ 12 ∷ 13 ∷ []) (rechecked c d md5Bytes)
+      ≡ 172 ∷ 27 ∷ 28 ∷ 29 ∷ 10 ∷ 11 ∷ 12 ∷ 13 ∷ 0 ∷ 6 ∷ 0 ∷ 47
+      ∷ 0 ∷ 179 ∷ 233 ∷ 215 ∷ 0 ∷ 0 ∷ 0 ∷ 16 ∷ 1 ∷ 2 ∷ 3 ∷ 4 ∷ 176 ∷ 16 ∷ 128 ∷ 0 ∷ 0 ∷ 0 ∷ 7 ∷ 8
+      ∷ 97 ∷ 98 ∷ 99 ∷ 3 ∷ 4 ∷ []
 
 -- the option that was put there is read back: one of kind 19, 18 bytes long, the digest, and no TCP-AO
 pub record ReadBack : Type 0 where
@@ -150,3 +182,20 @@ pub record ReadBack : Type 0 where
   pub length : md5 md5Bytes .len ≡ 18
   pub digest-in : digestIn md5Bytes ≡ digest
   pub no-ao : ao md5Bytes .count ≡ 0
+
+-- What an option area holds of kind 19.
+abbrev pub read19 : List ℕ → Occurrence
+read19 area = md5In (optionsOf area)
+
+abbrev pub option19 : ℕ → List ℕ
+option19 n = 19 ∷ n ∷ replicate (n - 2) 9
+
+pub record Md5Options : Type 0 where
+  pub two : read19 (option19 18 ++ option19 18) ≡ record { count = 2; at = 0; len = 18 }
+  -- a length other than 18 is read, and is not malformed
+  pub lengths : map (λ (n : ℕ). optionsOf (option19 n)) (2 ∷ 17 ∷ 19 ∷ 20 ∷ [])
+      ≡ map (λ (n : ℕ). OptionsFound (record { md5 = record { count = 1; at = 0; len = n }; ao = record { count = 0; at = 0; len = 0 } }))
+      (2 ∷ 17 ∷ 19 ∷ 20 ∷ [])
+  -- behind kind 1 and an option of four bytes it stands at 5; behind kind 0 it is not seen
+  pub behind : read19 ((1 ∷ 2 ∷ 4 ∷ 5 ∷ 180 ∷ []) ++ option19 18) ≡ record { count = 1; at = 5; len = 18 }
+  pub behind-end : read19 (0 ∷ option19 18) ≡ record { count = 0; at = 0; len = 0 }

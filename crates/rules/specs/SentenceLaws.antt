@@ -14,7 +14,7 @@ use Rattle.mac.specs.Cmac.{cmac}
 use Rattle.keys.specs.Algorithm.{macBytes, outputBits}
 use Rattle.keys.specs.declared.entry.Pair.{Pair}
 use Rattle.keys.specs.declared.table.Found.{Found}
-use Rattle.keys.specs.Entry.{knownKind, familyOf, extra, body, isFamily, width, macLength, secretOf, keyOf}
+use Rattle.keys.specs.Entry.{knownKind, familyOf, extra, body, isFamily, width, sideOf, selectorOf, idsOf, macLength, secretOf, entryOf, keyOf}
 use Rattle.keys.specs.Table.{numberOf}
 use Rattle.tables.specs.Tables.{Tables, sendEntry, recvEntry, anyEntry}
 use Rattle.rules.specs.declared.Place.{Place}
@@ -29,8 +29,9 @@ use Rattle.rules.specs.Mac.{segmentMac}
 use Rattle.rules.specs.Checksum.{segmentSum, withChecksum}
 use Rattle.rules.specs.Segment.{malformed, ao, md5, keyId, rnextKeyId, isBareSyn, inserted, withOption, optionBytes, md5OptionBytes}
 use Rattle.rules.specs.Connection.{sized, arrivalPair, localAddress, remoteAddress, isOpen, isMd5, arrivingSyn, placeOn, value}
+use Rattle.rules.specs.Connection.{pairOf, opening, empty}
 use Rattle.rules.specs.Calls.{keyTests, macTests, goodBy, judgeGroups, check, synMissing, synUnknown, synGroups, checkSyn, unrefused}
-use Rattle.rules.specs.Calls.{checkSign, outgoing, addedBytes, addedOn, authenticated, digested, signedSegment}
+use Rattle.rules.specs.Calls.{settledBy, openedActively, checkSign, outgoing, addedBytes, addedOn, authenticated, digested, signedSegment}
 use Rattle.rules.specs.GroupLaws.{key-ao, mac-ao, syn-key-ao, syn-mac-ao}
 use Rattle.rules.specs.DeliveryLaws.{outgoing-ao}
 use Rattle.rules.specs.Answers.{verdictAnswer}
@@ -39,7 +40,7 @@ use Rattle.rules.specs.GrowthLaws.{above-15}
 use Rattle.rules.specs.Sentences.{NumberRow, bad, row, firstOf, badSize, judgeRows, synRows, signRows, noPlace, entriesRow}
 use Rattle.rules.specs.Sentences.{JudgeTable, SynTable, SignTable}
 use Rattle.rules.specs.Sentences.{EntryBytes, Listed}
-use Rattle.rules.specs.Sentences.{OpenTable, AskTable, EntryOrder, AnswerNumbers, CountsStop, Context, Contexts, TrafficKeys}
+use Rattle.rules.specs.Sentences.{openRows, OpenActiveTable, AskTable, EntryOrder, AnswerNumbers, CountsStop, Context, Contexts, TrafficKeys}
 use Rattle.rules.specs.Sentences.{PseudoHeaders, MessageOrder, Lengths, SegmentMacs, SignedExample, CheckedExamples, PaddedExample, Covered, optionWords}
 use Rattle.rules.specs.Sentences.{SignedAs, HiddenContexts, HiddenCovered}
 
@@ -142,9 +143,12 @@ sign-table t s room q way =
     (outgoing-ao t q way) refl
     ((λ j. cond (way j) md5OptionBytes (addedBytes (outgoing-ao t q way j .entry))) ∙ words-added (f .entry .secret .«mac_bytes»))
 
-pub open-table : OpenTable
-open-table t local remote found =
-    first-flat (row 19 (not (sized local remote) ∷ []) ∷ entriesRow t ∷ row 35 (not (found .there) ∷ []) ∷ []) unrefused
+pub open-active-table : OpenActiveTable
+unfolding openedActively
+open-active-table t local remote localPort remotePort isn sendId =
+    let p = pairOf local remote localPort remotePort in
+    let f = sendEntry t p sendId in
+    ap (λ (o : Outcome). settledBy o empty (opening 0 p isn sendId (f .entry .ids .recv))) (first-flat (openRows t local remote f) unrefused)
 
 pub ask-table : AskTable
 ask-table t id l =
@@ -156,7 +160,7 @@ pub entry-order : EntryOrder
 entry-order limit i before x = refl
 
 pub entry-bytes : EntryBytes
-unfolding knownKind familyOf extra body width macLength macBytes secretOf
+unfolding knownKind familyOf extra body width sideOf selectorOf idsOf macLength macBytes secretOf entryOf
 entry-bytes =
     record {
       known = refl;
@@ -165,6 +169,7 @@ entry-bytes =
       mac-lengths = λ e. refl;
       key-lengths = λ e. refl;
       twelve = refl;
+      keys = refl;
     }
 
 pub listed-is : Listed

@@ -2,7 +2,7 @@
 -- A definition and the code that is proved equal to it could be wrong alike; then they contradict a sentence here. Here is the TCP-AO way,
 -- and what both ways share; Md5Sentences.antt has the MD5 way of document 02, Ticket 9. SentenceLaws proves each, PositionLaws
 -- `PlaceAnswers`.
-use Prim.Native.Nat.{ℕ, _+_, _*_, _/_, _%_, _<_}
+use Prim.Native.Nat.{ℕ, _+_, _-_, _*_, _/_, _%_, _<_}
 use mathlib.Core.Path.{_≡_}
 use mathlib.Core.Bool.{Bool, true, false, cond, not, _&&_}
 use mathlib.Core.List.{List, [], _∷_, _++_, map}
@@ -18,7 +18,7 @@ use Rattle.keys.specs.declared.entry.Entry.{Entry}
 use Rattle.keys.specs.declared.entry.Secret.{Secret}
 use Rattle.keys.specs.declared.table.Found.{Found}
 use Rattle.keys.specs.Algorithm.{macBytes}
-use Rattle.keys.specs.Entry.{Item, knownKind, familyOf, body, secretOf, isFamily, keyOf, allOptions}
+use Rattle.keys.specs.Entry.{Item, knownKind, familyOf, body, secretOf, entryOf, isFamily, keyOf, allOptions}
 use Rattle.keys.specs.declared.table.TableKind.the-variants.{Keys}
 use Rattle.keys.specs.Table as K
 use Rattle.tables.specs.declared.Index.{Index}
@@ -38,8 +38,9 @@ use Rattle.rules.specs.declared.Hidden.{Hidden}
 use Rattle.rules.specs.Mac.{Flow, blanked, context, trafficKey, pseudoHeader, portsBlanked, coveredHeader, message, segmentMac}
 use Rattle.rules.specs.Segment.{malformed, ao, md5, aoAt, keyId, rnextKeyId, macIn, isBareSyn, signedWith}
 use Rattle.rules.specs.Connection.{Arrival, sized, arrivalPair, localAddress, remoteAddress, isOpen, isMd5, arriving, leaving}
-use Rattle.rules.specs.Connection.{arrivingSyn, placeOn, located, value, extensionOf, bump}
-use Rattle.rules.specs.Calls.{isRefused, refusal, synIsMd5, check, checkSyn, unrefused, openTests, askTests, checkSign, signedSegment}
+use Rattle.rules.specs.Connection.{arrivingSyn, pairOf, placeOn, located, value, extensionOf, bump, opening, empty}
+use Rattle.rules.specs.Calls.{isRefused, refusal, synIsMd5, check, checkSyn, unrefused, settledBy, openedActively, askTests, checkSign}
+use Rattle.rules.specs.Calls.{signedSegment}
 use Rattle.rules.specs.Answers.{Answer, answer, verdictAnswer, placeAnswer}
 
 -- The table of numbers. "The first that applies, in this order, is given."
@@ -185,13 +186,19 @@ SignTable = (t : Tables) (s : List ℕ) (room : ℕ) (q : State) → isMd5 (q .c
     (optionWords (sendEntry t (q .conn .pair) (q .«send_id») .entry .secret .«mac_bytes»)))
     (Good (value (placeOn (q .conn) (q .sent) (sequence s))) (q .«ask_id»))
 
--- 35: "no entry matching the pair has the outgoing SendID (opening ..) or the RecvID to ask (operator call)"
-abbrev pub OpenTable : Type 0
-OpenTable = (t : Tables) (local remote : List ℕ) (found : Found)
-    → first (openTests t local remote found) unrefused
-    ≡ firstOf (row 19 (not (sized local remote) ∷ []) ∷ entriesRow t ∷ row 35 (not (found .there) ∷ []) ∷ []) unrefused
+-- Opening actively. 35: "no entry matching the pair has the outgoing SendID (opening ..)"; Ticket 9: or, by MD5, none matches the pair.
+abbrev pub openRows : Tables → List ℕ → List ℕ → Found → List NumberRow
+openRows t local remote found = row 19 (not (sized local remote) ∷ []) ∷ entriesRow t ∷ row 35 (not (found .there) ∷ []) ∷ []
 
--- Ticket 9, of an MD5 connection: "asking: always 35"
+-- "Active opening names a SendID; its entry must match the pair. It gives the outgoing key and, by RecvID, the key asked of the peer."
+abbrev pub OpenActiveTable : Type 0
+OpenActiveTable = (t : Tables) (local remote : List ℕ) (localPort remotePort isn sendId : ℕ)
+    → openedActively t local remote localPort remotePort isn sendId
+    ≡ settledBy (firstOf (openRows t local remote (sendEntry t (pairOf local remote localPort remotePort) sendId)) unrefused) empty
+    (opening 0 (pairOf local remote localPort remotePort) isn sendId
+    (sendEntry t (pairOf local remote localPort remotePort) sendId .entry .ids .recv))
+
+-- 35: no entry matching the pair has "the RecvID to ask (operator call)"; Ticket 9, of an MD5 connection: "asking: always 35"
 abbrev pub AskTable : Type 0
 AskTable = (t : Tables) (id : ℕ) (l : Connection)
     → first (askTests t id l) unrefused
@@ -205,6 +212,10 @@ EntryOrder = (limit i : ℕ) (before : List Entry) (x : Item)
     → map (λ (r : Test ℕ). r .gives) (K.loadTests Keys limit i before x)
     ≡ 12 ∷ 11 ∷ 10 ∷ 13 ∷ 13 ∷ 13 ∷ 13 ∷ 13 ∷ 14 ∷ 14 ∷ 15 ∷ 15 ∷ 15 ∷ 15 ∷ 16 ∷ 16 ∷ 16 ∷ 17 ∷ []
 
+-- an entry of kind k that has at byte n the key length 2, behind it 7, 8 and 9, and zeros elsewhere
+abbrev pub keyed : ℕ → ℕ → List ℕ
+keyed k n = (k ∷ replicate (n - 1) 0) ++ ((2 ∷ 7 ∷ 8 ∷ 9 ∷ []) ++ replicate 77 0)
+
 -- The key table's bytes as numerals: "kind 4 (IPv4) has 103 bytes, kind 6 (IPv6) 127"; Ticket 4: "kinds 5 and 7, like 4 and 6 with one more
 -- byte, 4 to 16, before the key length"; "MAC bytes (12 and 12)", and 12 of algorithm 3, where the kind has no such byte.
 pub record EntryBytes : Type 0 where
@@ -216,6 +227,9 @@ pub record EntryBytes : Type 0 where
   pub key-lengths : (e : List ℕ) → map (λ (k : ℕ). secretOf k e .«key_len») (4 ∷ 5 ∷ 6 ∷ 7 ∷ [])
       ≡ getD e 23 0 ∷ getD e 24 0 ∷ getD e 47 0 ∷ getD e 48 0 ∷ []
   pub twelve : map macBytes (1 ∷ 2 ∷ 3 ∷ []) ≡ 12 ∷ 12 ∷ 12 ∷ []
+  -- the key: as many bytes as its length says, behind it
+  pub keys : map (λ (e : List ℕ). keyOf (entryOf e .secret)) (keyed 4 23 ∷ keyed 5 24 ∷ keyed 6 47 ∷ keyed 7 48 ∷ [])
+      ≡ (7 ∷ 8 ∷ []) ∷ (7 ∷ 8 ∷ []) ∷ (7 ∷ 8 ∷ []) ∷ (7 ∷ 8 ∷ []) ∷ []
 
 -- 13: "flags or algorithm not listed": Ticket 10 lists the flags up to 7, Ticket 13 algorithm 3; Ticket 4: "also covers the new byte". Of
 -- flags, algorithm and MAC length, what an entry gets for these three; 0 is nothing.

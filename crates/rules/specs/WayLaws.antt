@@ -18,27 +18,28 @@ use Rattle.keys.specs.declared.table.Found.{Found}
 use Rattle.keys.specs.Entry.{isFamily, keyOf}
 use Rattle.tables.specs.declared.Admitted.{Admitted}
 use Rattle.tables.specs.declared.Admitted.the-variants.{Valid, Refused}
-use Rattle.tables.specs.Tables.{Tables, anyEntry, md5Entry}
+use Rattle.tables.specs.Tables.{Tables, recvEntry, anyEntry, md5Entry}
 use Rattle.rules.specs.declared.Place.{Place}
 use Rattle.rules.specs.declared.Place.the-variants.{At}
 use Rattle.rules.specs.declared.Outcome.{Outcome}
 use Rattle.rules.specs.declared.Outcome.the-variants.{Good, Passed, Bad}
 use Rattle.rules.specs.declared.Verdict.the-variants.{Accept}
 use Rattle.rules.specs.declared.State.{State}
-use Rattle.rules.specs.Segment.{ao, md5, digestIn}
+use Rattle.rules.specs.Segment.{ao, md5, keyId, digestIn}
 use Rattle.rules.specs.Digest.{segmentDigest}
 use Rattle.rules.specs.Mac.{Flow}
 use Rattle.rules.specs.Connection.{Arrival, arrivalPair, isOpen, isMd5, arriving, arrivingSyn, placeOn, value, extensionOf}
 use Rattle.rules.specs.Connection.{withAsked}
 use Rattle.rules.specs.Calls.{refuse, isRefused, refusal, formTests, md5Tests, digestTests, goodBy, judgeGroups, check, synMissing}
 use Rattle.rules.specs.Calls.{synIsMd5, synGroups, judgeSynTests, checkSyn, verdictOf, afterJudging, judged, judgedSyn}
-use Rattle.rules.specs.Calls.{unrefused, settledBy, askTests, asked, outgoing, checkSign, signedBy, signed}
+use Rattle.rules.specs.Calls.{openedBy, openedPassively, unrefused, settledBy, askTests, asked, outgoing, checkSign, signedBy, signed}
 use Rattle.rules.specs.GroupLaws.{Clear, none-clear, first-clear, key-ao, key-md5, mac-md5, syn-key-ao, syn-key-md5, syn-mac-md5}
 use Rattle.rules.specs.GroupLaws.{unknown-passes}
 use Rattle.rules.specs.JudgeLaws.{nonzero, absent, none-of}
 use Rattle.rules.specs.History.{Call, judge, sign, ask, next, ended}
 use Rattle.rules.specs.Lent.{tables}
-use Rattle.rules.specs.Ways.{ByAo, ByMd5, AcceptedByMd5, AcceptedByAo, SynAcceptedByMd5, SynAcceptedByAo, Md5Still}
+use Rattle.rules.specs.Ways.{ByAo, ByMd5, AcceptedByMd5, AcceptedByAo, SynAcceptedByMd5, SynAcceptedByAo, OpenedByMd5, OpenedByAo}
+use Rattle.rules.specs.Ways.{WayStays, Md5Still}
 use Rattle.rules.specs.PositionLaws.{place-md5}
 use Rattle.rules.specs.AcceptanceLaws.{sequence-below}
 
@@ -190,6 +191,76 @@ syn-accepted-by-md5 t a strict e octets way v = (
 
     found : (f .there ≡ true) × (digestIn (a .segment) ≡ segmentDigest (keyOf (f .entry .secret)) (a .source) (a .destination) (a .segment))
     found = authentic f (arrivingSyn a) (a .segment) key (subst NoneApplies (syn-mac-md5 t a strict way) (c .mac))
+
+-- A passive opening judges as judging does, and opens by the way of the tables.
+
+opened-way : (t : Tables) (p : Pair) (isn : ℕ) (e : Entry) (o : Outcome) (k w : ℕ) (b : Bool) → verdictOf o ≡ Accept k → synIsMd5 t p ≡ b
+    → cond b 1 0 ≡ w → openedBy t p isn e o .conn .way ≡ w
+opened-way t p isn e (Good x r) k w true v h d = rw h d
+opened-way t p isn e (Good x r) k w false v h d = rw h d
+opened-way t p isn e Passed k w b v h d = let z : _≡_ {A = ℕ} 0 1 = cc in absurd (omega arith)
+opened-way t p isn e (Bad n i) k w b v h d = let z : _≡_ {A = ℕ} 0 1 = cc in absurd (omega arith)
+
+module _ (t : Tables) (a : Arrival) (isn : ℕ) (strict : Bool) (e : ℕ) (v : openedPassively t a isn strict .verdict ≡ Accept e) where
+  judged-so : judgedSyn t a strict .verdict ≡ Accept e
+  unfolding openedPassively judgedSyn
+  judged-so = v
+
+  way-of : (w : ℕ) (b : Bool) → synIsMd5 t (arrivalPair a) ≡ b → cond b 1 0 ≡ w → openedPassively t a isn strict .state .conn .way ≡ w
+  unfolding openedPassively
+  way-of w b h d =
+      opened-way t (arrivalPair a) isn (recvEntry t (arrivalPair a) (keyId (a .segment)) .entry) (checkSyn t a strict) e w b v h d
+
+pub opened-by-ao : OpenedByAo
+opened-by-ao t a isn strict e way v = (way-of t a isn strict e v 0 false way refl, syn-accepted-by-ao t a strict e way (judged-so t a isn strict e v))
+
+pub opened-by-md5 : OpenedByMd5
+opened-by-md5 t a isn strict e way v =
+    let c = syn-clear t a strict e (judged-so t a isn strict e v) in (
+      way-of t a isn strict e v 1 true way refl,
+      by-md5 (a .segment) (md5Entry t (arrivalPair a)) (c .form) (subst NoneApplies (syn-key-md5 t a strict way) (c .key)),
+    )
+
+-- Over any list of calls: the way.
+
+judge-way : (t : Tables) (q : State) (o : Outcome) → afterJudging t q o .conn .way ≡ q .conn .way
+judge-way t q (Good x r) = go (isOpen (q .conn)) (isMd5 (q .conn)) refl refl
+  where
+    go : (o m : Bool) → isOpen (q .conn) ≡ o → isMd5 (q .conn) ≡ m → afterJudging t q (Good x r) .conn .way ≡ q .conn .way
+    go true true p w = rw (p, w)
+    go true false p w = rw (p, w)
+    go false m p w = rw p
+judge-way t q Passed = refl
+judge-way t q (Bad n i) = go (isOpen (q .conn)) refl
+  where
+    go : (o : Bool) → isOpen (q .conn) ≡ o → afterJudging t q (Bad n i) .conn .way ≡ q .conn .way
+    go true p = rw p
+    go false p = rw p
+
+sign-way : (q : State) (s : List ℕ) (e : Entry) (o : Outcome) → signedBy q s e o .state .conn .way ≡ q .conn .way
+sign-way q s e (Good x r) = go (isOpen (q .conn)) (isMd5 (q .conn)) refl refl
+  where
+    go : (o m : Bool) → isOpen (q .conn) ≡ o → isMd5 (q .conn) ≡ m → signedBy q s e (Good x r) .state .conn .way ≡ q .conn .way
+    go true true p w = rw (p, w)
+    go true false p w = rw (p, w)
+    go false m p w = rw p
+sign-way q s e Passed = refl
+sign-way q s e (Bad n i) = refl
+
+ask-way : (q : State) (id : ℕ) (o : Outcome) → settledBy o q (withAsked id q) .state .conn .way ≡ q .conn .way
+ask-way q id (Good x r) = refl
+ask-way q id Passed = refl
+ask-way q id (Bad n i) = refl
+
+next-way : (q : State) (c : Call) → next c q .conn .way ≡ q .conn .way
+unfolding judged signed asked
+next-way q (judge b a) = judge-way (tables b) q (check (tables b) (q .conn) (q .seen) a)
+next-way q (sign b s out) = sign-way q s (outgoing (tables b) q .entry) (checkSign (tables b) s (length out) q)
+next-way q (ask b id) = ask-way q id (first (askTests (tables b) id (q .conn)) unrefused)
+
+pub way-stays : WayStays
+way-stays q [] = refl
+way-stays q (c ∷ l) = way-stays (next c q) l ∙ next-way q c
 
 -- Over any list of calls: each leaves what the next one's way and stage go by.
 record Stays (q r : State) : Type 0 where

@@ -12,7 +12,7 @@ use Rattle.rules.specs.declared.State.{State}
 use Rattle.rules.specs.Digest.{segmentDigest}
 use Rattle.rules.specs.Segment.{ao, md5, digestIn}
 use Rattle.rules.specs.Connection.{Arrival, arrivalPair, isOpen, isMd5}
-use Rattle.rules.specs.Calls.{synIsMd5, judged, judgedSyn}
+use Rattle.rules.specs.Calls.{synIsMd5, judged, judgedSyn, openedPassively}
 use Rattle.rules.specs.History.{Call, ended}
 
 -- a segment signed by TCP-AO alone; by MD5 alone
@@ -49,6 +49,20 @@ SynAcceptedByMd5 = (t : Tables) (a : Arrival) (strict : Bool) (e : ℕ) → Octe
 abbrev pub SynAcceptedByAo : Type 0
 SynAcceptedByAo = (t : Tables) (a : Arrival) (strict : Bool) (e : ℕ) → synIsMd5 t (arrivalPair a) ≡ false
     → judgedSyn t a strict .verdict ≡ Accept e → ByAo (a .segment)
+
+-- and opens by it: the state that a passive opening returns goes by the way of its SYN. (An active one: OpenActiveTable of Sentences.antt,
+-- OpenActiveMd5Table of Md5Sentences.antt.)
+abbrev pub OpenedByMd5 : Type 0
+OpenedByMd5 = (t : Tables) (a : Arrival) (isn : ℕ) (strict : Bool) (e : ℕ) → synIsMd5 t (arrivalPair a) ≡ true
+    → openedPassively t a isn strict .verdict ≡ Accept e → (openedPassively t a isn strict .state .conn .way ≡ 1) × ByMd5 (a .segment)
+
+abbrev pub OpenedByAo : Type 0
+OpenedByAo = (t : Tables) (a : Arrival) (isn : ℕ) (strict : Bool) (e : ℕ) → synIsMd5 t (arrivalPair a) ≡ false
+    → openedPassively t a isn strict .verdict ≡ Accept e → (openedPassively t a isn strict .state .conn .way ≡ 0) × ByAo (a .segment)
+
+-- "A connection goes by the way it was opened", over any list of calls from any state
+abbrev pub WayStays : Type 0
+WayStays = (q : State) (l : List Call) → ended q l .conn .way ≡ q .conn .way
 
 -- "after opening neither it nor signing moves a reference": over any list of calls, with any tables and any bytes
 abbrev pub Md5Still : Type 0

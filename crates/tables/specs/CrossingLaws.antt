@@ -1,4 +1,4 @@
--- 45 exactly. Assumes nothing but, where it says `Octets`, that the bytes are below 256.
+-- What tables are refused with; 45 exactly. Assumes nothing but, where it says `Octets`, that the bytes are below 256.
 use Prim.Native.Nat.{ℕ, _+_}
 use mathlib.Core.Bool.{Bool, true, false}
 use mathlib.Core.Path.{_≡_, refl, sym, ap, _∙_, subst}
@@ -18,9 +18,9 @@ use Rattle.keys.specs.declared.table.Loaded.{Loaded}
 use Rattle.keys.specs.declared.table.Found.{Found}
 use Rattle.keys.specs.declared.table.Loaded.the-variants.{Valid as LoadedValid, Refused as LoadedRefused}
 use Rattle.tables.specs.Tables.{maxEntries, md5Index, crossing, besides, admitted}
-use Rattle.tables.specs.Crossing.{Crossed, Alone, CrossedAt, RefusedCrossed, CrossedRefused}
+use Rattle.tables.specs.Crossing.{Crossed, Alone, CrossedAt, RefusedCrossed, CrossedRefused, KeysRefused, Md5Refused, BothTaken}
 use Rattle.tables.specs.declared.Index.{Index}
-use Rattle.tables.specs.declared.Admitted.the-variants.{Refused}
+use Rattle.tables.specs.declared.Admitted.the-variants.{Valid, Refused}
 
 -- the test by which 45 is given holds of an MD5 entry exactly if it is crossed
 
@@ -44,7 +44,9 @@ meets-crossed k e o f h =
 
 crossed-meets : (k : List ℕ) (e : Entry) → Crossed k e → meetsAny (entries k) e ≡ true
 unfolding meetsAny
-crossed-meets k e c = any-of (meets (e .selector)) (c .at-place) (overlap-found (c .other .selector) (e .selector) (c .pair) (c .first) (c .second))
+crossed-meets k e c =
+    any-of (meets (e .selector)) (c .at-place)
+    (overlap-found (c .other .selector) (e .selector) (c .pair) (c .first) (c .second))
 
 -- where 45 comes from
 
@@ -58,7 +60,8 @@ refusal-of : (k m : List ℕ) (x : Index) → admitted k m ≡ Refused 45 x → 
 unfolding admitted besides
 refusal-of k m x e = go (loaded Keys maxEntries k) (loaded Md5 maxEntries m) (crossing (entries k) (entries m) .there) refl refl refl
   where
-    go : (a b : Loaded) (c : Bool) → loaded Keys maxEntries k ≡ a → loaded Md5 maxEntries m ≡ b → crossing (entries k) (entries m) .there ≡ c → Refusal k m x
+    go : (a b : Loaded) (c : Bool) → loaded Keys maxEntries k ≡ a → loaded Md5 maxEntries m ≡ b
+        → crossing (entries k) (entries m) .there ≡ c → Refusal k m x
     go (LoadedRefused n i) b c p q r =
         let l = refused-low Keys maxEntries n i k p in
         let z : n ≡ 45 = cc (rw p at e) in
@@ -76,7 +79,8 @@ pub refused-crossed : RefusedCrossed
 refused-crossed k m x ok om e =
     let f = refusal-of k m x e in
     let r = found-there (meetsAny (entries k)) (entries m) 0 (f .there) in
-    let z : x .entry ≡ r .0 = sym (ap (λ (y : Index). y .entry) (f .index)) ∙ ap (λ (y : Found). y .index) (r .4) ∙ (let w : 0 + r .0 ≡ r .0 = omega arith in w) in (
+    let w : 0 + r .0 ≡ r .0 = omega arith in
+    let z : x .entry ≡ r .0 = sym (ap (λ (y : Index). y .entry) (f .index)) ∙ ap (λ (y : Found). y .index) (r .4) ∙ w in (
       sym (ap (λ (y : Index). y .table) (f .index)),
       subst (CrossedAt k m) (sym z)
           (record {
@@ -85,13 +89,19 @@ refused-crossed k m x ok om e =
             entry = r .1;
             at-entry = r .2;
             crossed = meets-crossed k (r .1) ok (each-at FieldsOf (entries-fields m om) (r .2)) (r .3);
-            before = λ j g a h c. (let y : _≡_ {A = ℕ} 0 1 = cc (found-before (meetsAny (entries k)) 0 (r .0) (r .1) a (r .4) h, crossed-meets k g c) in omega arith);
+            before =
+                λ j g a h c. (
+                let n = found-before (meetsAny (entries k)) 0 (r .0) (r .1) a (r .4) h in
+                let y : _≡_ {A = ℕ} 0 1 = cc (n, crossed-meets k g c) in
+                omega arith);
           }),
     )
 
 pub crossed-refused : CrossedRefused
 unfolding admitted besides
-crossed-refused k m i ok om c = rw (c .keys .1, c .md5s .1, first) (ap (λ (n : ℕ). Refused 45 (md5Index n)) (let z : 0 + i ≡ i = omega arith in z))
+crossed-refused k m i ok om c =
+    rw (c .keys .1, c .md5s .1, first)
+    (ap (λ (n : ℕ). Refused 45 (md5Index n)) (let z : 0 + i ≡ i = omega arith in z))
   where
     clear : (f : Entry) → FieldsOf f → (Crossed k f → ⊥) → (b : Bool) → meetsAny (entries k) f ≡ b → meetsAny (entries k) f ≡ false
     clear f g n true q = absurd (n (meets-crossed k f ok g q))
@@ -101,3 +111,23 @@ crossed-refused k m i ok om c = rw (c .keys .1, c .md5s .1, first) (ap (λ (n : 
     first =
         found-first (meetsAny (entries k)) 0 (c .at-entry) (crossed-meets k (c .entry) (c .crossed))
         (λ j f a h. clear f (each-at FieldsOf (entries-fields m om) a) (c .before j f a h) (meetsAny (entries k) f) refl)
+
+-- the order
+
+pub keys-refused : KeysRefused
+unfolding admitted
+keys-refused k m n i e = rw e
+
+pub md5-refused : Md5Refused
+unfolding admitted besides
+md5-refused k m c n i e f = rw (e, f)
+
+pub both-taken : BothTaken
+unfolding admitted besides
+both-taken k m c d ok om e f n = go (crossing (entries k) (entries m) .there) refl
+  where
+    go : (b : Bool) → crossing (entries k) (entries m) .there ≡ b → admitted k m ≡ Valid c
+    go true q =
+        let r = found-there (meetsAny (entries k)) (entries m) 0 q in
+        absurd (n (r .0) (r .1) (r .2) (meets-crossed k (r .1) ok (each-at FieldsOf (entries-fields m om) (r .2)) (r .3)))
+    go false q = rw (e, f, q)

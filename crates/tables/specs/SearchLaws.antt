@@ -1,14 +1,14 @@
 -- What a search of valid tables finds, and what it says that one finds something or nothing.
 use Prim.Native.Nat.{ℕ, _+_}
 use mathlib.Core.Bool.{Bool, true, false}
-use mathlib.Core.Path.{_≡_, refl, sym, ap, _∙_, subst}
+use mathlib.Core.Path.{_≡_, refl, sym, _∙_, subst}
 use mathlib.Core.List.{List}
 use mathlib.Core.Logic.{_⊎_, inl, inr}
 use native.Mathlib.Omega.{arith}
 use lib.Dec.{ltb}
 use borrow.Author.Tests.{eq-eqb, eqb-true, ltb-true, ltb-false}
 use Rattle.keys.specs.FormedLaws.{KeyProper, Md5Proper}
-use Rattle.keys.specs.FoundLaws.{found-only, found-there, found-none, found-nobody, any-found, any-there, answers-parts, answers-of}
+use Rattle.keys.specs.FoundLaws.{found-only, found-there, found-none, found-nobody, any-there, answers-parts, answers-of}
 use Rattle.keys.specs.FoundLaws.{any-of as any-passing}
 use Rattle.keys.specs.Match.{matches, clash}
 use Rattle.keys.specs.MatchLaws.{clash-of, overlap-found}
@@ -49,7 +49,8 @@ both-clash by p e f n h k =
     clash-of e f p (a .1) (b .1) (same-id by n (e .ids) (f .ids) (a .0) (b .0))
 
 pub answer-unique : AnswerUnique
-answer-unique t by p i j e f v n a b h k = one-place (t .keys) (v .apart) i j e f a b (both-clash by p e f n h k) (both-clash by p f e n k h)
+answer-unique t by p i j e f v n a b h k =
+    one-place (t .keys) (v .apart) i j e f a b (both-clash by p e f n h k) (both-clash by p f e n k h)
 
 -- both IDs of MD5 entries are 0
 md5-clash : {t : Tables} {i j : ℕ} {e f : Entry} (v : ValidTables t) (p : Pair) → At (t .md5s) i e → At (t .md5s) j f
@@ -71,7 +72,9 @@ recv-found t p id i e v a m s = answer-found t (Recv id) p v tt a (answers-of (R
 pub md5-found : Md5Found
 md5-found t p i e v a m =
     found-only (answers Any p) a (answers-of Any p e refl m)
-    (λ j f b k. let n = answers-parts Any p f k .1 in one-place (t .md5s) (v .md5-apart) j i f e b a (md5-clash v p b a n m) (md5-clash v p a b m n))
+    (λ j f b k.
+    let n = answers-parts Any p f k .1 in
+    one-place (t .md5s) (v .md5-apart) j i f e b a (md5-clash v p b a n m) (md5-clash v p a b m n))
 
 -- what a search finds, in any tables
 
@@ -89,23 +92,31 @@ found-holder l by p h =
     (record { place = subst (λ (n : ℕ). At l n (r .1)) z (r .2); matched = a .1 }, a .0)
 
 module _ (t : Tables) (p : Pair) where
-  pub send-holder : (id : ℕ) → sendEntry t p id .there ≡ true → Holder (t .keys) p (sendEntry t p id) × (sendEntry t p id .entry .ids .send ≡ id)
+  pub send-holder : (id : ℕ) → sendEntry t p id .there ≡ true
+      → Holder (t .keys) p (sendEntry t p id) × (sendEntry t p id .entry .ids .send ≡ id)
   send-holder id h = let r = found-holder (t .keys) (Send id) p h in (r .0, eqb-true _ _ (r .1))
 
-  pub recv-holder : (id : ℕ) → recvEntry t p id .there ≡ true → Holder (t .keys) p (recvEntry t p id) × (recvEntry t p id .entry .ids .recv ≡ id)
+  pub recv-holder : (id : ℕ) → recvEntry t p id .there ≡ true
+      → Holder (t .keys) p (recvEntry t p id) × (recvEntry t p id .entry .ids .recv ≡ id)
   recv-holder id h = let r = found-holder (t .keys) (Recv id) p h in (r .0, eqb-true _ _ (r .1))
 
   pub md5-holder : md5Entry t p .there ≡ true → Holder (t .md5s) p (md5Entry t p)
   md5-holder h = found-holder (t .md5s) Any p h .0
 
   -- nothing found: no entry of the table matches the pair and has the ID
-  pub send-none : (id : ℕ) {i : ℕ} {e : Entry} → sendEntry t p id .there ≡ false → At (t .keys) i e → matches (e .selector) p ≡ true → e .ids .send ≡ id → ⊥
+  pub send-none : (id : ℕ) {i : ℕ} {e : Entry} → sendEntry t p id .there ≡ false → At (t .keys) i e → matches (e .selector) p ≡ true
+      → e .ids .send ≡ id → ⊥
   send-none id {i} {e} h a m s =
-      let z : _≡_ {A = ℕ} 0 1 = cc (found-none (answers (Send id) p) 0 h a, answers-of (Send id) p e (eq-eqb (e .ids .send) id s) m) in omega arith
+      let y = answers-of (Send id) p e (eq-eqb (e .ids .send) id s) m in
+      let z : _≡_ {A = ℕ} 0 1 = cc (found-none (answers (Send id) p) 0 h a, y) in
+      omega arith
 
-  pub recv-none : (id : ℕ) {i : ℕ} {e : Entry} → recvEntry t p id .there ≡ false → At (t .keys) i e → matches (e .selector) p ≡ true → e .ids .recv ≡ id → ⊥
+  pub recv-none : (id : ℕ) {i : ℕ} {e : Entry} → recvEntry t p id .there ≡ false → At (t .keys) i e → matches (e .selector) p ≡ true
+      → e .ids .recv ≡ id → ⊥
   recv-none id {i} {e} h a m s =
-      let z : _≡_ {A = ℕ} 0 1 = cc (found-none (answers (Recv id) p) 0 h a, answers-of (Recv id) p e (eq-eqb (e .ids .recv) id s) m) in omega arith
+      let y = answers-of (Recv id) p e (eq-eqb (e .ids .recv) id s) m in
+      let z : _≡_ {A = ℕ} 0 1 = cc (found-none (answers (Recv id) p) 0 h a, y) in
+      omega arith
 
   pub md5-none : {i : ℕ} {e : Entry} → md5Entry t p .there ≡ false → At (t .md5s) i e → matches (e .selector) p ≡ true → ⊥
   md5-none {i} {e} h a m = let z : _≡_ {A = ℕ} 0 1 = cc (found-none (answers Any p) 0 h a, answers-of Any p e refl m) in omega arith
@@ -135,7 +146,9 @@ uncrossed t p i e v a m = go (md5Entry t p .there) refl
     go false q = q
     go true q =
         let h = md5-holder t p q in
-        let z : _≡_ {A = ℕ} 0 1 = cc (v .uncrossed i (md5Entry t p .index) e (md5Entry t p .entry) a (h .place), overlap-found (e .selector) (md5Entry t p .entry .selector) p m (h .matched)) in
+        let f = md5Entry t p .entry in
+        let o = overlap-found (e .selector) (f .selector) p m (h .matched) in
+        let z : _≡_ {A = ℕ} 0 1 = cc (v .uncrossed i (md5Entry t p .index) e f a (h .place), o) in
         absurd (omega arith)
 
 -- what is found in valid tables

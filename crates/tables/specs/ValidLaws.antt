@@ -1,5 +1,5 @@
 -- What tables are that are refused with no number.
-use Prim.Native.Nat.{ℕ, _≤_}
+use Prim.Native.Nat.{ℕ}
 use mathlib.Core.Bool.{Bool, true, false}
 use mathlib.Core.Path.{_≡_, refl, sym, ap, _∙_}
 use mathlib.Core.List.{List}
@@ -16,7 +16,7 @@ use Rattle.keys.specs.declared.entry.Entry.{Entry}
 use Rattle.keys.specs.declared.table.TableKind.the-variants.{Keys, Md5}
 use Rattle.keys.specs.declared.table.Loaded.{Loaded}
 use Rattle.keys.specs.declared.table.Loaded.the-variants.{Valid as LoadedValid, Refused as LoadedRefused}
-use Rattle.tables.specs.Tables.{Tables, maxEntries, crossing, besides, admitted, tablesOf}
+use Rattle.tables.specs.Tables.{Tables, maxEntries, crossing, besides, admitted}
 use Rattle.tables.specs.Valid.{Digest16, ValidTables, ValidBytes, ValidCount}
 use Rattle.tables.specs.declared.Admitted.the-variants.{Valid}
 
@@ -30,7 +30,8 @@ pub admitted-taken : (k m : List ℕ) (n : ℕ) → admitted k m ≡ Valid n →
 unfolding admitted besides
 admitted-taken k m n e = go (loaded Keys maxEntries k) (loaded Md5 maxEntries m) (crossing (entries k) (entries m) .there) refl refl refl
   where
-    go : (x y : Loaded) (b : Bool) → loaded Keys maxEntries k ≡ x → loaded Md5 maxEntries m ≡ y → crossing (entries k) (entries m) .there ≡ b → Taken k m n
+    go : (x y : Loaded) (b : Bool) → loaded Keys maxEntries k ≡ x → loaded Md5 maxEntries m ≡ y
+        → crossing (entries k) (entries m) .there ≡ b → Taken k m n
     go (LoadedRefused i j) y b p q r = let z : _≡_ {A = ℕ} 0 1 = cc (rw p at e) in absurd (omega arith)
     go (LoadedValid i) (LoadedRefused h j) b p q r = let z : _≡_ {A = ℕ} 0 1 = cc (rw (p, q) at e) in absurd (omega arith)
     go (LoadedValid i) (LoadedValid j) true p q r = let z : _≡_ {A = ℕ} 0 1 = cc (rw (p, q, r) at e) in absurd (omega arith)

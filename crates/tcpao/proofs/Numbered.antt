@@ -3,17 +3,17 @@ use Prim.Native.Nat.{ℕ}
 use mathlib.Core.Path.{_≡_, ap, _∙_}
 use mathlib.Core.Bool.{Bool}
 use mathlib.Core.List.{List}
-use Rattle.keys.specs.declared.table.Loaded.{Loaded}
-use Rattle.keys.specs.Table.{Tables, checked}
+use Rattle.tables.specs.declared.Admitted.{Admitted}
+use Rattle.tables.specs.Tables.{Tables, tablesOf}
 use Rattle.rules.specs.declared.Judged.{Judged}
 use Rattle.rules.specs.declared.SynJudged.{SynJudged}
 use Rattle.rules.specs.declared.Settled.{Settled}
 use Rattle.rules.specs.declared.Signed.{Signed}
 use Rattle.rules.specs.declared.State.{State}
 use Rattle.rules.specs.Connection.{Arrival}
-use Rattle.rules.specs.Calls.{judged, judgedSyn, openedPassively, openedActively, asked, signed}
+use Rattle.rules.specs.Calls.{judged, judgedSyn, openedPassively, openedActively, openedActivelyMd5, asked, signed}
 use Rattle.rules.specs.Answers.{Answer, verdictAnswer, signingAnswer, doneAnswer, tableAnswer}
-use Rattle.rules.specs.Answers.{tableNumber, judgedNumber, synNumber, openedNumber, askedNumber, signedNumber}
+use Rattle.rules.specs.Answers.{tableNumber, judgedNumber, synNumber, openedNumber, openedMd5Number, askedNumber, signedNumber}
 use Rattle.rules.specs.AnswerLaws as law
 
 abbrev ofJudged : Judged → Answer
@@ -51,5 +51,10 @@ asked-numbered t id q e = (e, ap ofSettled e ∙ law.asked-number t id q)
 pub signed-numbered : (t : Tables) (s out : List ℕ) (q : State) {r : Signed} → r ≡ signed t s out q → ofSigned r ≡ signedNumber t s out q
 signed-numbered t s out q e = ap ofSigned e ∙ law.signed-number t s out q
 
-pub table-numbered : (t : Tables) {r : Loaded} → r ≡ checked t → (r ≡ checked t) × (tableAnswer r ≡ tableNumber t)
-table-numbered t e = (e, ap tableAnswer e ∙ law.table-number t)
+pub opened-md5-numbered : (t : Tables) (local remote : List ℕ) (lp rp isn : ℕ) {r : Settled} → r ≡ openedActivelyMd5 t local remote lp rp isn
+    → (r ≡ openedActivelyMd5 t local remote lp rp isn) × (ofSettled r ≡ openedMd5Number t local remote lp rp)
+opened-md5-numbered t local remote lp rp isn e = (e, ap ofSettled e ∙ law.opened-md5-number t local remote lp rp isn)
+
+pub table-numbered : (k m : List ℕ) {r : Admitted} → r ≡ tablesOf k m .answer
+    → (r ≡ tablesOf k m .answer) × (tableAnswer r ≡ tableNumber (tablesOf k m))
+table-numbered k m e = (e, ap tableAnswer e ∙ law.table-number (record { keys = k; md5 = m }))

@@ -10,7 +10,7 @@ use lib.Dec.{eqb}
 use borrow.Author.Tests.{eqb-true, not-false}
 use Rattle.keys.specs.declared.entry.Pair.{Pair}
 use Rattle.keys.specs.declared.table.Found.{Found}
-use Rattle.keys.specs.Table.{Tables, sendEntry}
+use Rattle.tables.specs.Tables.{Tables, sendEntry, md5Entry}
 use Rattle.keys.specs.MatchLaws.{and-true}
 use Rattle.rules.specs.declared.Outcome.{Outcome}
 use Rattle.rules.specs.declared.Outcome.the-variants.{Good, Passed, Bad}
@@ -19,6 +19,7 @@ use Rattle.rules.specs.declared.Settled.{Settled}
 use Rattle.octets.specs.Tests.{test, first}
 use Rattle.rules.specs.Connection.{sized, pairOf, opening, empty}
 use Rattle.rules.specs.Calls.{refuse, unrefused, addressTests, tableTests, openTests, settledBy, openedWith, openedActively}
+use Rattle.rules.specs.Calls.{openedMd5With, openedActivelyMd5}
 use Rattle.checks.specs.GroupLaws.{Else, passed, stop, pass}
 
 -- addresses that 19 lets by have at most 16 bytes
@@ -41,16 +42,37 @@ module _ (t : Tables) (local remote : List ℕ) (lp rp isn id : ℕ) (z : Outcom
   refused-sizes h q =
       let p = pairOf local remote lp rp in
       let f = sendEntry t p id in
-      let new = opening p isn id (f .entry .ids .recv) in
+      let new = opening 0 p isn id (f .entry .ids .recv) in
       q ∙ kept z e e new h
       ∙ (λ i. settledBy (stop (addressTests local remote) (first (tableTests t ++ (test (refuse 35) (not (f .there)) ∷ [])) unrefused) sizes h i) (empties i) new)
 
   pub opens : {x y : ℕ} (p : Pair) (f : Found) (k : Outcome) (new : State) → z ≡ Good x y → p ≡ pairOf local remote lp rp → f ≡ sendEntry t p id
-      → k ≡ first (tableTests t ++ (test (refuse 35) (not (f .there)) ∷ [])) unrefused → new ≡ opening p isn id (f .entry .ids .recv)
+      → k ≡ first (tableTests t ++ (test (refuse 35) (not (f .there)) ∷ [])) unrefused → new ≡ opening 0 p isn id (f .entry .ids .recv)
       → r ≡ settledBy k e new → r ≡ openedActively t local remote lp rp isn id
   unfolding openedActively
   opens p f k new g pe fe ke ne q =
       q
       ∙ (λ i. settledBy (pass (addressTests local remote) refl sizes g ke i) (empties i) (ne i))
-      ∙ (λ i. settledBy (first (openTests t local remote (fe i)) unrefused) empty (opening p isn id (fe i .entry .ids .recv)))
+      ∙ (λ i. settledBy (first (openTests t local remote (fe i)) unrefused) empty (opening 0 p isn id (fe i .entry .ids .recv)))
       ∙ ap (λ (p : Pair). openedWith t local remote p isn id) pe
+
+-- by MD5
+module _ (t : Tables) (local remote : List ℕ) (lp rp isn : ℕ) (z : Outcome) (e : State) (r : Settled) (sizes : z ≡ first (addressTests local remote) unrefused) (empties : e ≡ empty) where
+  pub refused-sizes-md5 : Else z → r ≡ settledBy z e e → r ≡ openedActivelyMd5 t local remote lp rp isn
+  unfolding openedActivelyMd5
+  refused-sizes-md5 h q =
+      let p = pairOf local remote lp rp in
+      let f = md5Entry t p in
+      let new = opening 1 p isn 0 0 in
+      q ∙ kept z e e new h
+      ∙ (λ i. settledBy (stop (addressTests local remote) (first (tableTests t ++ (test (refuse 35) (not (f .there)) ∷ [])) unrefused) sizes h i) (empties i) new)
+
+  pub opens-md5 : {x y : ℕ} (p : Pair) (f : Found) (k : Outcome) (new : State) → z ≡ Good x y → p ≡ pairOf local remote lp rp → f ≡ md5Entry t p
+      → k ≡ first (tableTests t ++ (test (refuse 35) (not (f .there)) ∷ [])) unrefused → new ≡ opening 1 p isn 0 0
+      → r ≡ settledBy k e new → r ≡ openedActivelyMd5 t local remote lp rp isn
+  unfolding openedActivelyMd5
+  opens-md5 p f k new g pe fe ke ne q =
+      q
+      ∙ (λ i. settledBy (pass (addressTests local remote) refl sizes g ke i) (empties i) (ne i))
+      ∙ (λ i. settledBy (first (openTests t local remote (fe i)) unrefused) empty (opening 1 p isn 0 0))
+      ∙ ap (λ (p : Pair). openedMd5With t local remote p isn) pe

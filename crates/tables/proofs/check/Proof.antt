@@ -7,11 +7,15 @@ use Rattle.tables.proofs.check.Tie as tie
 
 returns : tie.Need-returns
 unfolding admitted
-returns c = table-refused keyIndex _ _ _ (c .before .before .before .before .load .ensures) _ _ _ (c .before .before .number .given .1) (c .refused .ensures)
+returns c =
+    table-refused keyIndex _ _ _ (c .before .before .before .before .load .ensures) _ _ _
+    (c .before .before .number .given .1) (c .refused .ensures)
 
 returns-2 : tie.Need-returns-2
 unfolding admitted
-returns-2 c = table-valid keyIndex _ _ _ (c .before .before .before .before .load .ensures) _ _ (c .before .before .n .given .1) (c .check-md5 .ensures)
+returns-2 c =
+    table-valid keyIndex _ _ _ (c .before .before .before .before .load .ensures) _ _
+    (c .before .before .n .given .1) (c .check-md5 .ensures)
 
 pub check-spec : {M : Type 1} → statement M
 check-spec =

@@ -13,7 +13,8 @@ returns c =
 returns-2 : tie.Need-returns-2
 unfolding besides
 returns-2 c =
-    table-refused md5Index _ _ _ (c .before .before .before .before .load .ensures) _ _ _ (c .before .before .number .given .1) (c .refused .ensures)
+    table-refused md5Index _ _ _ (c .before .before .before .before .load .ensures) _ _ _
+    (c .before .before .number .given .1) (c .refused .ensures)
 
 returns-3 : tie.Need-returns-3
 unfolding besides

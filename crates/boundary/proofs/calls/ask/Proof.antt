@@ -2,6 +2,7 @@
 use Prim.Native.Nat.{_<_, _^_}
 use mathlib.Core.Path.{sym, ap, _∙_, subst}
 use borrow.Author.Needs.{needs}
+use Rattle.tables.specs.Tables.{tablesOf}
 use Rattle.rules.specs.declared.Settled.{Settled}
 use Rattle.rules.specs.Calls.{asked}
 use Rattle.states.specs.Layout.{decodeOf, encodeOf}
@@ -15,7 +16,7 @@ use Rattle.boundary.proofs.calls.ask.Tie as tie
 returns : tie.Need-returns
 unfolding askExport
 returns c =
-    let a = c .before .before .before .before .before .before .args in
+    let a = c .before .before .before .before .before .before .before .args in
     left
     (refused ofSettled (λ (s : Settled). encodeOf (s .state)) (a .state .now)
     (asked (tablesOf (a .keys .now) (a .md5 .now)) (a .recv-id) (decodeOf (a .state .now)))
@@ -24,23 +25,24 @@ returns c =
 decode-requires : tie.Need-decode-requires
 decode-requires c κs =
     let i = c .before in
-    whole (i .before .before .before .before .before .args .state .now) _ (i .before .is-state .ensures) (i .if1 .left)
+    whole (i .before .before .before .before .before .before .args .state .now) _ (i .before .is-state .ensures) (i .if1 .left)
 
 put-requires : tie.Need-put-requires
 put-requires c κs =
     let i = c .before .before .before .before .before in
-    whole (i .before .before .before .before .before .args .state .now) _ (i .before .is-state .ensures) (i .if1 .left)
+    whole (i .before .before .before .before .before .before .args .state .now) _ (i .before .is-state .ensures) (i .if1 .left)
 
 of-done-requires : tie.Need-of-done-requires
 of-done-requires c κs =
     let e = c .before .before .before .before .before in
-    subst (λ (s : Settled). ofSettled s .value < 2 ^ 32) (sym (e .ask .ensures .0)) (asked-fits _ _ _ .value)
+    let a = e .before .before .before .before .before .before .before .before .before .args in
+    subst (λ (s : Settled). ofSettled s .value < 2 ^ 32) (sym (e .ask .ensures .0)) (asked-fits (record { keys = a .keys .now; md5 = a .md5 .now }) _ _ .value)
 
 returns-2 : tie.Need-returns-2
 unfolding askExport
 returns-2 c =
     let e = c .before .before .before .before .before .before in
-    let a = e .before .before .before .before .before .before .before .before .args in
+    let a = e .before .before .before .before .before .before .before .before .before .args in
     left
     (done ofSettled (λ (s : Settled). encodeOf (s .state)) (a .state .now) (asked (tablesOf (a .keys .now) (a .md5 .now)) (a .recv-id) (decodeOf (a .state .now)))
     (e .ask .result) _ _

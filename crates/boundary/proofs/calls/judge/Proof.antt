@@ -2,6 +2,7 @@
 use Prim.Native.Nat.{_<_, _^_}
 use mathlib.Core.Path.{sym, ap, _∙_, subst}
 use borrow.Author.Needs.{needs}
+use Rattle.tables.specs.Tables.{tablesOf}
 use Rattle.rules.specs.declared.Judged.{Judged}
 use Rattle.rules.specs.Connection.{arrivalOf}
 use Rattle.rules.specs.Calls.{judged}
@@ -16,7 +17,7 @@ use Rattle.boundary.proofs.calls.judge.Tie as tie
 returns : tie.Need-returns
 unfolding judgeExport
 returns c =
-    let a = c .before .before .before .before .before .before .before .before .before .args in
+    let a = c .before .before .before .before .before .before .before .before .before .before .args in
     left
     (refused ofJudged (λ (j : Judged). encodeOf (j .state)) (a .state .now)
     (judged (tablesOf (a .keys .now) (a .md5 .now)) (arrivalOf (a .source .now) (a .destination .now) (a .segment .now)) (decodeOf (a .state .now)))
@@ -25,26 +26,26 @@ returns c =
 decode-requires : tie.Need-decode-requires
 decode-requires c κs =
     let i = c .before in
-    whole (i .before .before .before .before .before .before .before .before .args .state .now) _
+    whole (i .before .before .before .before .before .before .before .before .before .args .state .now) _
     (i .before .is-state .ensures) (i .if1 .left)
 
 put-requires : tie.Need-put-requires
 put-requires c κs =
     let i = c .before .before .before .before .before in
-    whole (i .before .before .before .before .before .before .before .before .args .state .now) _
+    whole (i .before .before .before .before .before .before .before .before .before .args .state .now) _
     (i .before .is-state .ensures) (i .if1 .left)
 
 of-verdict-requires : tie.Need-of-verdict-requires
 of-verdict-requires c κs =
     let e = c .before .before .before .before .before in
-    subst (λ (j : Judged). j .index < 2 ^ 32) (sym (e .judge .ensures .0))
-    (judged-fits _ _ _ .index)
+    let a = e .before .before .before .before .before .before .before .before .before .before .before .before .args in
+    subst (λ (j : Judged). j .index .entry < 2 ^ 32) (sym (e .judge .ensures .0)) (judged-fits (record { keys = a .keys .now; md5 = a .md5 .now }) _ _ .index)
 
 returns-2 : tie.Need-returns-2
 unfolding judgeExport
 returns-2 c =
     let e = c .before .before .before .before .before .before in
-    let a = e .before .before .before .before .before .before .before .before .before .before .before .args in
+    let a = e .before .before .before .before .before .before .before .before .before .before .before .before .args in
     left
     (done ofJudged (λ (j : Judged). encodeOf (j .state)) (a .state .now)
     (judged (tablesOf (a .keys .now) (a .md5 .now)) (arrivalOf (a .source .now) (a .destination .now) (a .segment .now)) (decodeOf (a .state .now)))

@@ -4,6 +4,7 @@ use mathlib.Core.Path.{sym, ap, _∙_, subst}
 use mathlib.Core.Bool.{Bool, cond}
 use mathlib.Core.List.{List}
 use borrow.Author.Needs.{needs}
+use Rattle.tables.specs.Tables.{tablesOf}
 use Rattle.rules.specs.declared.Settled.{Settled}
 use Rattle.rules.specs.Calls.{openedActively}
 use Rattle.states.specs.Layout.{encodeOf}
@@ -20,7 +21,7 @@ bytes b s = cond (opens (s .answer)) (encodeOf (s .state)) b
 returns : tie.Need-returns
 unfolding openActiveExport
 returns c =
-    let a = c .before .before .before .before .before .before .before .before .args in
+    let a = c .before .before .before .before .before .before .before .before .before .args in
     left
     (refused ofSettled (bytes (a .state .now)) (a .state .now)
     (openedActively (tablesOf (a .keys .now) (a .md5 .now)) (a .local .now) (a .remote .now) (a .local-port) (a .remote-port) (a .isn) (a .send-id))
@@ -29,20 +30,20 @@ returns c =
 put-where-requires : tie.Need-put-where-requires
 put-where-requires c κs =
     let i = c .before .before .before .before in
-    whole (i .before .before .before .before .before .before .before .args .state .now) _ (i .before .is-state .ensures) (i .if1 .left)
+    whole (i .before .before .before .before .before .before .before .before .args .state .now) _ (i .before .is-state .ensures) (i .if1 .left)
 
 of-done-requires : tie.Need-of-done-requires
 of-done-requires c κs =
     let e = c .before .before .before .before .before .before in
-    subst (λ (s : Settled). ofSettled s .value < 2 ^ 32) (sym (e .open-active .ensures .0))
-    (active-fits _ _ _ _ _ _ _ .value)
+    let a = e .before .before .before .before .before .before .before .before .before .args in
+    subst (λ (s : Settled). ofSettled s .value < 2 ^ 32) (sym (e .open-active .ensures .0)) (active-fits (record { keys = a .keys .now; md5 = a .md5 .now }) _ _ _ _ _ _ .value)
 
 returns-2 : tie.Need-returns-2
 unfolding openActiveExport
 returns-2 c =
     let p = c .before .before .before in
     let e = p .before .before .before .before in
-    let a = e .before .before .before .before .before .before .before .before .args in
+    let a = e .before .before .before .before .before .before .before .before .before .args in
     left
     (done ofSettled (bytes (a .state .now)) (a .state .now)
     (openedActively (tablesOf (a .keys .now) (a .md5 .now)) (a .local .now) (a .remote .now) (a .local-port) (a .remote-port) (a .isn) (a .send-id))

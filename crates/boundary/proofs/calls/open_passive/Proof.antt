@@ -4,6 +4,7 @@ use mathlib.Core.Path.{sym, ap, _∙_, subst}
 use mathlib.Core.Bool.{Bool, cond}
 use mathlib.Core.List.{List}
 use borrow.Author.Needs.{needs}
+use Rattle.tables.specs.Tables.{tablesOf}
 use Rattle.rules.specs.declared.Judged.{Judged}
 use Rattle.rules.specs.Connection.{arrivalOf}
 use Rattle.rules.specs.Calls.{openedPassively}
@@ -21,7 +22,7 @@ bytes b j = cond (settles (j .verdict)) (encodeOf (j .state)) b
 returns : tie.Need-returns
 unfolding openPassiveExport
 returns c =
-    let a = c .before .before .before .before .before .before .before .before .before .args in
+    let a = c .before .before .before .before .before .before .before .before .before .before .args in
     left
     (refused ofJudged (bytes (a .state .now)) (a .state .now)
     (openedPassively (tablesOf (a .keys .now) (a .md5 .now)) (arrivalOf (a .source .now) (a .destination .now) (a .segment .now)) (a .isn) (strictly (a .setting)))
@@ -30,21 +31,21 @@ returns c =
 put-where-requires : tie.Need-put-where-requires
 put-where-requires c κs =
     let i = c .before .before .before .before in
-    whole (i .before .before .before .before .before .before .before .before .args .state .now) _
+    whole (i .before .before .before .before .before .before .before .before .before .args .state .now) _
     (i .before .is-state .ensures) (i .if1 .left)
 
 of-verdict-requires : tie.Need-of-verdict-requires
 of-verdict-requires c κs =
     let e = c .before .before .before .before .before .before in
-    subst (λ (j : Judged). j .index < 2 ^ 32) (sym (e .open-passive .ensures .0))
-    (opened-fits _ _ _ _ .index)
+    let a = e .before .before .before .before .before .before .before .before .before .before .args in
+    subst (λ (j : Judged). j .index .entry < 2 ^ 32) (sym (e .open-passive .ensures .0)) (opened-fits (record { keys = a .keys .now; md5 = a .md5 .now }) _ _ _ .index)
 
 returns-2 : tie.Need-returns-2
 unfolding openPassiveExport
 returns-2 c =
     let p = c .before .before .before in
     let e = p .before .before .before .before in
-    let a = e .before .before .before .before .before .before .before .before .before .args in
+    let a = e .before .before .before .before .before .before .before .before .before .before .args in
     left
     (done ofJudged (bytes (a .state .now)) (a .state .now)
     (openedPassively (tablesOf (a .keys .now) (a .md5 .now)) (arrivalOf (a .source .now) (a .destination .now) (a .segment .now)) (a .isn) (strictly (a .setting)))

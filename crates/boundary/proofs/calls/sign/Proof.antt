@@ -2,6 +2,7 @@
 use Prim.Native.Nat.{_<_, _^_}
 use mathlib.Core.Path.{sym, ap, _∙_, subst}
 use borrow.Author.Needs.{needs}
+use Rattle.tables.specs.Tables.{tablesOf}
 use Rattle.rules.specs.declared.Signed.{Signed}
 use Rattle.rules.specs.Calls.{signed, output}
 use Rattle.states.specs.Layout.{decodeOf, encodeOf}
@@ -15,7 +16,7 @@ use Rattle.boundary.proofs.calls.sign.Tie as tie
 returns : tie.Need-returns
 unfolding signExport
 returns c =
-    let a = c .before .before .before .before .before .before .before .before .args in
+    let a = c .before .before .before .before .before .before .before .before .before .args in
     let h = other (a .state .now) _ (c .before .before .is-state .ensures) (c .before .if1 .taken) in
     let q = decodeOf (a .state .now) in
     let r =
@@ -27,25 +28,26 @@ returns c =
 decode-requires : tie.Need-decode-requires
 decode-requires c κs =
     let i = c .before in
-    whole (i .before .before .before .before .before .before .before .args .state .now) _ (i .before .is-state .ensures) (i .if1 .left)
+    whole (i .before .before .before .before .before .before .before .before .args .state .now) _ (i .before .is-state .ensures) (i .if1 .left)
 
 put-requires : tie.Need-put-requires
 put-requires c κs =
     let i = c .before .before .before .before .before .before .before .before in
-    whole (i .before .before .before .before .before .before .before .args .state .now) _ (i .before .is-state .ensures) (i .if1 .left)
+    whole (i .before .before .before .before .before .before .before .before .args .state .now) _ (i .before .is-state .ensures) (i .if1 .left)
 
 of-signing-requires : tie.Need-of-signing-requires
 of-signing-requires c κs =
     let e = c .before .before .before .before .before .before .before in
+    let a = e .before .before .before .before .before .before .before .before .before .before .before .before .args in
     subst (λ (s : Signed). ofSigned s .value < 2 ^ 32) (sym (e .sign .ensures .0))
-    (signed-fits _ _ _ _ .value)
+    (signed-fits (record { keys = a .keys .now; md5 = a .md5 .now }) _ _ _ .value)
 
 returns-2 : tie.Need-returns-2
 unfolding signExport
 returns-2 c =
     let e = c .before .before .before .before .before .before .before .before in
     let d = e .before .before in
-    let a = d .before .before .before .before .before .before .before .before .before .args in
+    let a = d .before .before .before .before .before .before .before .before .before .before .args in
     let h = whole (a .state .now) _ (d .before .before .before .is-state .ensures) (d .before .before .if1 .left) in
     let q = decodeOf (a .state .now) in
     let r =

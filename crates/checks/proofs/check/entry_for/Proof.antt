@@ -2,7 +2,7 @@
 use Prim.Native.Nat.{ℕ}
 use mathlib.Core.Path.{ap, _∙_}
 use borrow.Author.Needs.{needs}
-use Rattle.keys.specs.Table.{recvEntry}
+use Rattle.tables.specs.Tables.{tablesOf, recvEntry}
 use Rattle.checks.proofs.check.entry_for.Statement.{statement}
 use Rattle.checks.proofs.check.entry_for.Tie as tie
 
@@ -12,4 +12,4 @@ entry-for-spec =
     (tie.spec
     (λ c κs. search needs)
     (λ c κs. search needs)
-    (λ c. c .find-recv .ensures ∙ ap (λ (id : ℕ). recvEntry (tablesOf (c .before .before .before .before .args .keys .now) (c .before .before .before .before .args .md5 .now)) (c .before .before .before .before .args .pair) id) (c .before .key-id .ensures)))
+    (λ c. c .find-recv .ensures ∙ ap (λ (id : ℕ). recvEntry (tablesOf (c .before .before .before .before .before .args .keys .now) (c .before .before .before .before .before .args .md5 .now)) (c .before .before .before .before .before .args .pair) id) (c .before .key-id .ensures)))

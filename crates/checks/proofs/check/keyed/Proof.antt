@@ -3,6 +3,7 @@ use borrow.Author.Needs.{needs}
 use Prim.Native.Nat.{ℕ, _≤_}
 use mathlib.Core.Bool.{cond}
 use mathlib.Core.Path.{refl, sym, ap, subst, _∙_}
+use Rattle.tables.specs.Tables.{tablesOf}
 use Rattle.wire.specs.Options.{aoIn}
 use Rattle.wire.specs.declared.header.Header.{Header}
 use Rattle.keys.specs.declared.table.Found.{Found}
@@ -14,22 +15,22 @@ use Rattle.checks.proofs.check.keyed.Statement.{statement}
 use Rattle.checks.proofs.check.keyed.Tie as tie
 
 entry-for-requires : tie.Need-entry-for-requires
-entry-for-requires c κs = (c .carried .ensures ∙ ap (λ (h : Header). aoIn (h .options)) (c .before .before .before .before .pre .2), c .before .before .before .before .pre .1)
+entry-for-requires c κs = (c .carried .ensures ∙ ap (λ (h : Header). aoIn (h .options)) (c .before .before .before .before .before .pre .2), c .before .before .before .before .before .pre .1)
 
 by-key-requires : tie.Need-by-key-requires
 by-key-requires c κs =
-    let a = c .before .before .before .before .before .before .before .before .args in (
-      c .before .before .before .before .carried .ensures ∙ ap (λ (h : Header). aoIn (h .options)) (c .before .before .before .before .before .before .before .before .pre .2),
-      c .before .before .before .before .before .before .before .before .pre .1,
-      subst (λ (f : Found). f .entry .secret .«mac_bytes» ≤ 16) (sym (c .before .before .before .entry-for .ensures)) (entry-mac (tablesOf (a .keys .now) (a .md5 .now)) (a .conn .pair) (keyId (a .segment .now)) (c .before .before .before .before .before .before .before .before .pre .0)),
+    let a = c .before .before .before .before .before .before .before .before .before .args in (
+      c .before .before .before .before .carried .ensures ∙ ap (λ (h : Header). aoIn (h .options)) (c .before .before .before .before .before .before .before .before .before .pre .2),
+      c .before .before .before .before .before .before .before .before .before .pre .1,
+      subst (λ (f : Found). f .entry .secret .«mac_bytes» ≤ 16) (sym (c .before .before .before .entry-for .ensures)) (entry-mac (a .keys .now) (a .md5 .now) (a .conn .pair) (keyId (a .segment .now)) (c .before .before .before .before .before .before .before .before .before .pre .0)),
       refl,
       refl,
     )
 
 returns : tie.Need-returns
 returns c =
-    let p = c .before .before .before .before .before .before .before .before .before .pre in
-    let a = c .before .before .before .before .before .before .before .before .before .args in
+    let p = c .before .before .before .before .before .before .before .before .before .before .pre in
+    let a = c .before .before .before .before .before .before .before .before .before .before .args in
     let number = ap (λ (h : Header). h .sequence) (p .2) in
     let isn = c .before .before .before .peer-isn .ensures ∙ ap (λ (n : ℕ). cond (isOpen (a .conn)) (a .conn .«peer_isn») n) number in
     begins-is (a .segment .now) refl refl (c .before .before .before .before .entry-for .ensures) (c .before .before .arriving-flow .ensures ∙ ap (λ (n : ℕ). arrivingOn (a .conn .pair) n (a .conn .isn)) isn)

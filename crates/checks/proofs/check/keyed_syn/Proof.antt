@@ -6,7 +6,7 @@ use mathlib.Core.Bool.{Bool, cond, _||_}
 use Rattle.wire.specs.Options.{aoIn}
 use Rattle.wire.specs.declared.header.Header.{Header}
 use Rattle.keys.specs.declared.table.Found.{Found}
-use Rattle.keys.specs.Table.{anyEntry}
+use Rattle.tables.specs.Tables.{tablesOf, anyEntry}
 use Rattle.rules.specs.declared.Outcome.{Outcome}
 use Rattle.rules.specs.declared.Outcome.the-variants.{Passed}
 use Rattle.rules.specs.declared.Place.the-variants.{At}
@@ -28,11 +28,11 @@ unknown-is : {m n : Bool} {o : Outcome} (strict : Bool) → m ≡ n → o ≡ co
 unknown-is strict e q = q ∙ ap (λ (b : Bool). cond (b || strict) (refuse 26) Passed) e
 
 entry-for-requires : tie.Need-entry-for-requires
-entry-for-requires c κs = (c .carried .ensures ∙ ap (λ (h : Header). aoIn (h .options)) (c .before .before .before .pre .2), c .before .before .before .pre .1)
+entry-for-requires c κs = (c .carried .ensures ∙ ap (λ (h : Header). aoIn (h .options)) (c .before .before .before .before .pre .2), c .before .before .before .before .pre .1)
 
 by-key-requires : tie.Need-by-key-requires
 by-key-requires c κs =
-    let start = c .before .before .before .before .before .before .before .before .before in
+    let start = c .before .before .before .before .before .before .before .before .before .before in
     let a = start .args in
     let matched = c .before .before .before .any-match .ensures in
     let option = c .before .before .before .before .before .before .carried .ensures in
@@ -40,14 +40,14 @@ by-key-requires c κs =
       option ∙ ap (λ (h : Header). aoIn (h .options)) (start .pre .2),
       start .pre .1,
       subst (λ (f : Found). f .entry .secret .«mac_bytes» ≤ 16) (sym found)
-          (entry-mac (tablesOf (a .keys .now) (a .md5 .now)) (a .pair) (keyId (a .segment .now)) (start .pre .0)),
+          (entry-mac (a .keys .now) (a .md5 .now) (a .pair) (keyId (a .segment .now)) (start .pre .0)),
       ap isFinal (missing-is matched (c .before .before .syn-missing .ensures)) ∙ missing-final (anyEntry (tablesOf (a .keys .now) (a .md5 .now)) (a .pair)),
       ap isFinal (unknown-is (a .strict) matched (c .before .syn-unknown .ensures)) ∙ unknown-final (tablesOf (a .keys .now) (a .md5 .now)) (a .pair) (a .strict),
     )
 
 returns : tie.Need-returns
 returns c =
-    let start = c .before .before .before .before .before .before .before .before .before .before in
+    let start = c .before .before .before .before .before .before .before .before .before .before .before in
     let a = start .args in
     let number = ap (λ (h : Header). h .sequence) (start .pre .2) in
     let matched = c .before .before .before .before .any-match .ensures in

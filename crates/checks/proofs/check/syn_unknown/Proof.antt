@@ -2,18 +2,19 @@
 use mathlib.Core.Path.{_≡_}
 use mathlib.Core.Bool.{Bool, true, false, cond, _||_}
 use mathlib.Core.Logic.{⊎-elim}
-use Rattle.rules.specs.declared.Outcome.the-variants.{Passed, Bad}
+use Rattle.rules.specs.declared.Outcome.the-variants.{Passed}
+use Rattle.rules.specs.Calls.{refuse}
 use Rattle.checks.proofs.check.syn_unknown.Statement.{statement}
 use Rattle.checks.proofs.check.syn_unknown.Tie as tie
 
 -- by the first, by the second, by neither
-matching : (m s : Bool) → m ≡ true → Bad 26 0 ≡ cond (m || s) (Bad 26 0) Passed
+matching : (m s : Bool) → m ≡ true → refuse 26 ≡ cond (m || s) (refuse 26) Passed
 matching m s e = rw e
 
-deciding : (m s : Bool) → m ≡ false → s ≡ true → Bad 26 0 ≡ cond (m || s) (Bad 26 0) Passed
+deciding : (m s : Bool) → m ≡ false → s ≡ true → refuse 26 ≡ cond (m || s) (refuse 26) Passed
 deciding m s e d = rw (e, d)
 
-neither : (m s : Bool) → m ≡ false → s ≡ false → Passed ≡ cond (m || s) (Bad 26 0) Passed
+neither : (m s : Bool) → m ≡ false → s ≡ false → Passed ≡ cond (m || s) (refuse 26) Passed
 neither m s e d = rw (e, d)
 
 returns : tie.Need-returns

@@ -1,12 +1,16 @@
 -- What the option reader found.
 use borrow.Author.Needs.{needs}
-use Rattle.wire.specs.declared.options.Options.the-variants.{Found}
+use mathlib.Core.Path.{refl}
+use Rattle.wire.specs.declared.options.Options.the-variants.{Malformed, Found}
 use Rattle.checks.proofs.Formed.{form-is}
 use Rattle.checks.proofs.faults.form_faults.Statement.{statement}
 use Rattle.checks.proofs.faults.form_faults.Tie as tie
+
+returns : tie.Need-returns
+returns c = form-is Malformed (c .enum-told .given .1) refl
 
 returns-2 : tie.Need-returns-2
 returns-2 c = form-is (Found (c .before .before .options .given .0 .0)) (c .before .before .options .given .1) (c .option-faults .ensures)
 
 pub form-faults-spec : {M : Type 1} → statement M
-form-faults-spec = tie.close (tie.spec (λ c. search needs) (λ c. search needs) (λ c κs. search needs) (λ c. search needs) returns-2)
+form-faults-spec = tie.close (tie.spec (λ c. search needs) (λ c. search needs) (λ c κs. search needs) returns returns-2)

@@ -2,9 +2,12 @@
 use borrow.Author.Needs.{needs}
 use mathlib.Core.Path.{sym}
 use borrow.Author.Tests.{eq-eqb, ne-eqb}
-use Rattle.checks.proofs.SignNumbers.{placed}
+use Rattle.checks.proofs.SignNumbers.{unplaced, placed}
 use Rattle.checks.proofs.signing.place_faults.Statement.{statement}
 use Rattle.checks.proofs.signing.place_faults.Tie as tie
+
+returns : tie.Need-returns
+returns c = let a = c .before .before .args in unplaced (a .conn) (a .place) (a .syn) (c .enum-told .given .1)
 
 returns-2 : tie.Need-returns-2
 returns-2 c =
@@ -28,4 +31,4 @@ returns-4 c =
 
 pub place-faults-spec : {M : Type 1} → statement M
 place-faults-spec =
-    tie.close (tie.spec (λ c. search needs) (λ c. search needs) (λ c. search needs) (λ c. search needs) returns-2 returns-3 returns-4)
+    tie.close (tie.spec (λ c. search needs) (λ c. search needs) returns (λ c. search needs) returns-2 returns-3 returns-4)

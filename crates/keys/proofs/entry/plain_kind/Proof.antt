@@ -1,7 +1,7 @@
 -- By the two tests.
 use borrow.Author.Needs.{needs}
-use mathlib.Core.Bool.{Bool, not}
-use mathlib.Core.Path.{sym, ap, _∙_}
+use mathlib.Core.Bool.{not}
+use mathlib.Core.Path.{ap}
 use lib.Dec.{eqb}
 use Prim.Native.Nat.{ℕ}
 use borrow.Author.Tests.{not-true, not-false}

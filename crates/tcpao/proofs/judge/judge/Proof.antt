@@ -1,5 +1,6 @@
 -- The answer and the state, from what `check` gives.
 use borrow.Author.Needs.{needs}
+use Rattle.tables.specs.Tables.{tablesOf}
 use Rattle.rules.specs.Connection.{arrivalOf}
 use Rattle.tcpao.proofs.Judging.{at-number, judged-is}
 use Rattle.tcpao.proofs.Numbered.{judged-numbered}
@@ -8,13 +9,13 @@ use Rattle.tcpao.proofs.judge.judge.Tie as tie
 
 after-judging-requires : tie.Need-after-judging-requires
 after-judging-requires c κs =
-    let a = c .before .before .before .before .before .before .before .before .before .args in
+    let a = c .before .before .before .before .before .before .before .before .before .before .args in
     let s = arrivalOf (a .source .now) (a .destination .now) (a .segment .now) in
     at-number (tablesOf (a .keys .now) (a .md5 .now)) (a .state .conn) (a .state .seen) s (c .before .before .before .check .ensures) (c .sequence .ensures)
 
 returns : tie.Need-returns
 returns c =
-    let a = c .before .before .before .before .before .before .before .before .before .before .args in
+    let a = c .before .before .before .before .before .before .before .before .before .before .before .args in
     let s = arrivalOf (a .source .now) (a .destination .now) (a .segment .now) in
     judged-numbered (tablesOf (a .keys .now) (a .md5 .now)) s (a .state)
     (judged-is (tablesOf (a .keys .now) (a .md5 .now)) s (a .state) (c .before .before .before .before .check .ensures)

@@ -1,5 +1,6 @@
 -- 19 alone needs no pair; behind it the addresses are small enough for one, and the search, the tests and the new state are those of the definition.
 use borrow.Author.Needs.{needs}
+use Rattle.tables.specs.Tables.{tablesOf}
 use Rattle.tcpao.proofs.OpenAnswers.{small, refused-sizes, opens}
 use Rattle.tcpao.proofs.Numbered.{opened-numbered}
 use Rattle.tcpao.proofs.open.open_active.Statement.{statement}
@@ -7,19 +8,19 @@ use Rattle.tcpao.proofs.open.open_active.Tie as tie
 
 returns : tie.Need-returns
 returns c =
-    let a = c .before .before .before .before .before .before .before .args in
+    let a = c .before .before .before .before .before .before .before .before .args in
     opened-numbered (tablesOf (a .keys .now) (a .md5 .now)) (a .local .now) (a .remote .now) (a .local-port) (a .remote-port) (a .isn) (a .send-id)
     (refused-sizes (tablesOf (a .keys .now) (a .md5 .now)) (a .local .now) (a .remote .now) (a .local-port) (a .remote-port) (a .isn) (a .send-id) _ _ _
     (c .before .before .address-faults .ensures) (c .before .before .before .empty .ensures) (c .before .match .keys2) (c .settled-by .ensures))
 
 pair-of-requires : tie.Need-pair-of-requires
 pair-of-requires c κs =
-    let a = c .before .before .before .before .before .before .before .args in
+    let a = c .before .before .before .before .before .before .before .before .args in
     small (a .local .now) (a .remote .now) (c .before .before .address-faults .ensures) (c .enum-told .given .1)
 
 returns-2 : tie.Need-returns-2
 returns-2 c =
-    let a = c .before .before .before .before .before .before .before .before .before .before .before .before .args in
+    let a = c .before .before .before .before .before .before .before .before .before .before .before .before .before .args in
     opened-numbered (tablesOf (a .keys .now) (a .md5 .now)) (a .local .now) (a .remote .now) (a .local-port) (a .remote-port) (a .isn) (a .send-id)
     (opens (tablesOf (a .keys .now) (a .md5 .now)) (a .local .now) (a .remote .now) (a .local-port) (a .remote-port) (a .isn) (a .send-id) _ _ _
     (c .before .before .before .before .before .before .before .address-faults .ensures)

@@ -1,5 +1,6 @@
 -- The tests, then the answer by their outcome.
 use borrow.Author.Needs.{needs}
+use Rattle.tables.specs.Tables.{tablesOf}
 use mathlib.Core.Path.{_∙_}
 use Rattle.rules.specs.Calls.{settledBy, asked}
 use Rattle.tcpao.proofs.Numbered.{asked-numbered}
@@ -9,7 +10,7 @@ use Rattle.tcpao.proofs.operator.ask.Tie as tie
 returns : tie.Need-returns
 unfolding asked
 returns c =
-    let a = c .before .before .before .before .args in
+    let a = c .before .before .before .before .before .args in
     asked-numbered (tablesOf (a .keys .now) (a .md5 .now)) (a .recv-id) (a .state)
     (c .settled-by .ensures ∙ (λ i. settledBy (c .before .before .ask-faults .ensures i) (a .state) (c .before .with-asked .ensures i)))
 

@@ -1,5 +1,6 @@
 -- The input, then the rest of the tests; behind them what waits for the data.
 use borrow.Author.Needs.{needs}
+use Rattle.tables.specs.Tables.{tablesOf}
 use Rattle.checks.specs.SignLaws.{at-input, at-signing}
 use Rattle.tcpao.proofs.SignAnswers.{nothing-begins, may-start, begins}
 use Rattle.tcpao.proofs.sign.begin.Statement.{statement}

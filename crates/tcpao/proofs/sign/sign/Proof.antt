@@ -1,5 +1,6 @@
 -- One way for each outcome: the answer and the output are those of the definition. A good outcome leaves what the writer asks.
 use borrow.Author.Needs.{needs}
+use Rattle.tables.specs.Tables.{tablesOf}
 use Prim.Native.Nat.{_+_}
 use mathlib.Core.Path.{_≡_, refl}
 use native.Mathlib.Omega.{arith}
