@@ -9,16 +9,19 @@ use lib.ListN.{length, getD, take, drop, replicate, length-take, length-drop}
 use lib.Seq.{paste, take-all, length-take-le}
 use Rattle.octets.specs.Octets.{get16, get32}
 use Rattle.keys.specs.declared.entry.Pair.{Pair}
+use Rattle.keys.specs.declared.table.TableKind.the-variants.{Keys}
 use Rattle.keys.specs.declared.table.Loaded.{Loaded}
-use Rattle.keys.specs.declared.table.Loaded.the-variants.{Valid, Refused}
+use Rattle.keys.specs.declared.table.Loaded.the-variants.{Refused}
 use Rattle.keys.specs.declared.table.Found.{Found}
 use Rattle.keys.specs.Entry.{isFamily}
-use Rattle.keys.specs.Table.{loaded, sendEntry, recvEntry}
+use Rattle.keys.specs.Table.{loaded}
+use Rattle.tables.specs.declared.Admitted.the-variants.{Valid}
+use Rattle.tables.specs.Tables.{noIndex, keyIndex, afterTable, sendEntry, recvEntry}
 use Rattle.rules.specs.declared.Outcome.the-variants.{Good, Bad}
 use Rattle.rules.specs.declared.State.{State}
-use Rattle.rules.specs.Connection.{opened}
+use Rattle.rules.specs.Connection.{aoWay, opened}
 use Rattle.rules.specs.Calls.{isRefused}
-use Rattle.recording.specs.Recording.{openPair, openState, openOutcome, sendId, askId, deskEntries, deskTables}
+use Rattle.recording.specs.Recording.{openPair, openState, openOutcome, sendId, askId, deskEntries, deskTables, deskAnswer}
 
 -- sixteen bytes laid into an array of as many
 pub field-is : (at : ℕ) (b x : List ℕ) → at + 16 ≤ length b
@@ -38,32 +41,35 @@ pub pair-is : (b : List ℕ) (lp rp : ℕ) (l r : List ℕ) → lp ≡ get16 b 4
 pair-is b lp rp l r a c d e = λ i. record { family = getD b 1 0; «local_port» = a i; «remote_port» = c i; local = d i; remote = e i }
 
 pub state-is : (b : List ℕ) (p : Pair) (isn peer : ℕ) (q : State) → p ≡ openPair b → isn ≡ get32 b 8 → peer ≡ get32 b 12
-    → q ≡ opened p isn peer (getD b 2 0) (getD b 3 0) → q ≡ openState b
-state-is b p isn peer q a c d e = e ∙ (λ i. opened (a i) (c i) (d i) (sendId b) (askId b))
+    → q ≡ opened aoWay p isn peer (getD b 2 0) (getD b 3 0) → q ≡ openState b
+state-is b p isn peer q a c d e = e ∙ (λ i. opened aoWay (a i) (c i) (d i) (sendId b) (askId b))
 
 -- 18, the table's number, 35, 35
+
+abbrev pub refuses : Loaded → Bool
+refuses l = isRefused (afterTable keyIndex l Valid)
 
 module _ (t b : List ℕ) (p : Pair) (pe : p ≡ openPair b) where
   family-is : (f : Bool) → f ≡ isFamily (p .family) → isFamily (openPair b .family) ≡ f
   family-is f e = sym (e ∙ ap (λ (x : Pair). isFamily (x .family)) pe)
 
-  pub gives-18 : (f : Bool) → f ≡ isFamily (p .family) → not f ≡ true → Bad 18 0 ≡ openOutcome t b
+  pub gives-18 : (f : Bool) → f ≡ isFamily (p .family) → not f ≡ true → Bad 18 noIndex ≡ openOutcome t b
   unfolding openOutcome
   gives-18 f e h = rw (family-is f e, h)
 
   module _ (f : Bool) (fe : f ≡ isFamily (p .family)) (h : not f ≡ false) where
-    pub gives-refusal : (l : Loaded) (n i : ℕ) → l ≡ loaded deskEntries t → l ≡ Refused n i → Bad n i ≡ openOutcome t b
+    pub gives-refusal : (l : Loaded) (n i : ℕ) → l ≡ loaded Keys deskEntries t → l ≡ Refused n i → Bad n (keyIndex i) ≡ openOutcome t b
     unfolding openOutcome
     gives-refusal l n i le q = rw (family-is f fe, h, sym le, q)
 
-    module _ (l : Loaded) (le : l ≡ loaded deskEntries t) (v : isRefused l ≡ false) (s : Found) (se : s ≡ sendEntry (deskTables t) p (getD b 2 0)) where
+    module _ (l : Loaded) (le : l ≡ loaded Keys deskEntries t) (v : refuses l ≡ false) (s : Found) (se : s ≡ sendEntry (deskTables t) p (getD b 2 0)) where
       sends : sendEntry (deskTables t) (openPair b) (sendId b) .there ≡ s .there
       sends = sym (ap (λ (x : Found). x .there) (se ∙ ap (λ (x : Pair). sendEntry (deskTables t) x (sendId b)) pe))
 
-      valid : isRefused (loaded deskEntries t) ≡ false
-      valid = ap isRefused (sym le) ∙ v
+      valid : isRefused (deskAnswer t) ≡ false
+      valid = ap refuses (sym le) ∙ v
 
-      pub gives-35-send : not (s .there) ≡ true → Bad 35 0 ≡ openOutcome t b
+      pub gives-35-send : not (s .there) ≡ true → Bad 35 noIndex ≡ openOutcome t b
       unfolding openOutcome
       gives-35-send k = rw (family-is f fe, h, valid, sends, k)
 
@@ -71,7 +77,7 @@ module _ (t b : List ℕ) (p : Pair) (pe : p ≡ openPair b) where
         recvs : recvEntry (deskTables t) (openPair b) (askId b) .there ≡ r .there
         recvs = sym (ap (λ (x : Found). x .there) (re ∙ ap (λ (x : Pair). recvEntry (deskTables t) x (askId b)) pe))
 
-        pub gives-35-recv : not (r .there) ≡ true → Bad 35 0 ≡ openOutcome t b
+        pub gives-35-recv : not (r .there) ≡ true → Bad 35 noIndex ≡ openOutcome t b
         unfolding openOutcome
         gives-35-recv m = rw (family-is f fe, h, valid, sends, k, recvs, m)
 

@@ -9,6 +9,7 @@ use lib.ListN.{length, getD, take, drop, length-take, length-drop, take-append-d
 use lib.Seq.{paste, take-all, take-take, take-paste, drop-paste, take-append-add, length-take-le}
 use lib.Dec.{leb}
 use borrow.Author.Tests.{leb-true, leb-false, eq-eqb, ne-eqb}
+use Rattle.tables.specs.declared.Index.{Index}
 use Rattle.rules.specs.declared.Outcome.{Outcome}
 use Rattle.rules.specs.declared.Outcome.the-variants.{Bad}
 use Rattle.rules.specs.declared.State.{State}
@@ -157,7 +158,7 @@ opens-at c r t h l n q o e p qe k g =
     ∙ sym (k (deskView x t c))
     ∙ ap (openedBy (withHeld h (deskView x t c))) (p ∙ ap (λ (z : List ℕ). openOutcome z h) e)) g
 
-pub refuses : (c r : C.Desk) (t h : List ℕ) (l : Line) (n m i : ℕ) (o : Outcome) → take n t ≡ take (c .«table_length») t → o ≡ openOutcome (take n t) h
+pub refuses : (c r : C.Desk) (t h : List ℕ) (l : Line) (n m : ℕ) (i : Index) (o : Outcome) → take n t ≡ take (c .«table_length») t → o ≡ openOutcome (take n t) h
     → o ≡ Bad m i → Given c t (stopped (Refused m)) r l t → Given c t (λ d. openedBy (withHeld h d) (openOutcome (d .table) h)) r l t
 refuses c r t h l n m i o e p b g =
     given-same (stopped (Refused m)) (λ d. openedBy (withHeld h d) (openOutcome (d .table) h))

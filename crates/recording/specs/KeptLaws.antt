@@ -10,8 +10,11 @@ use lib.Dec.{eqb, leb}
 use borrow.Author.Tests.{eqb-true, eqb-false}
 use Rattle.keys.specs.Entry.{isFamily}
 use Rattle.keys.specs.Table.{loaded}
+use Rattle.keys.specs.declared.table.TableKind.the-variants.{Keys}
 use Rattle.keys.specs.declared.table.Loaded.{Loaded}
 use Rattle.keys.specs.declared.table.Loaded.the-variants.{Valid, Refused}
+use Rattle.tables.specs.declared.Index.{Index}
+use Rattle.tables.specs.Tables.{noIndex, keyIndex}
 use Rattle.rules.specs.declared.Outcome.{Outcome}
 use Rattle.rules.specs.declared.Outcome.the-variants.{Good, Passed, Bad}
 use Rattle.rules.specs.Calls.{judged}
@@ -44,21 +47,21 @@ module _ (room : ℕ) (h : enough ≤ room) where
   -- the opening is judged the same
   outcome-kept : (t o : List ℕ) → openOutcome (take room t) o ≡ openOutcome t o
   unfolding openOutcome
-  outcome-kept t o = go (loaded deskEntries t) refl
+  outcome-kept t o = go (loaded Keys deskEntries t) refl
     where
-      go : (l : Loaded) → loaded deskEntries t ≡ l → openOutcome (take room t) o ≡ openOutcome t o
+      go : (l : Loaded) → loaded Keys deskEntries t ≡ l → openOutcome (take room t) o ≡ openOutcome t o
       go (Valid n) e = ap (λ (x : List ℕ). openOutcome x o) (valid-short n room t h e)
       go (Refused n i) e = rw (table-kept room t h, e)
 
   -- and where it is not refused, the table is valid
-  opened-whole : (t o : List ℕ) → ((n i : ℕ) → openOutcome t o ≡ Bad n i → ⊥) → take room t ≡ t
+  opened-whole : (t o : List ℕ) → ((n : ℕ) (i : Index) → openOutcome t o ≡ Bad n i → ⊥) → take room t ≡ t
   unfolding openOutcome
-  opened-whole t o g = go (loaded deskEntries t) (isFamily (openPair o .family)) refl refl
+  opened-whole t o g = go (loaded Keys deskEntries t) (isFamily (openPair o .family)) refl refl
     where
-      go : (l : Loaded) (f : Bool) → loaded deskEntries t ≡ l → isFamily (openPair o .family) ≡ f → take room t ≡ t
+      go : (l : Loaded) (f : Bool) → loaded Keys deskEntries t ≡ l → isFamily (openPair o .family) ≡ f → take room t ≡ t
       go (Valid n) f e q = valid-short n room t h e
-      go (Refused n i) true e q = absurd (g n i (rw (q, e)))
-      go (Refused n i) false e q = absurd (g 18 0 (rw q))
+      go (Refused n i) true e q = absurd (g n (keyIndex i) (rw (q, e)))
+      go (Refused n i) false e q = absurd (g 18 noIndex (rw q))
 
   take-join : (r : ℕ) (t x : List ℕ) → take r (take r t ++ x) ≡ take r (t ++ x)
   take-join zero t x = refl

@@ -7,6 +7,7 @@ use mathlib.Core.List.{List, [], _∷_, _++_, map}
 use lib.ListN.{length, take}
 use Rattle.octets.specs.Each.{Each}
 use Rattle.keys.specs.Table.{loaded}
+use Rattle.keys.specs.declared.table.TableKind.the-variants.{Keys}
 use Rattle.rules.specs.declared.Verdict.{Verdict}
 use Rattle.rules.specs.Connection.{Arrival}
 use Rattle.rules.specs.Calls.{unrefused}
@@ -30,7 +31,7 @@ enough = 129 * deskEntries + 1
 
 -- a table that has more bytes is judged as if all of them were kept
 abbrev pub TableKept : Type 0
-TableKept = (room : ℕ) (t : List ℕ) → enough ≤ room → loaded deskEntries (take room t) ≡ loaded deskEntries t
+TableKept = (room : ℕ) (t : List ℕ) → enough ≤ room → loaded Keys deskEntries (take room t) ≡ loaded Keys deskEntries t
 
 -- and any recording is printed as if they were
 abbrev pub TextKept : Type 0

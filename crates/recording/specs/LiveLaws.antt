@@ -8,13 +8,13 @@ use lib.ListN.{length}
 use lib.Dec.{eqb, ltb, leb}
 use borrow.Author.Tests.{le-ltb}
 use Rattle.octets.specs.Each.{Each}
-use Rattle.keys.specs.Table.{Tables}
+use Rattle.tables.specs.Tables.{Tables}
 use Rattle.rules.specs.declared.Outcome.{Outcome}
 use Rattle.rules.specs.declared.Outcome.the-variants.{Good, Passed, Bad}
 use Rattle.rules.specs.declared.State.{State}
 use Rattle.rules.specs.declared.Connection.{Connection}
-use Rattle.rules.specs.Connection.{Arrival, arrivalOf, localAddress, remoteAddress, isOpen}
-use Rattle.rules.specs.Calls.{unrefused, check, afterJudging, judged}
+use Rattle.rules.specs.Connection.{Arrival, arrivalOf, localAddress, remoteAddress, isOpen, isMd5, withCounted, withAccepted}
+use Rattle.rules.specs.Calls.{unrefused, check, nextOn, afterJudging, judged}
 use Rattle.rules.specs.Demand3.{judgeAll}
 use Rattle.recording.specs.Lines.{verdictLine, lineText}
 use Rattle.recording.specs.Recording.{kindOf, recordBytes, entryBytes, segmentBytes, next, Desk, start, isStopped, withHeld, faulty}
@@ -68,8 +68,12 @@ judged-conn : (t : Tables) (a : Arrival) (q : State) → isOpen (q .conn) ≡ tr
 unfolding judged
 judged-conn t a q o = go (check t (q .conn) (q .seen) a)
   where
+    either : (x k : ℕ) (md5 : Bool) → cond md5 (withCounted q) (withAccepted x k q) .conn ≡ q .conn
+    either x k true = refl
+    either x k false = refl
+
     go : (c : Outcome) → afterJudging t q c .conn ≡ q .conn
-    go (Good x r) = rw o
+    go (Good x r) = rw o (either x (nextOn t q r) (isMd5 (q .conn)))
     go Passed = refl
     go (Bad n i) = rw o
 

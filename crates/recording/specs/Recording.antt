@@ -9,12 +9,16 @@ use Rattle.octets.specs.Octets.{get16, get32}
 use Rattle.octets.specs.Tests.{Test, test, first}
 use Rattle.keys.specs.declared.entry.Pair.{Pair}
 use Rattle.keys.specs.Entry.{isFamily}
-use Rattle.keys.specs.Table.{Tables, loaded, sendEntry, recvEntry}
+use Rattle.keys.specs.Table.{loaded}
+use Rattle.keys.specs.declared.table.TableKind.the-variants.{Keys}
+use Rattle.tables.specs.declared.Admitted.{Admitted}
+use Rattle.tables.specs.declared.Admitted.the-variants.{Valid}
+use Rattle.tables.specs.Tables.{Tables, keyIndex, afterTable, tablesOf, sendEntry, recvEntry}
 use Rattle.rules.specs.declared.Outcome.{Outcome}
 use Rattle.rules.specs.declared.Outcome.the-variants.{Good, Passed, Bad}
 use Rattle.rules.specs.declared.State.{State}
 use Rattle.rules.specs.declared.Judged.{Judged}
-use Rattle.rules.specs.Connection.{Arrival, arrivalOf, localAddress, remoteAddress, opened, empty}
+use Rattle.rules.specs.Connection.{Arrival, arrivalOf, localAddress, remoteAddress, aoWay, opened, empty}
 use Rattle.rules.specs.Calls.{refuse, isRefused, refusal, unrefused, judged}
 use Rattle.recording.specs.declared.line.Line.{Line}
 use Rattle.recording.specs.declared.line.Line.the-variants.{Fault, Refused}
@@ -55,7 +59,7 @@ abbrev pub askId : List ℕ → ℕ
 askId r = getD r 3 0
 
 abbrev pub openState : List ℕ → State
-openState r = opened (openPair r) (get32 r 8) (get32 r 12) (sendId r) (askId r)
+openState r = opened aoWay (openPair r) (get32 r 8) (get32 r 12) (sendId r) (askId r)
 
 -- kind 3: "an arriving segment of it .., two bytes of used length, big-endian, first"
 abbrev pub usedLength : List ℕ → ℕ
@@ -123,19 +127,23 @@ faulty stage r =
 
 -- The opening.
 
--- the tables that a segment is judged by: the entries are all that there is
+-- the tables that a segment is judged by: the entries are those of the key table, and there is no MD5 table
 abbrev pub deskTables : List ℕ → Tables
-deskTables t = t
+deskTables t = tablesOf t []
 
 -- document 02, Ticket 8: "Ticket 1's program stays at 64 entries"
 abbrev pub deskEntries : ℕ
 deskEntries = 64
 
+-- the table's refusals, 10 to 17
+abbrev pub deskAnswer : List ℕ → Admitted
+deskAnswer t = afterTable keyIndex (loaded Keys deskEntries t) Valid
+
 -- "a bad table or opening (18; 35 for either ID), judged at the opening record in 01's order"
 abbrev pub openTests : List ℕ → List ℕ → List (Test Outcome)
 openTests t r =
     test (refuse 18) (not (isFamily (openPair r .family)))
-    ∷ test (refusal (loaded deskEntries t)) (isRefused (loaded deskEntries t))
+    ∷ test (refusal (deskAnswer t)) (isRefused (deskAnswer t))
     ∷ test (refuse 35) (not (sendEntry (deskTables t) (openPair r) (sendId r) .there))
     ∷ test (refuse 35) (not (recvEntry (deskTables t) (openPair r) (askId r) .there)) ∷ []
 

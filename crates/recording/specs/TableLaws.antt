@@ -21,6 +21,7 @@ use Rattle.keys.specs.FaultLaws.{number-none}
 use Rattle.keys.specs.Table.{numberOf, loadTests, loadedFrom, loaded, refusing}
 use Rattle.keys.specs.declared.entry.Side.{Side}
 use Rattle.keys.specs.declared.entry.Entry.{Entry}
+use Rattle.keys.specs.declared.table.TableKind.the-variants.{Keys}
 use Rattle.keys.specs.declared.table.Loaded.{Loaded}
 use Rattle.keys.specs.declared.table.Loaded.the-variants.{Valid, Refused}
 use Rattle.recording.specs.Recording.{deskEntries}
@@ -130,6 +131,7 @@ module _ (r : ℕ) (s : List ℕ) (h : 129 ≤ r) where
       λ j.
       record {
         kind-known = knownKind (kind j);
+        extended = eqb (extra (kind j)) 1;
         whole = (ap (λ (k : ℕ). leb (size k) (length (take r s))) kind ∙ whole-same v) j;
         entry = entry-same j;
       }
@@ -137,53 +139,53 @@ module _ (r : ℕ) (s : List ℕ) (h : 129 ≤ r) where
 -- The loader.
 
 -- where nothing applies, the entry is whole and of a known kind, and the limit is not reached
-passed : (limit i : ℕ) (before : List Entry) (x : Item) → numberOf (loadTests limit i before x) ≡ 0 → (eqb i limit ≡ false) × (sound x ≡ true)
+passed : (limit i : ℕ) (before : List Entry) (x : Item) → numberOf (loadTests Keys limit i before x) ≡ 0 → (eqb i limit ≡ false) × (sound x ≡ true)
 passed limit i before x e =
-    let p = number-none (loadTests limit i before x) refl e in
+    let p = number-none (loadTests Keys limit i before x) refl e in
     (p .0, rw (not-false (x .kind-known) (p .1 .0), not-false (x .whole) (p .1 .1 .0)))
 
-at-limit : (limit : ℕ) (before : List Entry) (x : Item) → numberOf (loadTests limit limit before x) ≡ 12
+at-limit : (limit : ℕ) (before : List Entry) (x : Item) → numberOf (loadTests Keys limit limit before x) ≡ 12
 unfolding numberOf
 at-limit limit before x = rw (eq-eqb limit limit refl)
 
-unknown : (limit i : ℕ) (before : List Entry) (x : Item) → (i ≡ limit → ⊥) → x .kind-known ≡ false → numberOf (loadTests limit i before x) ≡ 11
+unknown : (limit i : ℕ) (before : List Entry) (x : Item) → (i ≡ limit → ⊥) → x .kind-known ≡ false → numberOf (loadTests Keys limit i before x) ≡ 11
 unfolding numberOf
 unknown limit i before x n e = rw (ne-eqb i limit n, e)
 
 -- one step of the loader
 step : (limit i : ℕ) (before : List Entry) (s : List ℕ) → 0 < length s
-    → loadedFrom limit i before (items 0 s)
-    ≡ refusing (numberOf (loadTests limit i before (item s))) i
-    (loadedFrom limit (i + 1) (before ++ (entryOf s ∷ [])) (cond (sound (item s)) (items 0 (drop (size (getD s 0 0)) s)) []))
+    → loadedFrom Keys limit i before (items 0 s)
+    ≡ refusing (numberOf (loadTests Keys limit i before (item s))) i
+    (loadedFrom Keys limit (i + 1) (before ++ (entryOf s ∷ [])) (cond (sound (item s)) (items 0 (drop (size (getD s 0 0)) s)) []))
 unfolding loadedFrom item
 step limit i before s h =
     let z : 0 + size (getD s 0 0) ≡ size (getD s 0 0) = omega arith in
-    ap (loadedFrom limit i before) (items-at s 0 h)
+    ap (loadedFrom Keys limit i before) (items-at s 0 h)
     ∙ ap
     (λ (n : ℕ).
-    refusing (numberOf (loadTests limit i before (item s))) i
-    (loadedFrom limit (i + 1) (before ++ (entryOf s ∷ [])) (cond (sound (item s)) (items 0 (drop n s)) [])))
+    refusing (numberOf (loadTests Keys limit i before (item s))) i
+    (loadedFrom Keys limit (i + 1) (before ++ (entryOf s ∷ [])) (cond (sound (item s)) (items 0 (drop n s)) [])))
     z
 
 -- the limit is reached: 12, whatever begins
-full : (limit : ℕ) (before : List Entry) (s : List ℕ) → 0 < length s → loadedFrom limit limit before (items 0 s) ≡ Refused 12 limit
+full : (limit : ℕ) (before : List Entry) (s : List ℕ) → 0 < length s → loadedFrom Keys limit limit before (items 0 s) ≡ Refused 12 limit
 full limit before s h =
     step limit limit before s h
     ∙ ap
     (λ (n : ℕ).
     refusing n limit
-    (loadedFrom limit (limit + 1) (before ++ (entryOf s ∷ [])) (cond (sound (item s)) (items 0 (drop (size (getD s 0 0)) s)) [])))
+    (loadedFrom Keys limit (limit + 1) (before ++ (entryOf s ∷ [])) (cond (sound (item s)) (items 0 (drop (size (getD s 0 0)) s)) [])))
     (at-limit limit before (item s))
 
 -- an unknown kind: 11
 strange : (limit i : ℕ) (before : List Entry) (s : List ℕ) → 0 < length s → (i ≡ limit → ⊥) → knownKind (getD s 0 0) ≡ false
-    → loadedFrom limit i before (items 0 s) ≡ Refused 11 i
+    → loadedFrom Keys limit i before (items 0 s) ≡ Refused 11 i
 unfolding item
 strange limit i before s h n v =
     step limit i before s h
     ∙ ap
     (λ (m : ℕ).
-    refusing m i (loadedFrom limit (i + 1) (before ++ (entryOf s ∷ [])) (cond (sound (item s)) (items 0 (drop (size (getD s 0 0)) s)) [])))
+    refusing m i (loadedFrom Keys limit (i + 1) (before ++ (entryOf s ∷ [])) (cond (sound (item s)) (items 0 (drop (size (getD s 0 0)) s)) [])))
     (unknown limit i before (item s) n v)
 
 -- bytes, or none
@@ -193,41 +195,41 @@ some (b ∷ t) = inr (omega arith)
 
 -- an entry of a known kind, where the rest is judged the same
 entry-from : (limit i r : ℕ) (before : List Entry) (s : List ℕ) → 0 < length s → 129 ≤ r → knownKind (getD s 0 0) ≡ true
-    → loadedFrom limit (i + 1) (before ++ (entryOf s ∷ [])) (items 0 (take (r - size (getD s 0 0)) (drop (size (getD s 0 0)) s)))
-    ≡ loadedFrom limit (i + 1) (before ++ (entryOf s ∷ [])) (items 0 (drop (size (getD s 0 0)) s))
-    → loadedFrom limit i before (items 0 (take r s)) ≡ loadedFrom limit i before (items 0 s)
+    → loadedFrom Keys limit (i + 1) (before ++ (entryOf s ∷ [])) (items 0 (take (r - size (getD s 0 0)) (drop (size (getD s 0 0)) s)))
+    ≡ loadedFrom Keys limit (i + 1) (before ++ (entryOf s ∷ [])) (items 0 (drop (size (getD s 0 0)) s))
+    → loadedFrom Keys limit i before (items 0 (take r s)) ≡ loadedFrom Keys limit i before (items 0 s)
 entry-from limit i r before s h long q ih =
     step limit i before (take r s) (let l = length-take r s in omega arith)
     ∙ (λ j.
-    refusing (numberOf (loadTests limit i before (item-same r s long q j))) i
-    (loadedFrom limit (i + 1) (before ++ (entry-same r s long j ∷ []))
+    refusing (numberOf (loadTests Keys limit i before (item-same r s long q j))) i
+    (loadedFrom Keys limit (i + 1) (before ++ (entry-same r s long j ∷ []))
     (cond (sound (item-same r s long q j)) (items 0 (drop (size (kind r s long j)) (take r s))) [])))
-    ∙ ap (refusing (numberOf (loadTests limit i before (item s))) i) (rest (sound (item s)))
+    ∙ ap (refusing (numberOf (loadTests Keys limit i before (item s))) i) (rest (sound (item s)))
     ∙ sym (step limit i before s h)
   where
     others : List Entry
     others = before ++ (entryOf s ∷ [])
 
     rest : (c : Bool)
-        → loadedFrom limit (i + 1) others (cond c (items 0 (drop (size (getD s 0 0)) (take r s))) [])
-        ≡ loadedFrom limit (i + 1) others (cond c (items 0 (drop (size (getD s 0 0)) s)) [])
+        → loadedFrom Keys limit (i + 1) others (cond c (items 0 (drop (size (getD s 0 0)) (take r s))) [])
+        ≡ loadedFrom Keys limit (i + 1) others (cond c (items 0 (drop (size (getD s 0 0)) s)) [])
     rest true =
         let l = size-le (getD s 0 0) q in
-        ap (λ (x : List ℕ). loadedFrom limit (i + 1) others (items 0 x)) (drop-same (size (getD s 0 0)) r s (omega arith)) ∙ ih
+        ap (λ (x : List ℕ). loadedFrom Keys limit (i + 1) others (items 0 x)) (drop-same (size (getD s 0 0)) r s (omega arith)) ∙ ih
     rest false = refl
 
 kept-from : (k limit i r : ℕ) (before : List Entry) (s : List ℕ) → limit ≡ i + k → 129 * k + 1 ≤ r
-    → loadedFrom limit i before (items 0 (take r s)) ≡ loadedFrom limit i before (items 0 s)
+    → loadedFrom Keys limit i before (items 0 (take r s)) ≡ loadedFrom Keys limit i before (items 0 s)
 kept-from zero limit i r before s e h =
-    ⊎-elim (λ z. ap (λ (x : List ℕ). loadedFrom limit i before (items 0 x)) (ap (take r) z ∙ take-nil r ∙ sym z))
+    ⊎-elim (λ z. ap (λ (x : List ℕ). loadedFrom Keys limit i before (items 0 x)) (ap (take r) z ∙ take-nil r ∙ sym z))
     (λ l.
     let z : limit ≡ i = omega arith in
     let l2 : 0 < length (take r s) = (let q = length-take r s in omega arith) in
-    ap (λ (n : ℕ). loadedFrom n i before (items 0 (take r s))) z
+    ap (λ (n : ℕ). loadedFrom Keys n i before (items 0 (take r s))) z
     ∙ full i before (take r s) l2
-    ∙ sym (ap (λ (n : ℕ). loadedFrom n i before (items 0 s)) z ∙ full i before s l)) (some s)
+    ∙ sym (ap (λ (n : ℕ). loadedFrom Keys n i before (items 0 s)) z ∙ full i before s l)) (some s)
 kept-from (suc k) limit i r before s e h =
-    ⊎-elim (λ z. ap (λ (x : List ℕ). loadedFrom limit i before (items 0 x)) (ap (take r) z ∙ take-nil r ∙ sym z))
+    ⊎-elim (λ z. ap (λ (x : List ℕ). loadedFrom Keys limit i before (items 0 x)) (ap (take r) z ∙ take-nil r ∙ sym z))
     (λ l.
     go (knownKind (getD s 0 0)) refl l
     (λ m.
@@ -236,9 +238,9 @@ kept-from (suc k) limit i r before s e h =
   where
     go : (v : Bool) → knownKind (getD s 0 0) ≡ v → 0 < length s
         → (size (getD s 0 0) ≤ 129
-        → loadedFrom limit (i + 1) (before ++ (entryOf s ∷ [])) (items 0 (take (r - size (getD s 0 0)) (drop (size (getD s 0 0)) s)))
-        ≡ loadedFrom limit (i + 1) (before ++ (entryOf s ∷ [])) (items 0 (drop (size (getD s 0 0)) s)))
-        → loadedFrom limit i before (items 0 (take r s)) ≡ loadedFrom limit i before (items 0 s)
+        → loadedFrom Keys limit (i + 1) (before ++ (entryOf s ∷ [])) (items 0 (take (r - size (getD s 0 0)) (drop (size (getD s 0 0)) s)))
+        ≡ loadedFrom Keys limit (i + 1) (before ++ (entryOf s ∷ [])) (items 0 (drop (size (getD s 0 0)) s)))
+        → loadedFrom Keys limit i before (items 0 (take r s)) ≡ loadedFrom Keys limit i before (items 0 s)
     go true q l ih = entry-from limit i r before s l (omega arith) q (ih (size-le (getD s 0 0) q))
     go false q l ih =
         let n : i ≡ limit → ⊥ = λ z. omega arith in
@@ -250,25 +252,25 @@ unfolding loaded
 table-kept room t h = kept-from deskEntries deskEntries 0 room [] t (omega arith) h
 
 -- a valid table is no longer than its entries
-short-from : (k limit i n : ℕ) (before : List Entry) (s : List ℕ) → limit ≡ i + k → loadedFrom limit i before (items 0 s) ≡ Valid n → length s ≤ 129 * k
+short-from : (k limit i n : ℕ) (before : List Entry) (s : List ℕ) → limit ≡ i + k → loadedFrom Keys limit i before (items 0 s) ≡ Valid n → length s ≤ 129 * k
 unfolding item
 short-from zero limit i n before s e v =
     ⊎-elim (λ z. let l : length s ≡ 0 = ap length z in omega arith)
     (λ l.
     let z : limit ≡ i = omega arith in
-    let w = sym (ap (λ (m : ℕ). loadedFrom m i before (items 0 s)) z ∙ full i before s l) ∙ v in
+    let w = sym (ap (λ (m : ℕ). loadedFrom Keys m i before (items 0 s)) z ∙ full i before s l) ∙ v in
     let x : _≡_ {A = ℕ} 0 1 = cc w in
     absurd (omega arith)) (some s)
 short-from (suc k) limit i n before s e v =
     ⊎-elim (λ z. let l : length s ≡ 0 = ap length z in omega arith)
     (λ l.
-    go (numberOf (loadTests limit i before (item s))) refl l
+    go (numberOf (loadTests Keys limit i before (item s))) refl l
     (λ x. short-from k limit (i + 1) n (before ++ (entryOf s ∷ [])) (drop (size (getD s 0 0)) s) (omega arith) x)) (some s)
   where
     after : Bool → Loaded
-    after c = loadedFrom limit (i + 1) (before ++ (entryOf s ∷ [])) (cond c (items 0 (drop (size (getD s 0 0)) s)) [])
+    after c = loadedFrom Keys limit (i + 1) (before ++ (entryOf s ∷ [])) (cond c (items 0 (drop (size (getD s 0 0)) s)) [])
 
-    go : (m : ℕ) → numberOf (loadTests limit i before (item s)) ≡ m → 0 < length s → (after true ≡ Valid n → length (drop (size (getD s 0 0)) s) ≤ 129 * k)
+    go : (m : ℕ) → numberOf (loadTests Keys limit i before (item s)) ≡ m → 0 < length s → (after true ≡ Valid n → length (drop (size (getD s 0 0)) s) ≤ 129 * k)
         → length s ≤ 129 * suc k
     go (suc m) q l ih =
         let w = sym (step limit i before s l ∙ ap (λ (x : ℕ). refusing x i (after (sound (item s)))) q) ∙ v in
@@ -284,6 +286,6 @@ short-from (suc k) limit i n before s e v =
         let f = ih w in
         omega arith
 
-pub valid-short : (n room : ℕ) (t : List ℕ) → enough ≤ room → loaded deskEntries t ≡ Valid n → take room t ≡ t
+pub valid-short : (n room : ℕ) (t : List ℕ) → enough ≤ room → loaded Keys deskEntries t ≡ Valid n → take room t ≡ t
 unfolding loaded
 valid-short n room t h v = take-all room t (let l = short-from deskEntries deskEntries 0 n [] t (omega arith) v in omega arith)

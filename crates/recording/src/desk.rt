@@ -68,7 +68,8 @@ fn judge_on(table: &[u8], segment: &[u8], state: State) -> Judged
     let local = pair.local;
     let remote = pair.remote;
     let w = keys::entry::width_of(pair.family);
-    tcpao::judge::judge(table, &remote[..w], &local[..w], segment, state)
+    let no_md5 = [0u8; 0];
+    tcpao::judge::judge(table, &no_md5, &remote[..w], &local[..w], segment, state)
 }
 
 impl Desk {

@@ -7,11 +7,17 @@ ghost use Rattle.keys.specs.Entry.{isFamily};
 ghost use Rattle.recording.specs.Recording.{openPair, openState, openOutcome};
 use keys::entry::Pair;
 use keys::table::Loaded;
+use keys::table::TableKind;
+use rules::NO_INDEX;
 use rules::Outcome;
 use rules::State;
+use tables::Index;
 
 // "Ticket 1's program stays at 64 entries".
 const DESK_ENTRIES: usize = 64;
+
+// Of the ways of a connection, the state's `way`: the line is TCP-AO's.
+const AO_WAY: u8 = 0;
 
 // The sixteen bytes of an address field.
 fn field_at(bytes: &[u8], at: usize) -> [u8; 16]
@@ -51,17 +57,18 @@ pub(crate) fn open_outcome(table: &[u8], bytes: &[u8]) -> Outcome
 {
     let pair = open_pair(bytes);
     if !is_family(pair.family) {
-        return Outcome::Bad(18, 0);
+        return Outcome::Bad(18, NO_INDEX);
     }
-    let loaded = keys::table::load(table, DESK_ENTRIES);
+    let loaded = keys::table::load(table, DESK_ENTRIES, TableKind::Keys);
     if let Loaded::Refused(n, i) = loaded {
-        return Outcome::Bad(n, i);
+        return Outcome::Bad(n, Index { table: 0, entry: i });
     }
-    if !keys::table::find_send(table, pair, bytes[2]).there {
-        return Outcome::Bad(35, 0);
+    let no_md5 = [0u8; 0];
+    if !tables::find_send(table, &no_md5, pair, bytes[2]).there {
+        return Outcome::Bad(35, NO_INDEX);
     }
-    if !keys::table::find_recv(table, pair, bytes[3]).there {
-        return Outcome::Bad(35, 0);
+    if !tables::find_recv(table, &no_md5, pair, bytes[3]).there {
+        return Outcome::Bad(35, NO_INDEX);
     }
     Outcome::Good(0, 0)
 }
@@ -73,5 +80,5 @@ pub(crate) fn open_state(bytes: &[u8]) -> State
     let pair = open_pair(bytes);
     let isn = octets::load32(bytes, 8);
     let peer_isn = octets::load32(bytes, 12);
-    states::writers::opened(pair, isn, peer_isn, bytes[2], bytes[3])
+    states::writers::opened(AO_WAY, pair, isn, peer_isn, bytes[2], bytes[3])
 }
