@@ -3,6 +3,7 @@
 
 mod calls;
 mod connection;
+mod desk;
 mod messages;
 mod tables;
 mod timing;
@@ -19,7 +20,7 @@ fn count(n: usize) -> usize {
 
 fn main() -> ExitCode {
     let [hashes, hashes_256, md5, cmac, by_tables] = messages::run();
-    let outcomes = [
+    let mut outcomes = vec![
         hashes,
         hashes_256,
         md5,
@@ -33,6 +34,7 @@ fn main() -> ExitCode {
         tables::against_hmac(),
         tables::against_reference(),
     ];
+    outcomes.extend(desk::against_judging());
     if timing::summary(&outcomes) {
         ExitCode::SUCCESS
     } else {

@@ -73,10 +73,22 @@ impl Table {
         ours: &mut dyn FnMut(),
         other: &mut dyn FnMut(),
     ) {
+        let ours = &mut || round(count, ours);
+        self.measured(label, limited, ours, &mut || round(count, other));
+    }
+
+    /// The same, where both say themselves what a call of one round took.
+    pub fn measured(
+        &mut self,
+        label: &str,
+        limited: bool,
+        ours: &mut dyn FnMut() -> f64,
+        other: &mut dyn FnMut() -> f64,
+    ) {
         let (mut a, mut b) = (Vec::new(), Vec::new());
         for _ in 0..self.rounds {
-            a.push(round(count, ours));
-            b.push(round(count, other));
+            a.push(ours());
+            b.push(other());
         }
         let (a, b) = (Times::of(a), Times::of(b));
         let ratios = [a.minimum / b.minimum, a.median / b.median];

@@ -21,6 +21,7 @@ pub mod counts;
 pub mod md5;
 pub mod numbers;
 pub mod prng;
+pub mod recordings;
 pub mod report;
 pub mod segments;
 pub mod states;

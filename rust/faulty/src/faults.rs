@@ -2741,4 +2741,399 @@ pub const FAULTS: &[Planted] = &[
             "out[length..].fill(0);",
         )],
     },
+    // The desk.
+    Planted {
+        name: "DeskStateNotHandedOn",
+        does: "Each segment is judged in the state just after the opening.",
+        breaks: "\"What it prints must be what the live calls would give.\"",
+        file: "desk.rs",
+        function: "fn read(",
+        edits: &[Instead("Some(after)", "Some(state)")],
+    },
+    Planted {
+        name: "DeskLinesCountRecords",
+        does: "A segment's line has the record's index.",
+        breaks: "\"index, verdict number, extension\"; \"segments and records counted from 0\"",
+        file: "desk.rs",
+        function: "fn read(",
+        edits: &[Instead("format!(\"{segments} {line}\\n\")", "format!(\"{records} {line}\\n\")")],
+    },
+    Planted {
+        name: "DeskStopsAtSegment",
+        does: "The last line has the index of the segment, not of the record.",
+        breaks: "\"a last line of 38 and the record's index\"",
+        file: "desk.rs",
+        function: "fn read(",
+        edits: &[Instead("Stop::AtRecord(records)", "Stop::AtRecord(segments)")],
+    },
+    Planted {
+        name: "DeskEndCountsNothing",
+        does: "An early end is at 0, whatever stands before it.",
+        breaks: "\"(at an early end, the number of records)\"",
+        file: "desk.rs",
+        function: "fn read(",
+        edits: &[Instead("Stop::AtEnd(records)", "Stop::AtEnd(0)")],
+    },
+    Planted {
+        name: "DeskSegmentsFromOne",
+        does: "Segments are counted from 1.",
+        breaks: "\"segments and records counted from 0\"",
+        file: "desk.rs",
+        function: "fn read(",
+        edits: &[Instead("(0_u64, 0_u64)", "(0_u64, 1_u64)")],
+    },
+    Planted {
+        name: "DeskRecordsFromOne",
+        does: "Records are counted from 1.",
+        breaks: "\"segments and records counted from 0\"",
+        file: "desk.rs",
+        function: "fn read(",
+        edits: &[Instead("(0_u64, 0_u64)", "(1_u64, 0_u64)")],
+    },
+    Planted {
+        name: "DeskSecondOpeningTaken",
+        does: "A second opening opens again.",
+        breaks: "\"they stand before the one opening\"",
+        file: "desk.rs",
+        function: "fn read(",
+        edits: &[Before(
+            "match (record, connection) {",
+            "if matches!(record, Record::Opening(_)) { connection = None; }",
+        )],
+    },
+    Planted {
+        name: "DeskEntryBehindOpeningTaken",
+        does: "An entry behind the opening is joined to the table.",
+        breaks: "\"they stand before the one opening\"",
+        file: "desk.rs",
+        function: "fn read(",
+        edits: &[Before(
+            "match (record, connection) {",
+            "if let (Record::Entry(bytes), Some(_)) = (&record, connection) {
+                table.extend(*bytes);
+                records += 1;
+                rest = behind;
+                continue;
+            }",
+        )],
+    },
+    Planted {
+        name: "DeskEarlySegmentSkipped",
+        does: "A segment before the opening is skipped.",
+        breaks: "\"and it before all segments\"",
+        file: "desk.rs",
+        function: "fn read(",
+        edits: &[Before(
+            "match (record, connection) {",
+            "if matches!(record, Record::Segment(_)) && connection.is_none() {
+                records += 1;
+                rest = behind;
+                continue;
+            }",
+        )],
+    },
+    Planted {
+        name: "DeskLineBehindTheLast",
+        does: "Behind a misplaced record the reading goes on.",
+        breaks: "\"stops it with a last line\"",
+        file: "desk.rs",
+        function: "fn read(",
+        edits: &[Before(
+            "match (record, connection) {",
+            "if connection.is_some() && !matches!(record, Record::Segment(_)) {
+                *lines += &last_line(stop);
+                records += 1;
+                rest = behind;
+                continue;
+            }",
+        )],
+    },
+    Planted {
+        name: "DeskCutRecordNotReported",
+        does: "A record that is cut counts as the end.",
+        breaks: "\"A cut, unknown or misplaced record\"",
+        file: "desk.rs",
+        function: "fn read(",
+        edits: &[Before(
+            "let Some((record, behind))",
+            "if matches!(rest[0], 1..=3) && rest.len() < [131, 48, 1_601][usize::from(rest[0]) - 1] {
+                break;
+            }",
+        )],
+    },
+    Planted {
+        name: "DeskZeroSkipped",
+        does: "Zeros between records are skipped.",
+        breaks: "\"A cut, unknown or misplaced record\"",
+        file: "desk.rs",
+        function: "fn read(",
+        edits: &[Before(
+            "let Some((record, behind))",
+            "if rest[0] == 0 {
+                rest = &rest[1..];
+                continue;
+            }",
+        )],
+    },
+    Planted {
+        name: "DeskNoOpeningIsGood",
+        does: "A recording of entries alone ends well.",
+        breaks: "\"an end before the opening\"",
+        file: "desk.rs",
+        function: "fn read(",
+        edits: &[Before("match connection {", "if records > 0 { return Ok(()); }")],
+    },
+    Planted {
+        name: "DeskEmptyIsGood",
+        does: "A recording of no bytes ends well.",
+        breaks: "\"an end before the opening\"",
+        file: "desk.rs",
+        function: "fn read(",
+        edits: &[Before("match connection {", "if records == 0 { return Ok(()); }")],
+    },
+    Planted {
+        name: "DeskTableJudgedEarly",
+        does: "A bad table stops the reading at its own record.",
+        breaks: "\"judged at the opening record\"",
+        file: "desk.rs",
+        function: "fn read(",
+        edits: &[Before(
+            "match (record, connection) {",
+            "if let Record::Entry(bytes) = record {
+                match table::read(&[&table[..], bytes].concat()) {
+                    Err(refusal) if refusal.number != 10 => return Err(Stop::Opening(refusal.number)),
+                    _ => {}
+                }
+            }",
+        )],
+    },
+    Planted {
+        name: "DeskEntryInOneRecord",
+        does: "10 for a record that does not end with an entry.",
+        breaks: "\"All entries, joined in order, make the table\"",
+        file: "desk.rs",
+        function: "fn read(",
+        edits: &[Before(
+            "match (record, connection) {",
+            "if let Record::Entry(bytes) = record {
+                if table::read(bytes).is_err_and(|refusal| refusal.number == 10) {
+                    return Err(Stop::Opening(10));
+                }
+            }",
+        )],
+    },
+    Planted {
+        name: "DeskEntriesReversed",
+        does: "A later entry is put before the others.",
+        breaks: "\"All entries, joined in order, make the table\"",
+        file: "desk.rs",
+        function: "fn read(",
+        edits: &[Instead("table.extend(bytes)", "drop(table.splice(..0, bytes.iter().copied()))")],
+    },
+    Planted {
+        name: "DeskEntryLength130",
+        does: "An entry length of 130 is let through.",
+        breaks: "\"an entry length above 129\"",
+        file: "desk.rs",
+        function: "fn first_record(",
+        edits: &[Instead(
+            "body[1..].get(..length)?",
+            "if length == 130 { body } else { body[1..].get(..length)? }",
+        )],
+    },
+    Planted {
+        name: "DeskUsedLength1599",
+        does: "A used length of 1,599 is let through.",
+        breaks: "\"or a used length above 1,598\"",
+        file: "desk.rs",
+        function: "fn first_record(",
+        edits: &[Instead(
+            "body[2..].get(..length)?",
+            "if length == 1_599 { &body[1..] } else { body[2..].get(..length)? }",
+        )],
+    },
+    Planted {
+        name: "DeskLongestEntryRefused",
+        does: "An entry length of 129 stops the reading.",
+        breaks: "\"an entry length above 129\"",
+        file: "desk.rs",
+        function: "fn first_record(",
+        edits: &[Instead("body[1..].get(..length)?", "body[1..129].get(..length)?")],
+    },
+    Planted {
+        name: "DeskLongestSegmentRefused",
+        does: "A used length of 1,598 stops the reading.",
+        breaks: "\"or a used length above 1,598\"",
+        file: "desk.rs",
+        function: "fn first_record(",
+        edits: &[Instead("body[2..].get(..length)?", "body[2..1_599].get(..length)?")],
+    },
+    Planted {
+        name: "DeskWholeRoomJoined",
+        does: "What stands behind an entry's length is joined to the table too.",
+        breaks: "\"a table entry's length and bytes in a fixed 130-byte body\"",
+        file: "desk.rs",
+        function: "fn first_record(",
+        edits: &[Instead("body[1..].get(..length)?", "{ body[1..].get(..length)?; &body[1..] }")],
+    },
+    Planted {
+        name: "DeskWholeRoomJudged",
+        does: "What stands behind a segment's used length is judged too.",
+        breaks: "\"two bytes of used length\"",
+        file: "desk.rs",
+        function: "fn first_record(",
+        edits: &[Instead("body[2..].get(..length)?", "{ body[2..].get(..length)?; &body[2..] }")],
+    },
+    Planted {
+        name: "DeskShortSegmentStops",
+        does: "A used length below 20 stops the reading, where the segment is to be judged.",
+        breaks: "\"What it prints must be what the live calls would give.\"",
+        file: "desk.rs",
+        function: "fn first_record(",
+        edits: &[Instead(
+            "body[2..].get(..length)?",
+            "{ if length < 20 { return None; } body[2..].get(..length)? }",
+        )],
+    },
+    Planted {
+        name: "DeskLengthLittleEndian",
+        does: "The used length is read with its low byte first.",
+        breaks: "\"two bytes of used length, big-endian, first\"",
+        file: "desk.rs",
+        function: "fn first_record(",
+        edits: &[Instead("u16::from_be_bytes", "u16::from_le_bytes")],
+    },
+    Planted {
+        name: "DeskCutSegmentJudged",
+        does: "A segment whose used bytes are all there is judged, though its record is cut.",
+        breaks: "\"A cut, unknown or misplaced record\"",
+        file: "desk.rs",
+        function: "fn first_record(",
+        edits: &[Before(
+            "let body = recording",
+            "if kind == 3 && (3..1_601).contains(&recording.len()) {
+                let length = usize::from(u16::from_be_bytes([recording[1], recording[2]]));
+                return Some((Record::Segment(recording[3..].get(..length)?), &[]));
+            }",
+        )],
+    },
+    Planted {
+        name: "DeskFamilyBehindTable",
+        does: "18 behind the table's numbers.",
+        breaks: "\"judged at the opening record in 01's order\"",
+        file: "desk.rs",
+        function: "fn opened(",
+        edits: &[Before(
+            "// 18:",
+            "if let Err(refusal) = table::read(table) { return Err(Stop::Opening(refusal.number)); }",
+        )],
+    },
+    Planted {
+        name: "DeskLongTableCut",
+        does: "Of a table no more is kept than 64 entries can have, and 12 is not seen.",
+        breaks: "12: \"a 65th entry begins\"",
+        file: "desk.rs",
+        function: "fn opened(",
+        edits: &[Instead("table::read(table)", "table::read(&table[..table.len().min(64 * 129)])")],
+    },
+    Planted {
+        name: "DeskSendIdNotTested",
+        does: "35 for the SendID is not given.",
+        breaks: "\"35 for either ID\"",
+        file: "desk.rs",
+        function: "fn opened(",
+        edits: &[Instead("by_send_id(&entries, &pair, state.outgoing_send_id).is_none()", "false")],
+    },
+    Planted {
+        name: "DeskRecvIdNotTested",
+        does: "35 for the RecvID is not given.",
+        breaks: "\"35 for either ID\"",
+        file: "desk.rs",
+        function: "fn opened(",
+        edits: &[Instead("by_recv_id(&entries, &pair, state.asked_recv_id).is_none()", "false")],
+    },
+    Planted {
+        name: "DeskSendIdOfAnyPair",
+        does: "35 for the SendID asks no entry for the pair.",
+        breaks: "35: \"no entry matching the pair has the outgoing SendID\"",
+        file: "desk.rs",
+        function: "fn opened(",
+        edits: &[Instead(
+            "by_send_id(&entries, &pair, state.outgoing_send_id).is_none()",
+            "!entries.iter().any(|entry| entry.send_id == state.outgoing_send_id)",
+        )],
+    },
+    Planted {
+        name: "DeskAskedIdIsSendId",
+        does: "The RecvID to ask is looked for among the SendIDs.",
+        breaks: "35: \"or the RecvID to ask (operator call)\"",
+        file: "desk.rs",
+        function: "fn opened(",
+        edits: &[Instead(
+            "by_recv_id(&entries, &pair, state.asked_recv_id).is_none()",
+            "by_send_id(&entries, &pair, state.asked_recv_id).is_none()",
+        )],
+    },
+    Planted {
+        name: "DeskNumberNotAlone",
+        does: "Beside the opening's number stands an index.",
+        breaks: "\"with 01's number alone\"",
+        file: "desk.rs",
+        function: "fn last_line(",
+        edits: &[Instead("format!(\"{number}\\n\")", "format!(\"{number} 0\\n\")")],
+    },
+    Planted {
+        name: "DeskReferenceFromZero",
+        does: "The arriving reference starts at 0.",
+        breaks: "\"Opening sets each reference to that side's ISN\"",
+        file: "desk.rs",
+        function: "fn just_opened(",
+        edits: &[Instead("four(11).into()", "0")],
+    },
+    Planted {
+        name: "DeskIsnsExchanged",
+        does: "Our ISN and the peer's are exchanged.",
+        breaks: "the reading of kind 2: \"our ISN, the peer's ISN (four each)\"",
+        file: "desk.rs",
+        function: "fn just_opened(",
+        edits: &[Behind(
+            "state.remote.copy_from_slice(&body[31..47]);",
+            "std::mem::swap(&mut state.our_isn, &mut state.peer_isn);",
+        )],
+    },
+    Planted {
+        name: "DeskStillOpening",
+        does: "The connection is still opening.",
+        breaks: "\"kind 2 the connection just after opening\"",
+        file: "desk.rs",
+        function: "fn just_opened(",
+        edits: &[Instead("STAGE_OPEN", "0")],
+    },
+    Planted {
+        name: "DeskFromOurSide",
+        does: "A segment comes from our side to the remote one.",
+        breaks: "\"kind 3 an arriving segment of it\"",
+        file: "desk.rs",
+        function: "fn judged(",
+        edits: &[Instead("(pair.remote, pair.local)", "(pair.local, pair.remote)")],
+    },
+    Planted {
+        name: "DeskDropsExtensionPrinted",
+        does: "A drop prints the reference's extension.",
+        breaks: "\"a drop's extension prints as 0\"",
+        file: "desk.rs",
+        function: "fn judged(",
+        edits: &[Instead(
+            "(refusal.number, 0)",
+            "(refusal.number, (state.arriving_reference >> 32) as u32)",
+        )],
+    },
+    Planted {
+        name: "DeskAcceptPrintsOne",
+        does: "Accept prints as number 1.",
+        breaks: "\"Accept prints as number 0\"",
+        file: "desk.rs",
+        function: "fn judged(",
+        edits: &[Instead("(0, extension)", "(1, extension)")],
+    },
 ];

@@ -32,6 +32,20 @@ impl Fault {
         all
     };
 
+    /// Those in what the program `desk` prints; the others are in the calls.
+    pub fn of_desk() -> impl Iterator<Item = Fault> {
+        Fault::ALL.into_iter().filter(|fault| fault.is_of_desk())
+    }
+
+    /// Those in the calls.
+    pub fn of_calls() -> impl Iterator<Item = Fault> {
+        Fault::ALL.into_iter().filter(|fault| !fault.is_of_desk())
+    }
+
+    fn is_of_desk(self) -> bool {
+        FAULTS[self.0].file == "desk.rs"
+    }
+
     pub fn name(self) -> &'static str {
         FAULTS[self.0].name
     }

@@ -249,7 +249,12 @@ impl Read for Endless {
 
 /// The most memory that this process had so far, in bytes, as Linux says it.
 pub fn most_memory() -> u64 {
-    let status = std::fs::read_to_string("/proc/self/status").unwrap();
+    most_memory_of("self")
+}
+
+/// The most memory that the process of this number had so far.
+pub fn most_memory_of(process: &str) -> u64 {
+    let status = std::fs::read_to_string(format!("/proc/{process}/status")).unwrap();
     let line = status.lines().find_map(|line| line.strip_prefix("VmHWM:"));
     let kilobytes = line.unwrap().trim().trim_end_matches(" kB");
     kilobytes.parse::<u64>().unwrap() * 1_024

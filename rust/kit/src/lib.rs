@@ -12,6 +12,9 @@ pub mod ends;
 pub mod entry;
 pub mod linux;
 pub mod pointers;
+pub mod program;
+pub mod recording;
+pub mod rollover;
 pub mod segment;
 pub mod state;
 

@@ -276,26 +276,19 @@ fn the_readme() {
     let arguments: Vec<&str> = lines.next().unwrap().split(' ').collect();
     let mut command = Command::new(env!("CARGO_BIN_EXE_embankery"));
     let output = command.current_dir(&top).args(arguments).output().unwrap();
-    let shown = section
-        .split("```text\n")
-        .nth(1)
-        .unwrap()
-        .split("```")
-        .next()
-        .unwrap();
+    let shown = |which| {
+        let block = section.split("```text\n").nth(which).unwrap();
+        block.split("```").next().unwrap()
+    };
     assert_eq!(
         (text(&output.stdout).as_str(), output.status.code()),
-        (shown, Some(1))
+        (shown(1), Some(1))
     );
     // The other commands that it names.
     for line in lines {
-        let arguments = line
-            .split("   ")
-            .next()
-            .unwrap()
-            .split(" > ")
-            .next()
-            .unwrap();
+        let mut arguments = line.split("   ").next().unwrap();
+        let desk = arguments.strip_suffix(" | target/bin/desk");
+        arguments = desk.unwrap_or(arguments).split(" > ").next().unwrap();
         let mut command = Command::new(env!("CARGO_BIN_EXE_embankery"));
         let output = command
             .current_dir(&top)
@@ -303,5 +296,9 @@ fn the_readme() {
             .output()
             .unwrap();
         assert_eq!(output.status.code(), Some(0), "{line}");
+        if let (Some(_), Some(program)) = (desk, kit::program::desk()) {
+            let lines = kit::program::printed(&program, &output.stdout, 1 << 16);
+            assert_eq!(lines, shown(2));
+        }
     }
 }

@@ -7,38 +7,10 @@ mod common;
 
 use common::*;
 use embankery::Verdict;
+use kit::program::{desk, printed};
 use operator::desk::{Choice, Fate};
 use operator::tables::Station;
 use operator::Direction;
-use std::io::Write;
-use std::path::PathBuf;
-use std::process::{Command, Stdio};
-
-fn program() -> Option<PathBuf> {
-    let top = PathBuf::from(env!("CARGO_MANIFEST_DIR")).join("../..");
-    let program = top.join("target/bin/desk");
-    let is_there = program.is_file();
-    let must_be = std::env::var_os("GATE").is_some() && top.join("crates/desk").is_dir();
-    assert!(is_there || !must_be, "target/bin/desk is not there");
-    is_there.then_some(program)
-}
-
-/// What the program prints for a recording.
-fn printed(program: &PathBuf, recording: Vec<u8>) -> String {
-    let mut child = Command::new(program)
-        .stdin(Stdio::piped())
-        .stdout(Stdio::piped())
-        .spawn()
-        .unwrap();
-    let mut input = child.stdin.take().unwrap();
-    // Both ways at once: neither side may wait for the other.
-    let writer = std::thread::spawn(move || {
-        let _ = input.write_all(&recording);
-    });
-    let output = child.wait_with_output().unwrap();
-    writer.join().unwrap();
-    String::from_utf8(output.stdout).unwrap()
-}
 
 /// The desk's lines of one direction, as document 02 has them: index, number, extension.
 fn lines(file: &[u8], station: &Station, choice: Choice, direction: Direction) -> String {
@@ -62,8 +34,8 @@ fn compare(file: &[u8], station: &Station, choice: Choice) -> usize {
         let expected = lines(file, station, choice, direction);
         let (recording, recorded) = recording(file, station, choice, direction).unwrap();
         assert_eq!(recorded.segments, expected.lines().count() as u64);
-        if let Some(program) = program() {
-            assert_eq!(printed(&program, recording), expected);
+        if let Some(program) = desk() {
+            assert_eq!(printed(&program, &recording, 1 << 16), expected);
             compared += 1;
         }
     }

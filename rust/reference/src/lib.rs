@@ -1,5 +1,5 @@
 //! TCP-AO by the rules of document 01, once more in plain Rust. Of document 02, Tickets 2, 4,
-//! 13, 5, 10 and 9 are in it.
+//! 13, 5, 10, 9 and 1 are in it.
 //!
 //! This package was written from the papers alone: documents 01 and 02, `BOUNDARY.md` for the bytes
 //! at the C boundary, and the public standards (FIPS 180-4, RFC 2104, FIPS 197, RFC 4493, RFC 1071, RFC
@@ -8,7 +8,8 @@
 //! from.
 //!
 //! [`calls`] has the calls with values in and out, [`boundary`] the same calls over lent bytes, as
-//! C sees them. The package `faulty` is this text with one of its rules turned round on purpose.
+//! C sees them; [`desk`] has what the program `desk` prints. The package `faulty` is this text with one of its
+//! rules turned round on purpose.
 //!
 //! `NOTES.md` lists what document 01 leaves open and how it was decided here.
 
@@ -20,6 +21,7 @@ pub mod boundary;
 pub mod calls;
 pub mod checksum;
 pub mod crypto;
+pub mod desk;
 pub mod mac;
 pub mod md5_table;
 pub mod position;

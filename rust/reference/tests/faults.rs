@@ -1,5 +1,5 @@
 //! Each fault that can be planted is one: at least one directed call answers or leaves something
-//! else under it.
+//! else under it, or at least one directed recording gets other lines.
 
 mod common;
 
@@ -10,7 +10,7 @@ use faulty::Fault;
 fn each_planted_fault_shows() {
     let cases = cases();
     let right: Vec<Outcome> = cases.iter().map(run).collect();
-    for fault in Fault::ALL {
+    for fault in Fault::of_calls() {
         let seen: Vec<String> = cases
             .iter()
             .zip(&right)
@@ -19,6 +19,23 @@ fn each_planted_fault_shows() {
             .collect();
         assert!(!seen.is_empty(), "{fault:?} shows nowhere");
         println!("{fault:?} shows in {} cases, first {}", seen.len(), seen[0]);
+    }
+}
+
+#[test]
+fn each_fault_of_the_desk_shows() {
+    let recordings = recordings();
+    for fault in Fault::of_desk() {
+        let shows = |recording: &&Recording| {
+            faulty::with(fault, || faulty::desk::printed(&recording.bytes)) != recording.lines
+        };
+        let seen: Vec<&Recording> = recordings.iter().filter(shows).collect();
+        assert!(!seen.is_empty(), "{fault:?} shows nowhere");
+        println!(
+            "{fault:?} shows in {} recordings, first: {}",
+            seen.len(),
+            seen[0].name
+        );
     }
 }
 

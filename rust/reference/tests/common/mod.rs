@@ -5,6 +5,7 @@
 pub mod calls;
 pub mod cases;
 pub mod ends;
+pub mod recordings;
 
 pub use calls::{run, run_unplanted, run_with, Case, REFERENCE};
 pub use cases::cases;
@@ -13,3 +14,4 @@ pub use ends::*;
 pub use kit::entry::{mirrored, table};
 pub use kit::segment::{ACK, FIN, RST, SYN};
 pub use kit::{number, value, Call, End, Entry, Function, Outcome, Segment, Side};
+pub use recordings::{recordings, Recording};

@@ -1,0 +1,5 @@
+pub mod Forms
+pub mod Settling
+pub mod Holding
+pub mod Spelling
+pub mod Openings

@@ -1,0 +1,10 @@
+pub mod Lines
+pub mod Recording
+pub mod Views
+pub mod Held
+pub mod ViewLaws
+pub mod RecordingLaws
+pub mod Live
+pub mod LiveLaws
+pub mod TableLaws
+pub mod KeptLaws
