@@ -12,15 +12,16 @@ use Rattle.octets.specs.Octets.{get16}
 use Rattle.recording.specs.declared.line.Line.the-variants.{Fault}
 use Rattle.recording.specs.Recording.{kindOf, recordBytes, entryLength, usedLength, Desk, isStopped, withHeld, stopped, placed, faulty}
 use Rattle.recording.specs.Recording.{settled, looked, step, absorb}
+use Rattle.recording.specs.Live.{Pieces, LastLine}
 
 -- Pieces: a ++ b is a and then b.
-pub absorb-append : (keep : List ℕ → List ℕ) (d : Desk) (a b : List ℕ) → absorb keep d (a ++ b) ≡ absorb keep (absorb keep d a) b
+pub absorb-append : Pieces
 unfolding absorb
 absorb-append keep d [] b = refl
 absorb-append keep d (x ∷ a) b = absorb-append keep (step keep d x) a b
 
 -- After the last line nothing more is read or printed.
-pub absorb-stopped : (keep : List ℕ → List ℕ) (d : Desk) (s : List ℕ) → isStopped d ≡ true → absorb keep d s ≡ d
+pub absorb-stopped : LastLine
 unfolding absorb step
 absorb-stopped keep d [] h = refl
 absorb-stopped keep d (b ∷ s) h = rw h (absorb-stopped keep d s h)
