@@ -7,7 +7,7 @@ use std::fmt;
 use std::net::{IpAddr, Ipv4Addr, Ipv6Addr};
 use std::ops::RangeInclusive;
 
-/// A table of keys for stations that sign only by TCP MD5 (RFC 2385), which the archive has checked: none of 10
+/// A table of keys for peers that sign only by TCP MD5 (RFC 2385), which the archive has checked: none of 10
 /// to 17 applies to it.
 ///
 /// It is given to the calls by itself or, beside a [`KeyTable`](crate::KeyTable), as

@@ -316,7 +316,7 @@ fn both_tables() {
     assert_eq!(Tables::new(keys, old).unwrap_err(), refused);
     assert!(refused.to_string().starts_with("45 at MD5 entry 0: "));
 
-    // A station with two peers: one goes by TCP-AO, one by TCP MD5.
+    // A server with two peers: one goes by TCP-AO, one by TCP MD5.
     let md5_entry = Md5Entry::ipv4().remote([10, 0, 0, 9], 32).key(b"key");
     let md5_entry = Md5Table::new([&md5_entry.build().unwrap()]).unwrap();
     let tables = Tables::new(keys, &md5_entry).unwrap();

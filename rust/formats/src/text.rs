@@ -1,7 +1,7 @@
 //! A table as a person writes it: one block to an entry. docs/OPERATING.md has the grammar.
 //!
 //! ```text
-//! entry pond-7
+//! entry peer-7
 //!     local         10.0.0.1
 //!     remote        10.0.7.0/24
 //!     remote-ports  1024-65535

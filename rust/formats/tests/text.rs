@@ -14,8 +14,8 @@ fn read(text: &str, kind: Kind) -> Result<Vec<Entry>, String> {
 }
 
 const WHOLE: &str = "
-# The line to pond 7.
-entry pond-7   # its name
+# The connections with peer 7.
+entry peer-7   # its name
 \tlocal         10.0.0.1
     local-ports   179
     remote        10.0.7.0/24
@@ -53,7 +53,7 @@ fn every_field() {
     let blocks = parse(&text, Kind::Keys, &mut no_file).unwrap();
     assert_eq!(
         (blocks[0].line, blocks[0].name.as_deref()),
-        (3, Some("pond-7"))
+        (3, Some("peer-7"))
     );
     assert_eq!(blocks[0].entry, entry);
     assert_eq!(read("", Kind::Keys), Ok(vec![]));
@@ -62,7 +62,7 @@ fn every_field() {
 
 #[test]
 fn keys_in_files() {
-    let text = WHOLE.replace("hex 00 11AAbb ff#no comment", "file keys/pond 7.key");
+    let text = WHOLE.replace("hex 00 11AAbb ff#no comment", "file keys/peer 7.key");
     let mut named = Vec::new();
     let mut read_key = |name: &str| {
         named.push(name.to_string());
@@ -70,11 +70,11 @@ fn keys_in_files() {
     };
     let blocks = parse(&text, Kind::Keys, &mut read_key).unwrap();
     assert_eq!(blocks[0].entry.key, b"secret\n");
-    assert_eq!(named, ["keys/pond 7.key"]);
+    assert_eq!(named, ["keys/peer 7.key"]);
     let mistake = parse(&text, Kind::Keys, &mut no_file).unwrap_err();
     assert_eq!(
         mistake.to_string(),
-        "line 14, entry 0 (pond-7): key: keys/pond 7.key: no such file"
+        "line 14, entry 0 (peer-7): key: keys/peer 7.key: no such file"
     );
 }
 

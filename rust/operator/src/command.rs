@@ -5,7 +5,7 @@ use crate::desk::{find, Choice, Desk, Fate};
 use crate::openings::{Direction, Views};
 use crate::record::record;
 use crate::stop::{Stop, DONE, REFUSED, USAGE};
-use crate::tables::{checked, counted, File, Station};
+use crate::tables::{checked, counted, File, Endpoint};
 use crate::{demo, explain, help, show};
 use embankery::Verdict;
 use formats::capture::Walked;
@@ -156,7 +156,7 @@ fn files(keys: Option<&str>, md5: Option<&str>) -> Result<[File; 2], Stop> {
 }
 
 /// The tables of a command that takes them as its files.
-fn named(arguments: &Arguments) -> Result<Station, Stop> {
+fn named(arguments: &Arguments) -> Result<Endpoint, Stop> {
     let (keys, md5) = (
         arguments.at_most_one("the key table")?,
         arguments.value(MD5.name),
@@ -169,7 +169,7 @@ fn named(arguments: &Arguments) -> Result<Station, Stop> {
 }
 
 /// The tables of a command that takes a capture.
-fn station(arguments: &Arguments) -> Result<Station, Stop> {
+fn endpoint(arguments: &Arguments) -> Result<Endpoint, Stop> {
     let (keys, md5) = (arguments.value(KEYS.name), arguments.value(MD5.name));
     if keys.is_none() && md5.is_none() {
         return Err(Stop::usage("no table is given: --keys KEYS"));
@@ -184,10 +184,10 @@ fn build(arguments: &Arguments, writers: &mut Writers) -> Result<u8, Stop> {
             "one text is wanted: KEYS.txt, or --md5 MD5.txt",
         ));
     }
-    let station = named(arguments)?;
+    let endpoint = named(arguments)?;
     not_a_terminal()?;
-    writers.out.write_all(station.keys().as_bytes())?;
-    writers.out.write_all(station.md5().as_bytes())?;
+    writers.out.write_all(endpoint.keys().as_bytes())?;
+    writers.out.write_all(endpoint.md5().as_bytes())?;
     Ok(DONE)
 }
 
@@ -200,9 +200,9 @@ fn not_a_terminal() -> Result<(), Stop> {
 }
 
 fn check(arguments: &Arguments, writers: &mut Writers) -> Result<u8, Stop> {
-    let station = named(arguments)?;
+    let endpoint = named(arguments)?;
     let entries = |count| counted(count, "entry", "entries");
-    let (keys, md5) = (entries(station.keys().len()), entries(station.md5().len()));
+    let (keys, md5) = (entries(endpoint.keys().len()), entries(endpoint.md5().len()));
     writeln!(
         writers.out,
         "nothing is wrong: {keys} in the key table, {md5} in the MD5 table"
@@ -238,9 +238,9 @@ fn choice(arguments: &Arguments) -> Result<Choice, Stop> {
 
 fn desk(arguments: &Arguments, writers: &mut Writers) -> Result<u8, Stop> {
     let path = arguments.one("the capture")?;
-    let (station, choice) = (station(arguments)?, choice(arguments)?);
-    let mirrored = station.mirrored()?;
-    let views = Views::new(&station, &mirrored)?;
+    let (endpoint, choice) = (endpoint(arguments)?, choice(arguments)?);
+    let mirrored = endpoint.mirrored()?;
+    let views = Views::new(&endpoint, &mirrored)?;
     let open = || std::fs::File::open(path);
     let desk = Desk::new(open(), views, choice).map_err(|stop| of_file(path, stop))?;
     let (out, first) = (&mut writers.out, desk.walked().first);
@@ -295,10 +295,10 @@ fn write_recording(arguments: &Arguments, writers: &mut Writers) -> Result<u8, S
         return list(path, &choice, writers);
     }
     let open = || std::fs::File::open(path);
-    let station = station(arguments)?;
+    let endpoint = endpoint(arguments)?;
     not_a_terminal()?;
-    let mirrored = station.mirrored()?;
-    let views = Views::new(&station, &mirrored)?;
+    let mirrored = endpoint.mirrored()?;
+    let views = Views::new(&endpoint, &mirrored)?;
     let desk = Desk::new(open(), views, choice).map_err(|stop| of_file(path, stop))?;
     write!(writers.err, "{}", show::list(desk.found()))?;
     let status = ended(path, desk.walked(), writers)?;
@@ -306,8 +306,8 @@ fn write_recording(arguments: &Arguments, writers: &mut Writers) -> Result<u8, S
         true => Direction::Out,
         false => Direction::In,
     };
-    let stations = [&station, &mirrored];
-    let recorded = record(desk, open(), stations, direction, &mut writers.out)?;
+    let endpoints = [&endpoint, &mirrored];
+    let recorded = record(desk, open(), endpoints, direction, &mut writers.out)?;
     let (opening, segments) = (&recorded.opening, recorded.segments);
     let (number, end) = (opening.number, opening.address(opening.receiver(direction)));
     writeln!(

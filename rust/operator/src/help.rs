@@ -25,7 +25,7 @@ embankery table build --md5 MD5.txt > MD5.table
 Reads a table as text, has the archive check it, and writes its bytes. A mistake is named with its
 line and entry, a refusal with its number too (embankery explain NUMBER). One block to an entry:
 
-    entry pond-7                        a name, for messages only; may be left out
+    entry peer-7                        a name, for messages only; may be left out
         local         10.0.0.1          an address, or a prefix such as 10.0.0.0/8
         local-ports   179               a port, a range such as 1024-65535, or any (usual)
         remote        10.0.7.0/24
@@ -36,7 +36,7 @@ line and entry, a refusal with its number too (embankery explain NUMBER). One bl
         mac-length    12                4 to 16; 12 is usual
         options       covered           or not-covered: the MAC leaves the other options out
         nat           none              or local, remote, both: who is behind translation
-        key           hex 0011aabb      1 to 80 bytes; or: file pond-7.key, its bytes as they are
+        key           hex 0011aabb      1 to 80 bytes; or: file peer-7.key, its bytes as they are
 
 local, remote, send-id, recv-id, algorithm and key must be there. # begins a comment. In the MD5
 table the algorithm is tcp-md5, and send-id, recv-id, mac-length, options and nat are not there.
@@ -64,7 +64,7 @@ embankery desk CAPTURE [--keys KEYS] [--md5 MD5] [--connection N] [--local ADDRE
                        [--problems] [--set-checksums]
 
 Reads a capture (pcap or pcapng; Ethernet, raw IP, Linux cooked) and has the archive judge every
-segment of each connection that an entry matches, both directions: what arrives at the station
+segment of each connection that an entry matches, both directions: what arrives at the endpoint
 whose tables are given (in) by these, what arrives at its peer (out) by their mirror. A connection
 can be judged if its SYN and SYN+ACK are in the capture, since the keys depend on both ISNs.
 
@@ -72,9 +72,9 @@ A line has the packet's number, the time since the first packet, the connection,
 index in the recording of that direction, the number (0 accepted), the extension, the KeyID, and
 what happened. A summary by reason follows.
 
-  --keys, --md5     the station's tables, as text or as bytes
+  --keys, --md5     the endpoint's tables, as text or as bytes
   --connection N    only this connection (embankery record --list has the numbers)
-  --local ADDRESS   the station's address; otherwise it is found by trying both ends
+  --local ADDRESS   the endpoint's address; otherwise it is found by trying both ends
   --problems        only lines of segments that were not accepted
   --set-checksums   sets each segment's checksum right first: for a capture made on the sender,
                     where the network card writes checksums afterwards, so that all would get 40
@@ -88,7 +88,7 @@ embankery record CAPTURE --list
 
 Lists the connections of a capture and writes one direction of one of them as a recording, which
 the program desk reads: the key table, the connection just after its opening, and each segment that
-arrives. That is the direction that arrives at the station whose table is given; with --leaving it
+arrives. That is the direction that arrives at the endpoint whose table is given; with --leaving it
 is the other one, with the table's mirror. The list goes to the standard error, or with --list,
 alone, to the standard output.
 ";

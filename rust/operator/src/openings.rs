@@ -4,7 +4,7 @@
 //! arrives at the other by the table's mirror.
 
 use crate::stop::Stop;
-use crate::tables::Station;
+use crate::tables::Endpoint;
 use embankery::{judge_syn, Connection, Refusal, Tables, UnknownKeyId, Verdict};
 use formats::capture::tcp::{with_checksum, Header, Signature};
 use formats::connections::{Found, Kept};
@@ -23,7 +23,7 @@ pub enum Side {
 /// Where a segment arrives.
 #[derive(Clone, Copy, Debug, PartialEq, Eq)]
 pub enum Direction {
-    /// At the station whose tables are given.
+    /// At the endpoint whose tables are given.
     In,
     /// At its peer.
     Out,
@@ -61,7 +61,7 @@ pub struct Opening {
     pub client: SocketAddr,
     /// The other end.
     pub server: SocketAddr,
-    /// Which end is the station whose tables are given.
+    /// Which end is the endpoint whose tables are given.
     pub ours: Side,
     /// Whether it may as well be the other, by all that the opening shows.
     pub either: bool,
@@ -111,20 +111,20 @@ impl Opening {
     }
 }
 
-/// A station's tables, and those of the ends that it talks to.
+/// An endpoint's tables, and those of the ends that it talks to.
 #[derive(Clone, Copy, Debug)]
 pub struct Views<'a> {
-    /// The station's own.
+    /// The endpoint's own.
     pub ours: Tables<'a>,
     /// Their mirror.
     pub peers: Tables<'a>,
 }
 
 impl<'a> Views<'a> {
-    /// A station's tables, and their mirror: [`Station::mirrored`].
-    pub fn new(station: &'a Station, mirrored: &'a Station) -> Result<Views<'a>, Stop> {
+    /// An endpoint's tables, and their mirror: [`Endpoint::mirrored`].
+    pub fn new(endpoint: &'a Endpoint, mirrored: &'a Endpoint) -> Result<Views<'a>, Stop> {
         Ok(Views {
-            ours: station.tables()?,
+            ours: endpoint.tables()?,
             peers: mirrored.tables()?,
         })
     }

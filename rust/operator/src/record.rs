@@ -3,7 +3,7 @@
 use crate::desk::{Desk, Fate};
 use crate::openings::{Direction, Opening};
 use crate::stop::Stop;
-use crate::tables::{matching, Station};
+use crate::tables::{matching, Endpoint};
 use embankery::{Connection, Way};
 use formats::recording::{Opened, Recording, SEGMENT_ROOM};
 use std::io::{self, Read, Write};
@@ -20,12 +20,12 @@ pub struct Recorded {
 }
 
 /// Writes the segments of a connection that arrive in this direction, behind the entries that match it: of the
-/// station's key table, or of its mirror. So a recording holds no other connection's keys, and they could decide no
+/// endpoint's key table, or of its mirror. So a recording holds no other connection's keys, and they could decide no
 /// verdict in it. Where the desk's choice names no connection, there must be one alone that can be recorded.
 pub fn record<R: Read>(
     desk: Desk,
     input: io::Result<R>,
-    [ours, mirrored]: [&Station; 2],
+    [ours, mirrored]: [&Endpoint; 2],
     direction: Direction,
     out: impl Write,
 ) -> Result<Recorded, Stop> {

@@ -18,9 +18,9 @@ pub struct File {
     places: Vec<(usize, Option<String>)>,
 }
 
-/// Both tables of a station, which the archive has checked.
+/// Both tables of an endpoint, which the archive has checked.
 #[derive(Clone, Debug)]
-pub struct Station {
+pub struct Endpoint {
     keys: KeyTable,
     md5: Md5Table,
 }
@@ -151,17 +151,17 @@ fn bytes_of(entry: &Entry) -> Vec<u8> {
     }
 }
 
-/// Both files as a station's tables; what is wrong with them, in words.
-pub fn checked(keys: &File, md5: &File) -> Result<Station, Stop> {
-    let station = || {
-        let station = Station {
+/// Both files as an endpoint's tables; what is wrong with them, in words.
+pub fn checked(keys: &File, md5: &File) -> Result<Endpoint, Stop> {
+    let endpoint = || {
+        let endpoint = Endpoint {
             keys: KeyTable::from_bytes(&keys.bytes[..])?,
             md5: Md5Table::from_bytes(&md5.bytes[..])?,
         };
-        Tables::new(&station.keys, &station.md5)?;
-        Ok(station)
+        Tables::new(&endpoint.keys, &endpoint.md5)?;
+        Ok(endpoint)
     };
-    station().map_err(|refusal| Stop::refused(in_words(refusal, keys, md5)))
+    endpoint().map_err(|refusal| Stop::refused(in_words(refusal, keys, md5)))
 }
 
 /// A table's refusal: where, its number, its meaning; of a clash both entries and a pair that both match.
@@ -267,21 +267,21 @@ fn one_line(entry: &Entry) -> String {
     fields.collect::<Vec<_>>().join(", ")
 }
 
-impl Station {
+impl Endpoint {
     /// Both tables, as the archive's calls take them.
     pub fn tables(&self) -> Result<Tables<'_>, Stop> {
         Ok(Tables::new(&self.keys, &self.md5)?)
     }
 
-    /// The tables of a station at the other end of each connection: every entry mirrored.
-    pub fn mirrored(&self) -> Result<Station, Stop> {
+    /// The tables of an endpoint at the other end of each connection: every entry mirrored.
+    pub fn mirrored(&self) -> Result<Endpoint, Stop> {
         let mirrored = |table: &[u8]| -> Vec<u8> {
             let entries = split(table).into_iter().filter_map(Entry::read);
             entries
                 .flat_map(|entry| bytes_of(&entry.mirrored()))
                 .collect()
         };
-        Ok(Station {
+        Ok(Endpoint {
             keys: KeyTable::from_bytes(mirrored(self.keys.as_bytes()))?,
             md5: Md5Table::from_bytes(mirrored(self.md5.as_bytes()))?,
         })

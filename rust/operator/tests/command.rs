@@ -126,8 +126,8 @@ fn tables() {
     assert!(hidden.contains("64 bytes, not shown") && !hidden.contains("hex"));
 
     // A key in a file stands beside the text.
-    write(&folder, "pond.key", b"from a file");
-    let by_file = "entry\nlocal 10.0.0.1\nremote 10.0.0.2\nalgorithm tcp-md5\nkey file pond.key\n";
+    write(&folder, "peer.key", b"from a file");
+    let by_file = "entry\nlocal 10.0.0.1\nremote 10.0.0.2\nalgorithm tcp-md5\nkey file peer.key\n";
     let by_file = write(&folder, "md5.txt", by_file.as_bytes());
     let built = embankery(&["table", "build", "--md5", &by_file]);
     assert_eq!(built.status.code(), Some(0));

@@ -27,7 +27,7 @@ fn all_accepted(line: &Line) -> Vec<Option<u8>> {
 fn as_sent() {
     let line = line();
     let (lines, report) =
-        at_desk(&plain(&line.packets), &line.station(), Choice::default()).unwrap();
+        at_desk(&plain(&line.packets), &line.endpoint(), Choice::default()).unwrap();
     assert!(report.is_good());
     let seen: Vec<(u64, Option<u64>)> =
         lines.iter().map(|line| (line.packet, line.index)).collect();
@@ -59,7 +59,7 @@ fn damaged() {
     let mut expected = all_accepted(&line);
     (expected[4], expected[5]) = (Some(40), Some(40));
     let (lines, report) =
-        at_desk(&plain(&line.packets), &line.station(), Choice::default()).unwrap();
+        at_desk(&plain(&line.packets), &line.endpoint(), Choice::default()).unwrap();
     let seen: Vec<Option<u8>> = lines.iter().map(Judged::number).collect();
     assert_eq!(seen, expected);
     assert!(!report.is_good());
@@ -80,7 +80,7 @@ fn checksums_not_set() {
             set_checksums,
             ..Choice::default()
         };
-        let (lines, _) = at_desk(&file, &line.station(), choice).unwrap();
+        let (lines, _) = at_desk(&file, &line.endpoint(), choice).unwrap();
         lines.iter().map(Judged::number).collect::<Vec<_>>()
     };
     assert!(numbers(false)
@@ -108,7 +108,7 @@ fn forged() {
     line.packets.insert(3, far);
     let mut expected = all_accepted(&line);
     expected.splice(3..7, [Some(29), Some(29), Some(29), Some(26)]);
-    assert_eq!(numbers(&plain(&line.packets), &line.station()), expected);
+    assert_eq!(numbers(&plain(&line.packets), &line.endpoint()), expected);
 }
 
 /// Once open, the order decides nothing.
@@ -122,7 +122,7 @@ fn reordered() {
     let repeated = line.packets[4].clone();
     line.packets.push(repeated);
     assert_eq!(
-        numbers(&plain(&line.packets), &line.station()),
+        numbers(&plain(&line.packets), &line.endpoint()),
         all_accepted(&line)
     );
 }
@@ -140,7 +140,7 @@ fn cut_and_fragments() {
     packets.push(vec![0x45, 0, 0]);
     // Ethernet would fill a cut packet up again.
     let file = captured(&packets, Form::ALL[0], Wrap::Raw);
-    let (lines, report) = at_desk(&file, &line.station(), Choice::default()).unwrap();
+    let (lines, report) = at_desk(&file, &line.endpoint(), Choice::default()).unwrap();
     let not_judged: Vec<u64> = lines
         .iter()
         .filter(|line| matches!(line.fate, Fate::NotJudged(_)))
@@ -158,14 +158,14 @@ fn no_opening() {
     let line = line();
     for (from, judged, unopened) in [(1, 0, vec![1]), (2, 0, vec![1])] {
         let file = plain(&line.packets[from..]);
-        let (lines, report) = at_desk(&file, &line.station(), Choice::default()).unwrap();
+        let (lines, report) = at_desk(&file, &line.endpoint(), Choice::default()).unwrap();
         assert_eq!((lines.len(), report.unopened.clone()), (judged, unopened));
         assert!(!report.is_good());
     }
     // The SYN alone is judged; what follows cannot be.
     let mut packets = line.packets.clone();
     packets.remove(1);
-    let (lines, report) = at_desk(&plain(&packets), &line.station(), Choice::default()).unwrap();
+    let (lines, report) = at_desk(&plain(&packets), &line.endpoint(), Choice::default()).unwrap();
     assert_eq!(lines[0].number(), Some(0));
     assert!(lines[1..7]
         .iter()
@@ -189,7 +189,7 @@ fn openings_that_fail_first() {
     packets.insert(0, damaged);
     let mut expected = vec![Some(40), Some(0), Some(29)];
     expected.extend(vec![Some(0); line.packets.len() - 1]);
-    assert_eq!(numbers(&plain(&packets), &line.station()), expected);
+    assert_eq!(numbers(&plain(&packets), &line.endpoint()), expected);
 }
 
 /// A forged SYN in the middle takes no segments from the connection, also if somebody answers it.
@@ -210,7 +210,7 @@ fn a_syn_in_the_middle() {
     packets.insert(7, answer);
     let mut expected = vec![Some(0); packets.len()];
     (expected[4], expected[6], expected[7]) = (Some(24), Some(24), Some(25));
-    assert_eq!(numbers(&plain(&packets), &line.station()), expected);
+    assert_eq!(numbers(&plain(&packets), &line.endpoint()), expected);
 }
 
 /// The pair is used again: two connections, each with its own ISNs.
@@ -219,7 +219,7 @@ fn a_pair_used_again() {
     let (first, mut second) = (line(), Line::open([50_000, 60_000]));
     second.sends(0, 1, b"new").sends(1, 1, b"answer");
     let packets = [first.packets.clone(), second.packets.clone()].concat();
-    let (lines, report) = at_desk(&plain(&packets), &first.station(), Choice::default()).unwrap();
+    let (lines, report) = at_desk(&plain(&packets), &first.endpoint(), Choice::default()).unwrap();
     assert!(report.is_good(), "{report:?}");
     let connections: Vec<usize> = lines.iter().map(|line| line.connection).collect();
     let expected = [vec![1; first.packets.len()], vec![2; second.packets.len()]].concat();
@@ -228,7 +228,7 @@ fn a_pair_used_again() {
         connection: Some(2),
         ..Choice::default()
     };
-    let (lines, _) = at_desk(&plain(&packets), &first.station(), choice).unwrap();
+    let (lines, _) = at_desk(&plain(&packets), &first.endpoint(), choice).unwrap();
     let second_alone = lines.iter().filter(|line| line.number() == Some(0)).count();
     assert_eq!(second_alone, second.packets.len());
     let choice = Choice {
@@ -236,7 +236,7 @@ fn a_pair_used_again() {
         ..Choice::default()
     };
     assert_eq!(
-        at_desk(&plain(&packets), &first.station(), choice)
+        at_desk(&plain(&packets), &first.endpoint(), choice)
             .unwrap_err()
             .status,
         2
@@ -248,7 +248,7 @@ fn a_pair_used_again() {
 fn other_tables() {
     let line = line();
     let file = plain(&line.packets);
-    let other = station(&tables(b"another key")[0]);
+    let other = endpoint(&tables(b"another key")[0]);
     let (lines, report) = at_desk(&file, &other, Choice::default()).unwrap();
     assert_eq!((lines[0].number(), lines[1].number()), (Some(29), Some(29)));
     assert!(!report.is_good());
@@ -259,11 +259,11 @@ fn other_tables() {
         .remote([192, 0, 2, 1], 32)
         .key(b"key");
     let nobody = embankery::KeyTable::new([&nobody.build().unwrap()]).unwrap();
-    let (lines, report) = at_desk(&file, &station(&nobody), Choice::default()).unwrap();
+    let (lines, report) = at_desk(&file, &endpoint(&nobody), Choice::default()).unwrap();
     assert_eq!((lines.len(), report.others), (0, 1));
     assert!(!report.is_good());
 
-    let server = station(&line.tables[1]);
+    let server = endpoint(&line.tables[1]);
     let (lines, report) = at_desk(&file, &server, Choice::default()).unwrap();
     assert!(report.is_good());
     assert_eq!(lines[0].direction, Direction::In);
@@ -326,7 +326,7 @@ fn translated() {
         packet(&SERVER.0, &outside.0, &answer),
         packet(&outside.0, &SERVER.0, &data),
     ];
-    assert_eq!(numbers(&plain(&packets), &station(&server)), [Some(0); 3]);
+    assert_eq!(numbers(&plain(&packets), &endpoint(&server)), [Some(0); 3]);
     // On the client's side they are as it signed them.
     let packets = [
         sent(
@@ -339,7 +339,7 @@ fn translated() {
         ),
         sent(1, &inside),
     ];
-    assert_eq!(numbers(&plain(&packets), &station(&client)), [Some(0); 2]);
+    assert_eq!(numbers(&plain(&packets), &endpoint(&client)), [Some(0); 2]);
 }
 
 /// A table that fits both ends: that is said, and `--local` decides.
@@ -359,7 +359,7 @@ fn either_end() {
             ours: ours.map(Into::into),
             ..Choice::default()
         };
-        let (_, report) = at_desk(&file, &line.station(), choice).unwrap();
+        let (_, report) = at_desk(&file, &line.endpoint(), choice).unwrap();
         assert!(report.is_good());
         (report.judged[0].0.either, report.judged[0].0.ours)
     };
@@ -380,7 +380,7 @@ fn other_connections() {
     let mut packets = line.packets.clone();
     packets.insert(0, other(SYN, 5, 0));
     packets.push(other(ACK, 6, 1));
-    let (lines, report) = at_desk(&plain(&packets), &line.station(), Choice::default()).unwrap();
+    let (lines, report) = at_desk(&plain(&packets), &line.endpoint(), Choice::default()).unwrap();
     assert_eq!(lines.len(), line.packets.len());
     assert_eq!((report.others, report.is_good()), (1, true));
 }
@@ -414,11 +414,11 @@ fn a_file_cut_off() {
     let line = line();
     let file = plain(&line.packets);
     let cut = &file[..file.len() - 10];
-    let (lines, report) = at_desk(cut, &line.station(), Choice::default()).unwrap();
+    let (lines, report) = at_desk(cut, &line.endpoint(), Choice::default()).unwrap();
     assert_eq!(lines.len(), line.packets.len() - 1);
     assert!(report.walked.fault.is_some() && !report.is_good());
     assert_eq!(
-        at_desk(b"no capture", &line.station(), Choice::default())
+        at_desk(b"no capture", &line.endpoint(), Choice::default())
             .unwrap_err()
             .status,
         1
@@ -430,12 +430,12 @@ fn a_file_cut_off() {
 fn any_bytes() {
     let line = line();
     let file = plain(&line.packets);
-    let station = line.station();
+    let endpoint = line.endpoint();
     let was_sent = |segment: &[u8]| line.packets.iter().any(|packet| packet[20..] == *segment);
     for at in 0..file.len() {
         let mut changed = file.clone();
         changed[at] ^= 1 << (at % 8);
-        if let Ok((lines, _)) = at_desk(&changed, &station, Choice::default()) {
+        if let Ok((lines, _)) = at_desk(&changed, &endpoint, Choice::default()) {
             let mut accepted = lines.iter().filter(|line| line.number() == Some(0));
             assert!(accepted.all(|line| was_sent(&line.segment)), "byte {at}");
         }
@@ -447,6 +447,6 @@ fn any_bytes() {
             let at = bytes.below(changed.len());
             changed[at] = bytes.byte();
         }
-        let _ = at_desk(&changed, &station, Choice::default());
+        let _ = at_desk(&changed, &endpoint, Choice::default());
     }
 }

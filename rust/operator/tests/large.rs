@@ -27,9 +27,9 @@ fn sixty_four_megabytes() {
         .map(|packet| Wrap::Ethernet.frame(packet));
     let again = frames.flat_map(|frame| Form::ALL[0].packet(5, &frame));
     let file = Endless::new(opening, again.collect(), LENGTH);
-    let station = line.station();
-    let mirrored = station.mirrored().unwrap();
-    let views = Views::new(&station, &mirrored).unwrap();
+    let endpoint = line.endpoint();
+    let mirrored = endpoint.mirrored().unwrap();
+    let views = Views::new(&endpoint, &mirrored).unwrap();
     let before = most_memory();
     let desk = Desk::new(Ok(file.clone()), views, Choice::default()).unwrap();
     let mut lines = 0;

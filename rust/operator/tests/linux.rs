@@ -15,8 +15,8 @@ fn every_segment_is_accepted() {
         let file = bytes(&format!("{name}.pcap"));
         let at_client = client(&name);
         let at_server = at_client.mirrored().unwrap();
-        for (station, ours) in [(&at_client, Side::Client), (&at_server, Side::Server)] {
-            let (lines, report) = at_desk(&file, station, Choice::default()).unwrap();
+        for (endpoint, ours) in [(&at_client, Side::Client), (&at_server, Side::Server)] {
+            let (lines, report) = at_desk(&file, endpoint, Choice::default()).unwrap();
             assert!(report.is_good(), "{name}: {report:?}");
             assert_eq!(lines.len() as u64, report.walked.packets, "{name}");
             assert!(lines.iter().all(|line| line.number() == Some(0)), "{name}");
@@ -68,11 +68,11 @@ fn every_form_and_link() {
         "beyond-md5-reset-v6",
     ] {
         let packets = packets(&bytes(&format!("{name}.pcap")));
-        let station = client(name);
+        let endpoint = client(name);
         for form in Form::ALL {
             for wrap in Wrap::ALL {
                 let file = captured(&packets, form, wrap);
-                let numbers = numbers(&file, &station);
+                let numbers = numbers(&file, &endpoint);
                 assert_eq!(
                     numbers,
                     vec![Some(0); packets.len()],

@@ -9,12 +9,12 @@ use common::*;
 use embankery::Verdict;
 use kit::program::{desk, printed};
 use operator::desk::{Choice, Fate};
-use operator::tables::Station;
+use operator::tables::Endpoint;
 use operator::Direction;
 
 /// The desk's lines of one direction, as document 02 has them: index, number, extension.
-fn lines(file: &[u8], station: &Station, choice: Choice, direction: Direction) -> String {
-    let (lines, _) = at_desk(file, station, choice).unwrap();
+fn lines(file: &[u8], endpoint: &Endpoint, choice: Choice, direction: Direction) -> String {
+    let (lines, _) = at_desk(file, endpoint, choice).unwrap();
     let mut text = String::new();
     for line in lines.iter().filter(|line| line.direction == direction) {
         let Some(index) = line.index else { continue };
@@ -28,11 +28,11 @@ fn lines(file: &[u8], station: &Station, choice: Choice, direction: Direction) -
 }
 
 /// Both directions of a capture's connection, by the desk and by the program.
-fn compare(file: &[u8], station: &Station, choice: Choice) -> usize {
+fn compare(file: &[u8], endpoint: &Endpoint, choice: Choice) -> usize {
     let mut compared = 0;
     for direction in [Direction::In, Direction::Out] {
-        let expected = lines(file, station, choice, direction);
-        let (recording, recorded) = recording(file, station, choice, direction).unwrap();
+        let expected = lines(file, endpoint, choice, direction);
+        let (recording, recorded) = recording(file, endpoint, choice, direction).unwrap();
         assert_eq!(recorded.segments, expected.lines().count() as u64);
         if let Some(program) = desk() {
             assert_eq!(printed(&program, &recording, 1 << 16), expected);
@@ -66,7 +66,7 @@ fn the_program_says_the_same() {
             set_checksums,
             ..Choice::default()
         };
-        compared += compare(&plain(&line.packets), &line.station(), choice);
+        compared += compare(&plain(&line.packets), &line.endpoint(), choice);
     }
     match compared {
         0 => println!("target/bin/desk is not there: nothing was compared with it"),

@@ -14,12 +14,12 @@ const OUT: Direction = Direction::Out;
 
 fn refused(
     file: &[u8],
-    station: &operator::tables::Station,
+    endpoint: &operator::tables::Endpoint,
     choice: Choice,
     status: u8,
     words: &str,
 ) {
-    match recording(file, station, choice, IN) {
+    match recording(file, endpoint, choice, IN) {
         Ok(_) => panic!("recorded"),
         Err(Stop {
             status: given,
@@ -43,16 +43,16 @@ fn one_of_several() {
     let mut second = Line::open([7_000, 8_000]);
     second.sends(1, 1, b"a");
     let file = plain(&[first.packets.clone(), second.packets].concat());
-    let station = first.station();
+    let endpoint = first.endpoint();
     refused(
         &file,
-        &station,
+        &endpoint,
         Choice::default(),
         2,
         "choose one with --connection",
     );
     for (number, direction, segments) in [(1, IN, 2), (1, OUT, 1), (2, IN, 1), (2, OUT, 0)] {
-        let (bytes, recorded) = recording(&file, &station, connection(number), direction).unwrap();
+        let (bytes, recorded) = recording(&file, &endpoint, connection(number), direction).unwrap();
         assert_eq!((recorded.segments, recorded.left_out), (segments, 0));
         assert_eq!(bytes.len() as u64, 131 + 48 + segments * 1_601);
     }
@@ -62,29 +62,29 @@ fn one_of_several() {
 fn none_that_can_be() {
     let mut line = Line::open(ISNS);
     line.sends(1, 1, b"a");
-    let (whole, station) = (plain(&line.packets), line.station());
+    let (whole, endpoint) = (plain(&line.packets), line.endpoint());
     let cut = plain(&line.packets[1..]);
     refused(
         &cut,
-        &station,
+        &endpoint,
         Choice::default(),
         1,
         "has both its SYN and an entry",
     );
     refused(
         &cut,
-        &station,
+        &endpoint,
         connection(1),
         1,
         "connection 1 has no opening in the capture",
     );
-    refused(&cut, &station, connection(2), 2, "there is no connection 2");
-    let other = common::station(&tables(b"another key")[0]);
+    refused(&cut, &endpoint, connection(2), 2, "there is no connection 2");
+    let other = common::endpoint(&tables(b"another key")[0]);
     let words = "connection 1 was not opened at 10.0.0.1:40000: packet 2 was dropped with 29";
     refused(&whole, &other, Choice::default(), 1, words);
     let nobody = Entry::ipv4().remote([192, 0, 2, 1], 32).key(b"key").build();
     let nobody = KeyTable::new([&nobody.unwrap()]).unwrap();
-    let nobody = common::station(&nobody);
+    let nobody = common::endpoint(&nobody);
     refused(
         &whole,
         &nobody,
@@ -117,8 +117,8 @@ fn only_entries_that_match() {
     line.sends(1, 1, b"a");
     let file = plain(&line.packets);
     for direction in [IN, OUT] {
-        let (few, _) = recording(&file, &line.station(), Choice::default(), direction).unwrap();
-        let (of_all, _) = recording(&file, &station(&all), Choice::default(), direction).unwrap();
+        let (few, _) = recording(&file, &line.endpoint(), Choice::default(), direction).unwrap();
+        let (of_all, _) = recording(&file, &endpoint(&all), Choice::default(), direction).unwrap();
         assert_eq!(few, of_all);
     }
 }
@@ -133,9 +133,9 @@ fn left_out() {
         .sends(1, 4_000, &[7; 100]);
     line.packets[4].truncate(80);
     let file = captured(&line.packets, Form::ALL[0], Wrap::Raw);
-    let (_, recorded) = recording(&file, &line.station(), Choice::default(), IN).unwrap();
+    let (_, recorded) = recording(&file, &line.endpoint(), Choice::default(), IN).unwrap();
     assert_eq!((recorded.segments, recorded.left_out), (1, 2));
-    let (lines, _) = at_desk(&file, &line.station(), Choice::default()).unwrap();
+    let (lines, _) = at_desk(&file, &line.endpoint(), Choice::default()).unwrap();
     let seen: Vec<_> = lines
         .iter()
         .map(|line| (line.number(), line.index))

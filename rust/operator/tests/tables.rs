@@ -4,17 +4,17 @@ mod common;
 
 use formats::text::{Keys, Kind};
 use kit::{Entry, Side};
-use operator::tables::{checked, File, Station};
+use operator::tables::{checked, File, Endpoint};
 use operator::Stop;
 
 /// The tables of these two files, each text or bytes.
-fn both(keys: &[u8], md5: &[u8]) -> Result<Station, Stop> {
+fn both(keys: &[u8], md5: &[u8]) -> Result<Endpoint, Stop> {
     let keys = File::of("keys.txt", keys.to_vec(), Kind::Keys)?;
     let md5 = File::of("md5.txt", md5.to_vec(), Kind::Md5)?;
     checked(&keys, &md5)
 }
 
-fn of(keys: &[u8]) -> Result<Station, Stop> {
+fn of(keys: &[u8]) -> Result<Endpoint, Stop> {
     both(keys, b"")
 }
 
@@ -77,11 +77,11 @@ fn round_trips() {
         .into_iter()
         .flat_map(|host| md5_entry(host).bytes())
         .collect();
-    let station = both(&keys, &md5).unwrap();
-    assert_eq!((station.keys().len(), station.md5().len()), (48, 2));
+    let endpoint = both(&keys, &md5).unwrap();
+    assert_eq!((endpoint.keys().len(), endpoint.md5().len()), (48, 2));
     for (keys, md5) in [(&keys[..], &b""[..]), (b"", &md5)] {
-        let station = both(keys, md5).unwrap();
-        let text = station.text(Keys::Shown);
+        let endpoint = both(keys, md5).unwrap();
+        let text = endpoint.text(Keys::Shown);
         let again = match md5.is_empty() {
             true => both(text.as_bytes(), b"").unwrap(),
             false => both(b"", text.as_bytes()).unwrap(),
@@ -102,8 +102,8 @@ fn round_trips() {
 #[test]
 fn mirrors() {
     let keys: Vec<u8> = every_kind().iter().flat_map(Entry::bytes).collect();
-    let station = of(&keys).unwrap();
-    let mirrored = station.mirrored().unwrap();
+    let endpoint = of(&keys).unwrap();
+    let mirrored = endpoint.mirrored().unwrap();
     assert_ne!(mirrored.keys().as_bytes(), keys);
     assert_eq!(mirrored.mirrored().unwrap().keys().as_bytes(), keys);
 }

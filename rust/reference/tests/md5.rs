@@ -164,9 +164,9 @@ fn any_order() {
     }
 }
 
-/// One station, two peers: one goes by TCP-AO and one by MD5, by the tables that match.
+/// One server, two peers: one goes by TCP-AO and one by MD5, by the tables that match.
 #[test]
-fn both_ways_at_one_station() {
+fn both_ways_at_one_server() {
     let other = [10, 0, 0, 9];
     let keys = Entry::between(&A4, &B4).ids(1, 2);
     let md5_entry = Entry::md5(&A4, &other);
@@ -176,12 +176,12 @@ fn both_ways_at_one_station() {
         local_port: A_PORT,
         remote_port: B_PORT,
     };
-    let station = |remote: &[u8]| {
+    let server = |remote: &[u8]| {
         let mut end = End::new(REFERENCE, pair(remote), keys.bytes());
         end.md5 = md5_entry.bytes();
         end
     };
-    let (mut by_ao, mut by_md5) = (station(&B4), station(&other));
+    let (mut by_ao, mut by_md5) = (server(&B4), server(&other));
     assert_eq!(by_ao.open_active_md5(1), 35);
     assert_eq!(by_md5.open_active(1, 1), 35);
     assert_eq!(by_ao.open_active(A_ISN, 1), 0);
@@ -198,7 +198,7 @@ fn both_ways_at_one_station() {
     };
     assert_eq!(by_ao.judge_syn(&syn(&by_ao), 0), 25);
     assert_eq!(by_md5.judge_syn(&syn(&by_md5), 0), 47);
-    let stranger = station(&[10, 0, 0, 77]);
+    let stranger = server(&[10, 0, 0, 77]);
     assert_eq!(stranger.judge_syn(&syn(&stranger), 0), 1);
 
     // The md5_entry gets a key of TCP-AO as well: refused until it has one way.

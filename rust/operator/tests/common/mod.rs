@@ -9,7 +9,7 @@ use kit::capture::{packet, Form, Wrap};
 use kit::segment::{ACK, SYN};
 use kit::Segment;
 use operator::desk::{Choice, Counts, Desk, Fate, Report};
-use operator::tables::{checked, File, Station};
+use operator::tables::{checked, File, Endpoint};
 use operator::{record, Direction, Recorded, Stop, Views};
 use std::path::PathBuf;
 
@@ -41,7 +41,7 @@ pub fn is_md5(name: &str) -> bool {
 }
 
 /// The client's tables of a capture.
-pub fn client(name: &str) -> Station {
+pub fn client(name: &str) -> Endpoint {
     let kind = if is_md5(name) { Kind::Md5 } else { Kind::Keys };
     let file = File::read(&path(&format!("{name}.txt")), kind).unwrap();
     match kind {
@@ -77,11 +77,11 @@ impl Judged {
 /// The desk over a capture's bytes.
 pub fn at_desk(
     file: &[u8],
-    station: &Station,
+    endpoint: &Endpoint,
     choice: Choice,
 ) -> Result<(Vec<Judged>, Report), Stop> {
-    let mirrored = station.mirrored()?;
-    let views = Views::new(station, &mirrored)?;
+    let mirrored = endpoint.mirrored()?;
+    let views = Views::new(endpoint, &mirrored)?;
     let mut lines = Vec::new();
     let desk = Desk::new(Ok(file), views, choice)?;
     let report = desk.judge(Ok(file), &mut |line| {
@@ -100,23 +100,23 @@ pub fn at_desk(
 }
 
 /// The numbers that the segments of a capture got.
-pub fn numbers(file: &[u8], station: &Station) -> Vec<Option<u8>> {
-    let (lines, _) = at_desk(file, station, Choice::default()).unwrap();
+pub fn numbers(file: &[u8], endpoint: &Endpoint) -> Vec<Option<u8>> {
+    let (lines, _) = at_desk(file, endpoint, Choice::default()).unwrap();
     lines.iter().map(Judged::number).collect()
 }
 
 /// One direction of a capture as a recording.
 pub fn recording(
     file: &[u8],
-    station: &Station,
+    endpoint: &Endpoint,
     choice: Choice,
     direction: Direction,
 ) -> Result<(Vec<u8>, Recorded), Stop> {
-    let mirrored = station.mirrored()?;
-    let views = Views::new(station, &mirrored)?;
+    let mirrored = endpoint.mirrored()?;
+    let views = Views::new(endpoint, &mirrored)?;
     let desk = Desk::new(Ok(file), views, choice)?;
     let mut out = Vec::new();
-    let recorded = record(desk, Ok(file), [station, &mirrored], direction, &mut out)?;
+    let recorded = record(desk, Ok(file), [endpoint, &mirrored], direction, &mut out)?;
     Ok((out, recorded))
 }
 
@@ -151,7 +151,7 @@ pub const CLIENT: ([u8; 4], u16) = ([10, 0, 0, 1], 40_000);
 pub const SERVER: ([u8; 4], u16) = ([10, 0, 0, 2], 179);
 pub const ISNS: [u32; 2] = [1_000, 2_000];
 
-/// Two ends of our own: their states, the client's station, and the packets that they have sent.
+/// Two ends of our own: their states, the client's endpoint, and the packets that they have sent.
 pub struct Line {
     pub tables: [KeyTable; 2],
     pub ends: [Connection; 2],
@@ -171,8 +171,8 @@ pub fn tables(key: &[u8]) -> [KeyTable; 2] {
     ]
 }
 
-/// A station with this key table.
-pub fn station(keys: &KeyTable) -> Station {
+/// An endpoint with this key table.
+pub fn endpoint(keys: &KeyTable) -> Endpoint {
     let file = File::of("a table", keys.as_bytes().to_vec(), Kind::Keys).unwrap();
     checked(&file, &File::empty(Kind::Md5)).unwrap()
 }
@@ -246,8 +246,8 @@ impl Line {
         Ok(sent(end, &signed))
     }
 
-    /// The client's station.
-    pub fn station(&self) -> Station {
-        station(&self.tables[0])
+    /// The client's endpoint.
+    pub fn endpoint(&self) -> Endpoint {
+        endpoint(&self.tables[0])
     }
 }
