@@ -5,7 +5,7 @@ use crate::desk::{find, Choice, Desk, Fate};
 use crate::openings::{Direction, Views};
 use crate::record::record;
 use crate::stop::{Stop, DONE, REFUSED, USAGE};
-use crate::tables::{checked, counted, File, Endpoint};
+use crate::tables::{checked, counted, Endpoint, File};
 use crate::{demo, explain, help, show};
 use embankery::Verdict;
 use formats::capture::Walked;
@@ -202,7 +202,10 @@ fn not_a_terminal() -> Result<(), Stop> {
 fn check(arguments: &Arguments, writers: &mut Writers) -> Result<u8, Stop> {
     let endpoint = named(arguments)?;
     let entries = |count| counted(count, "entry", "entries");
-    let (keys, md5) = (entries(endpoint.keys().len()), entries(endpoint.md5().len()));
+    let (keys, md5) = (
+        entries(endpoint.keys().len()),
+        entries(endpoint.md5().len()),
+    );
     writeln!(
         writers.out,
         "nothing is wrong: {keys} in the key table, {md5} in the MD5 table"

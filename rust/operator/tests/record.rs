@@ -78,7 +78,13 @@ fn none_that_can_be() {
         1,
         "connection 1 has no opening in the capture",
     );
-    refused(&cut, &endpoint, connection(2), 2, "there is no connection 2");
+    refused(
+        &cut,
+        &endpoint,
+        connection(2),
+        2,
+        "there is no connection 2",
+    );
     let other = common::endpoint(&tables(b"another key")[0]);
     let words = "connection 1 was not opened at 10.0.0.1:40000: packet 2 was dropped with 29";
     refused(&whole, &other, Choice::default(), 1, words);

@@ -4,7 +4,7 @@ mod common;
 
 use formats::text::{Keys, Kind};
 use kit::{Entry, Side};
-use operator::tables::{checked, File, Endpoint};
+use operator::tables::{checked, Endpoint, File};
 use operator::Stop;
 
 /// The tables of these two files, each text or bytes.

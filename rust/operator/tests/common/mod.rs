@@ -9,7 +9,7 @@ use kit::capture::{packet, Form, Wrap};
 use kit::segment::{ACK, SYN};
 use kit::Segment;
 use operator::desk::{Choice, Counts, Desk, Fate, Report};
-use operator::tables::{checked, File, Endpoint};
+use operator::tables::{checked, Endpoint, File};
 use operator::{record, Direction, Recorded, Stop, Views};
 use std::path::PathBuf;
 
