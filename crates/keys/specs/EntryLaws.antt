@@ -140,9 +140,12 @@ side-fields w ports at e k h =
     let a = take w (drop at e) in
     let x = h ports in
     let y = h (ports + 1) in
+    let u = h (ports + 2) in
+    let v = h (ports + 2 + 1) in
     let l = length-take w (drop at e) in
     record {
       low = omega arith;
+      high = omega arith;
       sixteen = simp (length-append, length-replicate) (omega arith);
       octets = append-octets a (replicate (16 - length a) 0) (take-octets w (drop at e) (drop-octets at e h)) (zeros-octets (16 - length a));
     }

@@ -23,6 +23,7 @@ use crate::opening::open_state;
 use rules::Judged;
 use rules::Outcome;
 use rules::State;
+use tables::BYTES;
 
 // How many bytes a buffer for the table must have: what 64 entries can have, and one more, by which a 65th is seen to begin. What a
 // longer buffer would hold besides changes no line.
@@ -69,7 +70,15 @@ fn judge_on(table: &[u8], segment: &[u8], state: State) -> Judged
     let remote = pair.remote;
     let w = keys::entry::width_of(pair.family);
     let no_md5 = [0u8; 0];
-    tcpao::judge::judge(table, &no_md5, &remote[..w], &local[..w], segment, state)
+    tcpao::judge::judge(
+        BYTES,
+        table,
+        &no_md5,
+        &remote[..w],
+        &local[..w],
+        segment,
+        state,
+    )
 }
 
 impl Desk {

@@ -1,6 +1,6 @@
 -- What a search of valid tables finds, as statements: at most one entry answers a pair and an ID, and where one does, the search gives it;
 -- at most one MD5 entry matches a pair, and none where a key entry does. SearchLaws proves them.
-use Prim.Native.Nat.{ℕ}
+use Prim.Native.Nat.{ℕ, _<_}
 use mathlib.Core.Bool.{true, false}
 use mathlib.Core.Path.{_≡_}
 use Rattle.keys.specs.Match.{matches}
@@ -36,6 +36,22 @@ RecvFound = (t : Tables) (p : Pair) (id i : ℕ) (e : Entry) → ValidTables t �
 
 abbrev pub Md5Found : Type 0
 Md5Found = (t : Tables) (p : Pair) (i : ℕ) (e : Entry) → ValidTables t → At (t .md5s) i e → matches (e .selector) p ≡ true
+    → md5Entry t p ≡ hit i e
+
+-- document 02, Ticket 8: "a search by pair and ID takes the first such entry", of any tables, whether entries clash or not
+abbrev pub SendFirst : Type 0
+SendFirst = (t : Tables) (p : Pair) (id i : ℕ) (e : Entry) → At (t .keys) i e → matches (e .selector) p ≡ true → e .ids .send ≡ id
+    → ((j : ℕ) (f : Entry) → At (t .keys) j f → j < i → matches (f .selector) p ≡ true → f .ids .send ≡ id → ⊥)
+    → sendEntry t p id ≡ hit i e
+
+abbrev pub RecvFirst : Type 0
+RecvFirst = (t : Tables) (p : Pair) (id i : ℕ) (e : Entry) → At (t .keys) i e → matches (e .selector) p ≡ true → e .ids .recv ≡ id
+    → ((j : ℕ) (f : Entry) → At (t .keys) j f → j < i → matches (f .selector) p ≡ true → f .ids .recv ≡ id → ⊥)
+    → recvEntry t p id ≡ hit i e
+
+abbrev pub Md5First : Type 0
+Md5First = (t : Tables) (p : Pair) (i : ℕ) (e : Entry) → At (t .md5s) i e → matches (e .selector) p ≡ true
+    → ((j : ℕ) (f : Entry) → At (t .md5s) j f → j < i → matches (f .selector) p ≡ true → ⊥)
     → md5Entry t p ≡ hit i e
 
 -- a pair that a key entry matches, no MD5 entry does

@@ -1,14 +1,14 @@
 -- What a search of valid tables finds, and what it says that one finds something or nothing.
-use Prim.Native.Nat.{ℕ, _+_}
+use Prim.Native.Nat.{ℕ, _+_, _<_}
 use mathlib.Core.Bool.{Bool, true, false}
-use mathlib.Core.Path.{_≡_, refl, sym, _∙_, subst}
+use mathlib.Core.Path.{_≡_, refl, sym, ap, _∙_, subst}
 use mathlib.Core.List.{List}
 use mathlib.Core.Logic.{_⊎_, inl, inr}
 use native.Mathlib.Omega.{arith}
 use lib.Dec.{ltb}
 use borrow.Author.Tests.{eq-eqb, eqb-true, ltb-true, ltb-false}
 use Rattle.keys.specs.FormedLaws.{KeyProper, Md5Proper}
-use Rattle.keys.specs.FoundLaws.{found-only, found-there, found-none, found-nobody, any-there, answers-parts, answers-of}
+use Rattle.keys.specs.FoundLaws.{found-first, found-only, found-there, found-none, found-nobody, any-there, answers-parts, answers-of}
 use Rattle.keys.specs.FoundLaws.{any-of as any-passing}
 use Rattle.keys.specs.Match.{matches, clash}
 use Rattle.keys.specs.MatchLaws.{clash-of, overlap-found}
@@ -22,8 +22,8 @@ use Rattle.keys.specs.declared.table.By.the-variants.{Any, Send, Recv}
 use Rattle.keys.specs.declared.table.Found.{Found}
 use Rattle.tables.specs.Tables.{Tables, sendEntry, recvEntry, anyEntry, md5Entry}
 pub use Rattle.tables.specs.Search.{hit, Named}
-use Rattle.tables.specs.Search.{AnswerUnique, SendFound, RecvFound, Md5Found, Uncrossed}
-use Rattle.tables.specs.Valid.{NoClash, Digest16, ValidTables}
+use Rattle.tables.specs.Search.{AnswerUnique, SendFound, RecvFound, Md5Found, SendFirst, RecvFirst, Md5First, Uncrossed}
+use Rattle.tables.specs.Valid.{NoClash, Digest16, Held, ValidTables}
 use Rattle.tables.specs.ValidLaws.{valid-key, valid-md5, valid-digest}
 
 -- at most one entry answers
@@ -50,12 +50,12 @@ both-clash by p e f n h k =
 
 pub answer-unique : AnswerUnique
 answer-unique t by p i j e f v n a b h k =
-    one-place (t .keys) (v .apart) i j e f a b (both-clash by p e f n h k) (both-clash by p f e n k h)
+    one-place (t .keys) (v .apart .keys) i j e f a b (both-clash by p e f n h k) (both-clash by p f e n k h)
 
 -- both IDs of MD5 entries are 0
 md5-clash : {t : Tables} {i j : ℕ} {e f : Entry} (v : ValidTables t) (p : Pair) → At (t .md5s) i e → At (t .md5s) j f
     → matches (e .selector) p ≡ true → matches (f .selector) p ≡ true → clash e f ≡ true
-md5-clash {e = e} {f = f} v p a b h k = clash-of e f p h k (inl (valid-md5 v a .send ∙ sym (valid-md5 v b .send)))
+md5-clash {e = e} {f = f} v p a b h k = clash-of e f p h k (inl (valid-md5 (v .held) a .send ∙ sym (valid-md5 (v .held) b .send)))
 
 -- so a search finds the entry that answers
 
@@ -74,7 +74,33 @@ md5-found t p i e v a m =
     found-only (answers Any p) a (answers-of Any p e refl m)
     (λ j f b k.
     let n = answers-parts Any p f k .1 in
-    one-place (t .md5s) (v .md5-apart) j i f e b a (md5-clash v p b a n m) (md5-clash v p a b m n))
+    one-place (t .md5s) (v .apart .md5s) j i f e b a (md5-clash v p b a n m) (md5-clash v p a b m n))
+
+-- the first that answers, in any tables
+
+first-of : (l : List Entry) (by : By) (p : Pair) {i : ℕ} {e : Entry} → At l i e → answers by p e ≡ true
+    → ((j : ℕ) (f : Entry) → At l j f → j < i → answers by p f ≡ true → ⊥) → found (answers by p) 0 l ≡ hit i e
+first-of l by p {i} {e} a h n =
+    found-first (answers by p) 0 a h (λ j f b k. none f (n j f b k) (answers by p f) refl)
+    ∙ ap (λ (m : ℕ). hit m e) (let z : 0 + i ≡ i = omega arith in z)
+  where
+    none : (f : Entry) → (answers by p f ≡ true → ⊥) → (b : Bool) → answers by p f ≡ b → answers by p f ≡ false
+    none f n true q = absurd (n q)
+    none f n false q = q
+
+pub send-first : SendFirst
+send-first t p id i e a m s n =
+    first-of (t .keys) (Send id) p a (answers-of (Send id) p e (eq-eqb (e .ids .send) id s) m)
+    (λ j f b k h. let r = answers-parts (Send id) p f h in n j f b k (r .1) (eqb-true (f .ids .send) id (r .0)))
+
+pub recv-first : RecvFirst
+recv-first t p id i e a m s n =
+    first-of (t .keys) (Recv id) p a (answers-of (Recv id) p e (eq-eqb (e .ids .recv) id s) m)
+    (λ j f b k h. let r = answers-parts (Recv id) p f h in n j f b k (r .1) (eqb-true (f .ids .recv) id (r .0)))
+
+pub md5-first : Md5First
+md5-first t p i e a m n =
+    first-of (t .md5s) Any p a (answers-of Any p e refl m) (λ j f b k h. n j f b k (answers-parts Any p f h .1))
 
 -- what a search finds, in any tables
 
@@ -148,12 +174,12 @@ uncrossed t p i e v a m = go (md5Entry t p .there) refl
         let h = md5-holder t p q in
         let f = md5Entry t p .entry in
         let o = overlap-found (e .selector) (f .selector) p m (h .matched) in
-        let z : _≡_ {A = ℕ} 0 1 = cc (v .uncrossed i (md5Entry t p .index) e f a (h .place), o) in
+        let z : _≡_ {A = ℕ} 0 1 = cc (v .apart .uncrossed i (md5Entry t p .index) e f a (h .place), o) in
         absurd (omega arith)
 
--- what is found in valid tables
+-- what is found among entries that valid bytes could hold
 
-module _ {t : Tables} (v : ValidTables t) (p : Pair) where
+module _ {t : Tables} (v : Held t) (p : Pair) where
   pub send-proper : (id : ℕ) → sendEntry t p id .there ≡ true → KeyProper (sendEntry t p id .entry)
   send-proper id h = valid-key v (send-holder t p id h .0 .place)
 

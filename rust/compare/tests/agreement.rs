@@ -20,6 +20,10 @@ fn main() {
         missed.iter().for_each(|missed| println!("{missed}"));
     }
     println!(
+        "{} calls with prepared tables gave what their bytes gave",
+        run.twins
+    );
+    println!(
         "{NAME} and reference: {} calls from seed {SEED} in {:.1} s, {}, {}",
         run.calls,
         begin.elapsed().as_secs_f64(),

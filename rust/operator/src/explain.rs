@@ -185,7 +185,7 @@ const ROWS: &[(u8, &str, &str)] = &[
     (
         37,
         "The output buffer is too short.",
-        "Lend 40 bytes more than the segment has.",
+        "Signing: lend 40 bytes more than the segment has. Preparing: 4, and 129 more for each entry of both tables.",
     ),
     (
         38,

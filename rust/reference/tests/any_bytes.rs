@@ -53,9 +53,16 @@ fn disturbed(random: &mut Random, case: &Case) -> Case {
     let call = &mut case.call;
     disturb(random, &mut call.table);
     disturb(random, &mut call.md5);
+    if random.below(50) == 0 {
+        call.form = random.below(4) as u8;
+    }
     disturb(random, &mut call.state);
     match call.function {
         Function::CheckTable => {}
+        Function::Prepare => {
+            let room = (call.out.len() + random.below(300)).saturating_sub(150);
+            call.out.resize(room, 0xee);
+        }
         Function::OpenActive | Function::OpenActiveMd5 => {
             disturb(random, &mut call.source);
             disturb(random, &mut call.destination);
@@ -96,6 +103,7 @@ fn every_call_returns() {
         let number = number(outcome.word);
         let allowed: Vec<u8> = match case.call.function {
             Function::CheckTable => vec![0],
+            Function::Prepare => vec![0, 37],
             Function::OpenActive | Function::OpenActiveMd5 => vec![0, 18, 19, 35],
             Function::JudgeSyn => vec![0, 1, 19, 20, 21, 22, 24, 25, 26, 27, 29, 40, 46, 47],
             Function::OpenPassive => {
@@ -106,7 +114,8 @@ fn every_call_returns() {
             Function::Ask => vec![0, 18, 35],
         };
         let of_table = (10..=17).contains(&number) || number == 45;
-        assert!(of_table || allowed.contains(&number));
+        let of_prepared = number == 44 && case.call.form != 0 && case.call.function.takes_form();
+        assert!(of_table || of_prepared || allowed.contains(&number));
         // Whose entry it is.
         let which = outcome.word as u32 >> 8;
         assert!(which == 0 || which == 1 && of_table);

@@ -1,0 +1,54 @@
+-- What a prepared table is, as statements: document 02, Ticket 8. ReadLaws, HoldLaws and ImageLaws prove them.
+use Prim.Native.Nat.{ℕ, _≤_, _<_}
+use mathlib.Core.Bool.{true}
+use mathlib.Core.Path.{_≡_}
+use mathlib.Core.List.{List, [], _∷_}
+use lib.ListN.{length}
+use Rattle.octets.specs.Each.{Each, Octets}
+use Rattle.keys.specs.Clash.{Formed}
+use Rattle.keys.specs.Entry.{entries}
+use Rattle.keys.specs.Places.{At}
+use Rattle.keys.specs.Table.{loaded}
+use Rattle.keys.specs.declared.entry.Entry.{Entry}
+use Rattle.keys.specs.declared.table.TableKind.{TableKind}
+use Rattle.keys.specs.declared.table.TableKind.the-variants.{Keys, Md5}
+use Rattle.keys.specs.declared.table.Loaded.the-variants.{Valid}
+use Rattle.prepared.specs.Prepared.{maxEntries, keyCount, md5Count, fits, keyPart, md5Part, image}
+
+-- RFC 2385, section 2.0: "the 16-byte MD5 digest"
+abbrev pub Digest16 : Entry → Type 0
+Digest16 e = e .secret .«mac_bytes» ≡ 16
+
+-- no "entry that valid bytes could not hold" is there, whatever bytes these are: none that 13 to 16 refuse
+abbrev pub KeysFormed : Type 0
+KeysFormed = (b : List ℕ) → Each (Formed Keys) (keyPart b)
+
+abbrev pub Md5sFormed : Type 0
+Md5sFormed = (b : List ℕ) → Each (Formed Md5) (md5Part b) × Each Digest16 (md5Part b)
+
+-- there are valid bytes of a table of the kind that mean this entry and no other
+abbrev pub HeldBy : TableKind → Entry → Type 0
+HeldBy kind e = (t : List ℕ) × (loaded kind maxEntries t ≡ Valid 1) × (entries t ≡ e ∷ []) × Octets t
+
+-- literally: each entry that is there could be held by valid bytes
+abbrev pub KeysHeld : Type 0
+KeysHeld = (b : List ℕ) (i : ℕ) (e : Entry) → Octets b → At (keyPart b) i e → HeldBy Keys e
+
+abbrev pub Md5sHeld : Type 0
+Md5sHeld = (b : List ℕ) (i : ℕ) (e : Entry) → Octets b → At (md5Part b) i e → HeldBy Md5 e
+
+-- and there are as many as the counts say, where it is not refused
+abbrev pub Counted : Type 0
+Counted = (b : List ℕ) → fits b ≡ true
+    → (length (keyPart b) ≡ keyCount b) × (length (md5Part b) ≡ md5Count b) × (keyCount b ≤ maxEntries) × (md5Count b ≤ maxEntries)
+
+-- what is written from valid bytes is not refused, and has the entries that the bytes mean
+pub record ReadBack (k m : List ℕ) : Type 0 where
+  pub fitting : fits (image (entries k) (entries m)) ≡ true
+  pub count : keyCount (image (entries k) (entries m)) ≡ length (entries k)
+  pub keys : keyPart (image (entries k) (entries m)) ≡ entries k
+  pub md5s : md5Part (image (entries k) (entries m)) ≡ entries m
+
+abbrev pub PreparedRead : Type 0
+PreparedRead = (k m : List ℕ) (i j : ℕ) → Octets k → Octets m → loaded Keys maxEntries k ≡ Valid i → loaded Md5 maxEntries m ≡ Valid j
+    → ReadBack k m
