@@ -9,9 +9,10 @@
  *   - a buffer lent for writing (a pointer without const) overlaps no other buffer of the call, so
  *     nothing is signed in place;
  *   - no other thread writes to a buffer of the call while it runs, or touches one lent for writing.
- * A call keeps no pointer, allocates nothing and has no state of its own, so calls on different
- * buffers may run at the same time. Nothing is claimed of how long a call takes: no call hides, by
- * its timing, what it is given.
+ * A call keeps no pointer, allocates nothing and has no state of its own, so calls may run at the same
+ * time where no buffer that one of them writes is a buffer of another; tables, prepared or not, are only
+ * read and may be shared. Nothing is claimed of how long a call takes: no call hides, by its timing, what
+ * it is given.
  *
  * A segment is the TCP header with its options and data, as on the wire, without an IP header. An
  * address is 4 bytes (IPv4) or 16 (IPv6), as on the wire. Ports and ISNs that are passed as numbers
@@ -157,8 +158,9 @@ extern "C" {
  * Every call on a connection takes both tables, in the form that form says:
  *
  *   form 0           keys and md5 are the tables' own bytes, of which either may be empty. Every call
- *                    checks both anew, as tcpao_check_table does: each entry is compared with all before
- *                    it, so that with many entries a call spends nearly all its time on that
+ *                    checks both anew, as tcpao_check_table does: an entry that shares an ID with one
+ *                    before it is compared with those before it, and every MD5 entry with every key
+ *                    entry, so that with many entries a call may spend nearly all its time on that
  *   any other value  keys is a prepared table, which tcpao_prepare wrote once and which has both; md5 is
  *                    empty (else 44)
  *
@@ -167,7 +169,11 @@ extern "C" {
  * call is refused with 44, in the place of 10 to 17 and 45. Nothing else is tested: every stored entry
  * reads as one that a table could hold, 17 and 45 are not tested again, and of several entries that fit
  * the first is taken. So keep a prepared table as safe as the tables, and prepare it anew where these
- * change. Its bytes are documented in docs/BOUNDARY.md, "The prepared form".
+ * change: until then a call goes by the old one. keys_len is the length that tcpao_prepare gave, not the
+ * room of the buffer (else 44). A new one is written to another buffer while calls with the old one run.
+ * States go on with it: they hold IDs, no entries. Its bytes are documented in docs/BOUNDARY.md, "The
+ * prepared form"; a later version of the library may have another form, and no byte says which it is, so
+ * what was stored is prepared anew with a new library.
  */
 #define EMBANKERY_BYTES 0
 #define EMBANKERY_PREPARED 1
@@ -237,7 +243,8 @@ uint64_t tcpao_check_table(uint8_t form, const uint8_t *keys, size_t keys_len,
 
 /* Prepares both tables, given as bytes: writes to out their prepared form, of
  * EMBANKERY_PREPARED_BYTES(n) bytes where both together have n entries. Room for
- * EMBANKERY_PREPARED_BYTES(2 * EMBANKERY_ENTRIES) is always enough.
+ * EMBANKERY_PREPARED_BYTES(2 * EMBANKERY_ENTRIES), 264,196 bytes, is always enough; so is room for
+ * keys_len / EMBANKERY_IPV4_ENTRY_BYTES + md5_len / EMBANKERY_IPV4_ENTRY_BYTES entries.
  *
  * Gives 0 with the length written, or 10 to 17, 45, 37. Where it gives 0 it writes so many bytes at the
  * front of out, and what stands behind them stays; else out stays.

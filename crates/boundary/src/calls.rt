@@ -1,5 +1,6 @@
 // The calls on both tables and on a connection: docs/BOUNDARY.md, "Tables", "The calls on one connection" and "The state". Each
-// turns the lent bytes into a state, makes the call of the crate `tcpao`, and turns the state back. Assumes nothing.
+// turns the lent bytes into a state, makes the call of the crate `tcpao`, and turns the state back; preparing, which has no state, calls
+// `tables`. Assumes nothing.
 ghost use mathlib.Core.Path.{_≡_};
 ghost use Rattle.tables.specs.Tables.{tablesOf};
 ghost use Rattle.boundary.specs.Exports.{settles as settlesOf, opens as opensOf, answers, leaves, writes};

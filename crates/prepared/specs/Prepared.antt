@@ -3,8 +3,8 @@
 -- first: SendIDs, RecvIDs, remote prefix lengths, marks; then a slot of 24 bytes of each, then a back of 101 bytes of each. So a search
 -- goes over columns. Nothing is stored twice: the mark, a sum of the remote address's bytes, stands in the place of its last byte.
 -- "A prepared table with a count or an entry that valid bytes could not hold is refused with 44": every stored byte string reads as an
--- entry that valid bytes could hold, since what a table refuses with 13 to 16 is brought to a value that it does not refuse. So 44 is left
--- for the counts and the length.
+-- entry that valid bytes could hold, since what a table refuses with 11 or 13 to 16 is brought to a value that it does not refuse. So 44
+-- is left for the counts and the length.
 use Prim.Native.Nat.{ℕ, zero, suc, _+_, _*_, _-_, _/_, _%_, _^_, max, min}
 use mathlib.Core.Bool.{Bool, cond, _&&_}
 use mathlib.Core.List.{List, [], _∷_, _++_}
@@ -110,7 +110,7 @@ unfoldable pub clean : TableKind → Entry → Entry
 clean kind e =
     record { selector = cleanSelector (e .selector); ids = cleanIds kind (e .ids); secret = cleanSecret kind (e .secret) }
 
--- One entry from its front f and its back r.
+-- One entry from its front f and its back r. A front is not stored so: `frontAt` puts it together from the columns and the slot.
 
 -- front: SendID, RecvID, remote prefix length, family; remote address (16); remote port low and high, local port low and high (two bytes
 -- each, big-endian)

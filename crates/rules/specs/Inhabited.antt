@@ -1,7 +1,7 @@
 -- The demands are not empty: one connection across a rollover, with three true arrivals, under entries of two kinds and through address
 -- translation, and one of the other sort, of which demand 3 holds; a bare SYN that demand 2 accepts, by TCP-AO and by MD5; by MD5 also the
--- SYN+ACK that answers it, and a segment once open; and a bare SYN whose KeyID is unknown. As statements, with the MAC and the digest
--- shut: they are whatever they are. InhabitedLaws proves them.
+-- SYN+ACK that answers it, and a segment once open; tables that are prepared; and a bare SYN whose KeyID is unknown. As statements, with
+-- the MAC and the digest shut: they are whatever they are. InhabitedLaws proves them.
 use Prim.Native.Nat.{ℕ}
 use mathlib.Core.Path.{_≡_}
 use mathlib.Core.Bool.{true, false}

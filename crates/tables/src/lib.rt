@@ -25,7 +25,8 @@ pub struct Index {
     pub entry: usize,
 }
 
-// What the tables answer: both are taken, and the key table has so many entries; or they are refused with a number at an entry.
+// What the tables answer: both are taken, and the key table has so many entries (of `prepare`: so many bytes were written); or they are
+// refused with a number at an entry.
 pub enum Admitted {
     Valid(usize),
     Refused(u8, Index),

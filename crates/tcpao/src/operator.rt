@@ -11,7 +11,7 @@ use rules::State;
 use states::writers::with_asked;
 use tables::Admitted;
 
-// 10 to 17 and 45 with the entry's table and index, or how many key entries there are.
+// 10 to 17 and 45 with the entry's table and index, or 44, or how many key entries there are.
 pub fn check_table(form: u8, keys: &[u8], md5: &[u8]) -> Admitted
     ensures answer { λ r. ⌜ r ≡ tablesOf form (now (keys .entry)) (now (md5 .entry)) .answer ⌝ }
     ensures number { λ r. ⌜ tableAnswer r ≡ tableNumber (tablesOf form (now (keys .entry)) (now (md5 .entry))) ⌝ }

@@ -221,9 +221,9 @@ pub fn different_ids() -> Outcome {
     table.end()
 }
 
-/// A bare SYN of a stranger, with TCP-AO or without, gets no MAC; its measure is judging as many bytes under one
-/// entry. By the same SYN with one entry it is only reported: there is next to nothing to do.
-fn stranger(table: &mut Table, family: Family, signed: bool) {
+/// A bare SYN that no entry matches, with TCP-AO or without, gets no MAC: by judging as many bytes under one entry,
+/// and by the same SYN where there is one entry.
+fn unmatched_syn(table: &mut Table, family: Family, signed: bool) {
     let servers = [1, 1_024].map(|n| Server::new(&FEW_IDS.entries(family, n)).prepared());
     let far = peer(family, 60_000);
     let syn = Segment {
@@ -279,8 +279,8 @@ pub fn hard() -> Outcome {
     against_one(&mut table, REMOTE_PORTS, &[1_024]);
     against_one(&mut table, LOCAL_PORTS, &[1_024]);
     for family in [0, 1] {
-        stranger(&mut table, family, false);
-        stranger(&mut table, family, true);
+        unmatched_syn(&mut table, family, false);
+        unmatched_syn(&mut table, family, true);
     }
     table.end()
 }
@@ -288,7 +288,7 @@ pub fn hard() -> Outcome {
 pub fn against_bytes() -> Outcome {
     let mut table = Table::new(
         "Prepared tables against their own bytes, which every call checks, and against one entry found by a hash\n\
-         map in plain Rust (by address and ID): 205 peers with five keys each.",
+         map in plain Rust (by address and ID).",
         "call, entries",
         "other",
         ROUNDS,
@@ -298,41 +298,47 @@ pub fn against_bytes() -> Outcome {
             wanted: false,
         },
     );
-    for (family, name) in FAMILIES.iter().enumerate() {
-        let mut one = Server::new(&FEW_IDS.entries(family, 1)).prepared();
-        for n in [1, 64, 1_024] {
-            let entries = FEW_IDS.entries(family, n);
-            let mut bytes = Server::new(&entries);
-            let mut prepared = bytes.prepared();
-            let places = entries.iter().enumerate();
-            let map: HashMap<(Vec<u8>, u8), usize> = places
-                .map(|(at, entry)| ((entry.remote.address.clone(), entry.recv_id), at))
-                .collect();
-            let used = &entries[n - 1];
-            let name_of = (used.remote.address.clone(), used.recv_id);
-            for (call, timed) in CALLS {
-                let label = |by: &str| format!("{call:<5} {name} {n:>5} {by}");
-                table.row(
-                    &label("by bytes"),
-                    n >= 64,
-                    if n == 1_024 { 1 } else { count(BYTES) },
-                    &mut || timed(black_box(&mut prepared)),
-                    &mut || timed(black_box(&mut bytes)),
-                );
-                table.row(
-                    &label("by a hash map"),
-                    false,
-                    count(BYTES),
-                    &mut || timed(black_box(&mut prepared)),
-                    &mut || {
-                        assert_eq!(black_box(&map).get(black_box(&name_of)), Some(&(n - 1)));
-                        timed(black_box(&mut one));
-                    },
-                );
+    for keys in [FEW_IDS, DIFFERENT_IDS] {
+        for family in [0, 1] {
+            for n in [1, 64, 1_024] {
+                by_bytes_and_map(&mut table, keys, family, n);
             }
         }
     }
     table.end()
+}
+
+fn by_bytes_and_map(table: &mut Table, keys: Keys, family: Family, n: usize) {
+    let mut one = Server::new(&keys.entries(family, 1)).prepared();
+    let entries = keys.entries(family, n);
+    let mut bytes = Server::new(&entries);
+    let mut prepared = bytes.prepared();
+    let places = entries.iter().enumerate();
+    let map: HashMap<(Vec<u8>, u8), usize> = places
+        .map(|(at, entry)| ((entry.remote.address.clone(), entry.recv_id), at))
+        .collect();
+    let used = &entries[n - 1];
+    let name_of = (used.remote.address.clone(), used.recv_id);
+    for (call, timed) in CALLS {
+        let label = |by: &str| format!("{call:<5} {} {} {n:>4} {by}", FAMILIES[family], keys.name);
+        table.row(
+            &label("by bytes"),
+            n >= 64,
+            if n == 1_024 { 1 } else { count(BYTES) },
+            &mut || timed(black_box(&mut prepared)),
+            &mut || timed(black_box(&mut bytes)),
+        );
+        table.row(
+            &label("by a map"),
+            false,
+            count(BYTES),
+            &mut || timed(black_box(&mut prepared)),
+            &mut || {
+                assert_eq!(black_box(&map).get(black_box(&name_of)), Some(&(n - 1)));
+                timed(black_box(&mut one));
+            },
+        );
+    }
 }
 
 /// What preparing takes, and how it and the check grow.

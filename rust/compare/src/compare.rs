@@ -46,7 +46,7 @@ pub struct Run {
     /// Where the archive first gave something else with prepared tables than with their bytes.
     pub forms: Option<Difference>,
     /// How often it gave the same.
-    pub twins: u64,
+    pub same_prepared: u64,
     /// The last of all calls.
     pub last: Option<(Call, Outcome)>,
     /// Whether each call is named before it is made, in case it does not return.
@@ -69,7 +69,7 @@ impl Run {
             counts: Counts::default(),
             tried: tried.collect(),
             forms: None,
-            twins: 0,
+            same_prepared: 0,
             last: None,
             trace: false,
             limit,
@@ -144,17 +144,17 @@ impl Caller for Run {
         let by_bytes = self.compared(call, way)?;
         // What is refused cannot be prepared; asking for it once more would take long.
         let refused = matches!(by_bytes.number(), 10..=17 | 45);
-        let twin = (!refused).then(|| prepared::twin(&mut self.random, call));
-        if let Some(twin) = twin.flatten() {
-            let prepared = self.compared(&twin, way)?;
+        let again = (!refused).then(|| prepared::same_prepared(&mut self.random, call));
+        if let Some(again) = again.flatten() {
+            let prepared = self.compared(&again, way)?;
             if prepared == by_bytes {
-                self.twins += 1;
+                self.same_prepared += 1;
             } else if self.forms.is_none() {
                 self.forms = Some(Difference {
                     forms: true,
                     seed: self.seed,
                     index: self.calls - 1,
-                    call: twin,
+                    call: again,
                     archive: prepared,
                     reference: by_bytes.clone(),
                 });

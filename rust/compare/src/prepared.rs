@@ -13,15 +13,15 @@ pub fn of(call: &Call) -> Option<Vec<u8>> {
     prepare(&tables, usize::MAX).ok()
 }
 
-/// The same call with its tables prepared, now and then in another disguise; nothing if it takes them so already,
+/// The same call with its tables prepared, now and then written otherwise; nothing if it takes them so already,
 /// takes only bytes, or they are refused.
-pub fn twin(random: &mut Prng, call: &Call) -> Option<Call> {
+pub fn same_prepared(random: &mut Prng, call: &Call) -> Option<Call> {
     if call.form != 0 || !call.function.takes_form() {
         return None;
     }
     let mut table = of(call)?;
     if random.one_in(2) {
-        disguise(random, &mut table);
+        write_otherwise(random, &mut table);
     }
     Some(Call {
         form: form(random),
@@ -37,7 +37,7 @@ fn form(random: &mut Prng) -> u8 {
     random.pick(&[1, 1, 2, 128, 255, any])
 }
 
-/// Lends the call's tables prepared: as they are, in disguise, damaged or, `refused`, so that they are none.
+/// Lends the call's tables prepared: as they are, written otherwise, damaged or, `refused`, so that they are none.
 pub fn lend(random: &mut Prng, call: &mut Call, refused: bool) {
     let bytes = of(call).unwrap_or_else(|| vec![0; COUNTS]);
     let md5 = std::mem::take(&mut call.md5);
@@ -45,7 +45,7 @@ pub fn lend(random: &mut Prng, call: &mut Call, refused: bool) {
     call.table = bytes;
     match random.below(8) {
         0 => {}
-        1 => disguise(random, &mut call.table),
+        1 => write_otherwise(random, &mut call.table),
         2..=4 => double(random, &mut call.table),
         5 => call.table = grown(random, &call.table),
         _ => {
@@ -71,18 +71,18 @@ fn byte_in(random: &mut Prng, range: Range<usize>) -> u8 {
 }
 
 /// Puts in each field now and then other bytes that read as the same.
-fn disguise(random: &mut Prng, table: &mut [u8]) {
+fn write_otherwise(random: &mut Prng, table: &mut [u8]) {
     let [keys, md5] = counts(table);
     for index in 0..keys + md5 {
         for field in Field::ALL {
             if random.one_in(3) {
-                disguise_field(random, table, (keys + md5, index), index >= keys, field);
+                write_otherwise_field(random, table, (keys + md5, index), index >= keys, field);
             }
         }
     }
 }
 
-fn disguise_field(
+fn write_otherwise_field(
     random: &mut Prng,
     table: &mut [u8],
     (entries, index): (usize, usize),

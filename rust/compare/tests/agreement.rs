@@ -21,7 +21,7 @@ fn main() {
     }
     println!(
         "{} calls with prepared tables gave what their bytes gave",
-        run.twins
+        run.same_prepared
     );
     println!(
         "{NAME} and reference: {} calls from seed {SEED} in {:.1} s, {}, {}",

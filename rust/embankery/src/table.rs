@@ -136,7 +136,7 @@ impl<'a> Tables<'a> {
         if self.form != BYTES {
             return PreparedTables::from_bytes(self.keys);
         }
-        let room = PreparedTables::bytes(entries(self.keys) + entries(self.md5));
+        let room = PreparedTables::length(entries(self.keys) + entries(self.md5));
         let mut bytes = vec![0; room];
         let length = Answer(raw::prepare(self.keys, self.md5, &mut bytes)).done()?;
         bytes.truncate(length as usize);
@@ -164,6 +164,9 @@ pub(crate) fn entries(table: &[u8]) -> usize {
 /// does not check them again. That pays from a few entries on; with a thousand a call would spend nearly all its
 /// time on the check.
 ///
+/// They do not follow the tables: where these change, prepare anew. Keep them as safe as the tables. They may be
+/// shared between threads, and kept as bytes for the same version of the library.
+///
 /// ```
 /// use embankery::{Connection, Entry, KeyTable, Md5Table, PreparedTables, Tables};
 ///
@@ -189,7 +192,7 @@ pub struct PreparedTables {
 
 impl PreparedTables {
     /// How many bytes the prepared form of so many entries has, of both tables together.
-    pub const fn bytes(entries: usize) -> usize {
+    pub const fn length(entries: usize) -> usize {
         4 + 129 * entries
     }
 
@@ -226,7 +229,7 @@ impl PreparedTables {
         usize::from(u16::from_be_bytes([self.bytes[2], self.bytes[3]]))
     }
 
-    /// Whether neither table has one.
+    /// Whether neither table has one: not so, if only the MD5 table does, though [`len`](PreparedTables::len) is 0.
     pub fn is_empty(&self) -> bool {
         self.len() + self.md5_len() == 0
     }

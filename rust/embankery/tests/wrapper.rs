@@ -300,7 +300,7 @@ fn prepared_md5_tables() {
 fn bytes_of_prepared_tables() {
     let keys = KeyTable::new([&Entry::ipv4().key(b"key").build().unwrap()]).unwrap();
     let prepared = Tables::from(&keys).prepared().unwrap();
-    assert_eq!(prepared.as_bytes().len(), PreparedTables::bytes(1));
+    assert_eq!(prepared.as_bytes().len(), PreparedTables::length(1));
     assert_eq!(
         format!("{prepared:?}"),
         "PreparedTables { len: 1, md5_len: 0, .. }"
@@ -308,11 +308,11 @@ fn bytes_of_prepared_tables() {
     let again = PreparedTables::from_bytes(prepared.as_bytes());
     assert_eq!(again.as_ref(), Ok(&prepared));
     assert_eq!(Tables::from(&prepared).prepared(), again);
-    for len in 0..PreparedTables::bytes(1) {
+    for len in 0..PreparedTables::length(1) {
         let cut = PreparedTables::from_bytes(&prepared.as_bytes()[..len]);
         assert_eq!(cut, Err(Refusal::Prepared));
     }
-    let mut many = vec![0; PreparedTables::bytes(1_025)];
+    let mut many = vec![0; PreparedTables::length(1_025)];
     many[..4].copy_from_slice(&[4, 1, 0, 0]);
     assert_eq!(PreparedTables::from_bytes(many).unwrap_err().number(), 44);
     assert_eq!(Refusal::Prepared.entry(), None);
