@@ -188,7 +188,7 @@ pub fn raws() -> Vec<Raw> {
                 &[(Field::Mark, &[10 + past])],
             );
             let entry = network(&six, &six_net, 126);
-            let byte = B6[0] + past;
+            let byte = B6[0].wrapping_add(past);
             add("the mark's last bits", &entry, &[(Field::Mark, &[byte])]);
         }
         for (low, high) in [(B_PORT, B_PORT + 1), (B_PORT - 1, B_PORT), (0, 300)] {
