@@ -2,8 +2,8 @@
 use Prim.Native.Nat.{ℕ, _≤_, _<_}
 use mathlib.Core.Bool.{true}
 use mathlib.Core.Path.{_≡_}
-use mathlib.Core.List.{List, [], _∷_}
-use lib.ListN.{length}
+use mathlib.Core.List.{List, [], _∷_, _++_}
+use lib.ListN.{length, replicate}
 use Rattle.octets.specs.Each.{Each, Octets}
 use Rattle.keys.specs.Clash.{Formed}
 use Rattle.keys.specs.Entry.{entries}
@@ -52,3 +52,40 @@ pub record ReadBack (k m : List ℕ) : Type 0 where
 abbrev pub PreparedRead : Type 0
 PreparedRead = (k m : List ℕ) (i j : ℕ) → Octets k → Octets m → loaded Keys maxEntries k ≡ Valid i → loaded Md5 maxEntries m ≡ Valid j
     → ReadBack k m
+
+-- The form's bytes, as numerals (docs/BOUNDARY.md, "The prepared form"): a key entry of IPv4 and an MD5 entry of IPv6.
+abbrev pub keyExample : Entry
+keyExample =
+    record {
+      selector =
+          record {
+            family = 4;
+            local = record { low = 258; high = 772; bits = 24; address = (10 ∷ 11 ∷ 12 ∷ []) ++ replicate 13 0 };
+            remote = record { low = 1286; high = 1800; bits = 32; address = (20 ∷ 21 ∷ 22 ∷ 23 ∷ []) ++ replicate 12 0 };
+          };
+      ids = record { send = 61; recv = 84 };
+      secret = record { flags = 5; algorithm = 2; «mac_bytes» = 13; «key_len» = 1; key = (90 ∷ []) ++ replicate 79 0 };
+    }
+
+abbrev pub md5Example : Entry
+md5Example =
+    record {
+      selector =
+          record {
+            family = 6;
+            local = record { low = 9; high = 9; bits = 8; address = (30 ∷ []) ++ replicate 15 0 };
+            remote = record { low = 0; high = 65535; bits = 128; address = (200 ∷ 201 ∷ []) ++ (replicate 13 1 ++ (7 ∷ [])) };
+          };
+      ids = record { send = 0; recv = 0 };
+      secret = record { flags = 0; algorithm = 19; «mac_bytes» = 16; «key_len» = 80; key = replicate 80 91 };
+    }
+
+-- the counts; SendIDs, RecvIDs, remote prefix lengths, marks; the slots; the backs. 86 is 20 + 21 + 22 + 23, and 165 is 200 + 201 + 13 + 7
+-- less 256.
+abbrev pub FormBytes : Type 0
+FormBytes = image (keyExample ∷ []) (md5Example ∷ [])
+    ≡ (0 ∷ 1 ∷ 0 ∷ 1 ∷ 61 ∷ 0 ∷ 84 ∷ 0 ∷ 32 ∷ 128 ∷ 86 ∷ 165 ∷ [])
+    ++ ((4 ∷ 20 ∷ 21 ∷ 22 ∷ []) ++ (replicate 12 0 ++ ((5 ∷ 6 ∷ 7 ∷ 8 ∷ 1 ∷ 2 ∷ 3 ∷ 4 ∷ [])
+    ++ ((6 ∷ 200 ∷ 201 ∷ []) ++ (replicate 13 1 ++ ((0 ∷ 0 ∷ 255 ∷ 255 ∷ 0 ∷ 9 ∷ 0 ∷ 9 ∷ [])
+    ++ ((5 ∷ 2 ∷ 13 ∷ 1 ∷ 24 ∷ 10 ∷ 11 ∷ 12 ∷ []) ++ (replicate 13 0 ++ ((90 ∷ []) ++ (replicate 79 0
+    ++ ((0 ∷ 19 ∷ 16 ∷ 80 ∷ 8 ∷ 30 ∷ []) ++ (replicate 15 0 ++ replicate 80 91))))))))))))

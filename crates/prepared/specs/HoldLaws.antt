@@ -19,6 +19,7 @@ use Rattle.keys.specs.Clash.{Family, Formed, Listed, Sound}
 use Rattle.keys.specs.Entry.{knownKind, extra, familyOf, size, width, padded, sideOf, selectorOf, idsOf, sidesEnd}
 use Rattle.keys.specs.Entry.{macLength, secretOf, entryOf, item, sound, items, entriesOf, entries}
 use Rattle.keys.specs.EntryLaws.{width-le, body-is, items-at, items-end}
+use Rattle.keys.specs.EntryLaws.{take-octets, drop-octets, zeros-octets, append-octets, cons-octets}
 use Rattle.keys.specs.FaultLaws.{listed-sound}
 use Rattle.keys.specs.FormedLaws.{Proper}
 use Rattle.keys.specs.LoadLaws.{formed-valid}
@@ -40,29 +41,6 @@ use Rattle.prepared.specs.CleanLaws.{ProperIn, proper-in, low-zero, byte
 use Rattle.prepared.specs.ReadLaws.{Stored, stored-in, keys-each, md5s-each}
 
 -- bytes
-
-take-octets : (n : ℕ) (s : List ℕ) → Octets s → Octets (take n s)
-take-octets zero s h i = omega arith
-take-octets (suc n) [] h i = omega arith
-take-octets (suc n) (x ∷ s) h zero = h 0
-take-octets (suc n) (x ∷ s) h (suc i) = take-octets n s (λ j. h (suc j)) i
-
-drop-octets : (n : ℕ) (s : List ℕ) → Octets s → Octets (drop n s)
-drop-octets n s h i = rw (getD-drop n s i 0) (h (n + i))
-
-zeros-octets : (n : ℕ) → Octets (replicate n 0)
-zeros-octets zero i = omega arith
-zeros-octets (suc n) zero = omega arith
-zeros-octets (suc n) (suc i) = zeros-octets n i
-
-cons-octets : (x : ℕ) (s : List ℕ) → x < 256 → Octets s → Octets (x ∷ s)
-cons-octets x s h o zero = h
-cons-octets x s h o (suc i) = o i
-
-append-octets : (a b : List ℕ) → Octets a → Octets b → Octets (a ++ b)
-append-octets [] b ha hb i = hb i
-append-octets (x ∷ a) b ha hb zero = ha 0
-append-octets (x ∷ a) b ha hb (suc i) = append-octets a b (λ j. ha (suc j)) hb i
 
 four-octets : (a b c d : ℕ) (r : List ℕ) → a < 256 → b < 256 → c < 256 → d < 256 → Octets r → Octets (a ∷ b ∷ c ∷ d ∷ r)
 four-octets a b c d r ha hb hc hd o =

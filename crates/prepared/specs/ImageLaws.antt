@@ -26,7 +26,7 @@ use Rattle.prepared.specs.Prepared.{frontIds, rawSelector, rawSecret, ra
 use Rattle.prepared.specs.Prepared.{octetSum, markOf, addressOf, sendAt, recvAt, bitsAt, markAt, slotAt, frontAt, backAt}
 use Rattle.prepared.specs.Prepared.{storedAt, storedFrom, keyPart, md5Part, sendPart, recvPart, bitsPart, markPart}
 use Rattle.prepared.specs.Prepared.{storedAddress, portsPart, slot, back, joined, columns, image}
-use Rattle.prepared.specs.Form.{Digest16, PreparedRead}
+use Rattle.prepared.specs.Form.{Digest16, PreparedRead, FormBytes}
 use Rattle.prepared.specs.CleanLaws.{ProperIn, proper-in, family-same, clean-same}
 use Rattle.prepared.specs.HoldLaws.{width-low, address-same}
 
@@ -545,3 +545,9 @@ prepared-read k m i j ok om vk vm =
       keys = keys-back (entries k) (entries m) zk zm hk hm (keys-whole k i ok vk);
       md5s = md5s-back (entries k) (entries m) zk zm hk hm (md5s-whole m j om vm);
     }
+
+-- the bytes as numerals
+
+pub form-bytes : FormBytes
+unfolding image columns joined slot portsPart back width
+form-bytes = refl

@@ -18,7 +18,7 @@ use Rattle.octets.specs.Octets.{be16, be32}
 use Rattle.wire.specs.Prefix.{bit, agree}
 use Rattle.wire.specs.PrefixLaws.{agree-bit}
 use Rattle.keys.specs.Entry.{width}
-use Rattle.keys.specs.EntryLaws.{width-le}
+use Rattle.keys.specs.EntryLaws.{width-le, take-octets, drop-octets, zeros-octets, append-octets, cons-octets}
 use Rattle.keys.specs.Match.{fixed, holding, holds, matching, matches}
 use Rattle.keys.specs.MatchLaws.{every-true, and-true}
 use Rattle.keys.specs.Table.{nobody, hit as hitAt, found, hasId, answers}
@@ -92,31 +92,6 @@ top-same (suc n) a b oa ob h f =
     ∙ (λ i. (ap (λ (k : ℕ). get64 a 0 / 2 ^ k) d ∙ ih ∙ ap (λ (k : ℕ). get64 b 0 / 2 ^ k) (sym d)) i * 2 + q i)
     ∙ sym (half (get64 b 0) (63 - n))
     ∙ ap (λ (k : ℕ). get64 b 0 / 2 ^ k) (sym e)
-
--- parts of lists of bytes
-
-pub drop-octets : (n : ℕ) (s : List ℕ) → Octets s → Octets (drop n s)
-drop-octets n s h i = rw (getD-drop n s i 0) (h (n + i))
-
-pub take-octets : (n : ℕ) (s : List ℕ) → Octets s → Octets (take n s)
-take-octets zero s h i = omega arith
-take-octets (suc n) [] h i = omega arith
-take-octets (suc n) (x ∷ s) h zero = h 0
-take-octets (suc n) (x ∷ s) h (suc i) = take-octets n s (λ j. h (suc j)) i
-
-zeros-octets : (n : ℕ) → Octets (replicate n 0)
-zeros-octets zero i = omega arith
-zeros-octets (suc n) zero = omega arith
-zeros-octets (suc n) (suc i) = zeros-octets n i
-
-append-octets : (a b : List ℕ) → Octets a → Octets b → Octets (a ++ b)
-append-octets [] b ha hb i = hb i
-append-octets (x ∷ a) b ha hb zero = ha 0
-append-octets (x ∷ a) b ha hb (suc i) = append-octets a b (λ j. ha (suc j)) hb i
-
-cons-octets : (x : ℕ) (s : List ℕ) → x < 256 → Octets s → Octets (x ∷ s)
-cons-octets x s h o zero = h
-cons-octets x s h o (suc i) = o i
 
 -- the byte k behind a list of m
 behind : (a b : List ℕ) (m k : ℕ) → length a ≡ m → getD (a ++ b) (m + k) 0 ≡ getD b k 0
