@@ -1,10 +1,10 @@
 -- What the functions over a prepared table have done so far: tests one after another, the turns of a scan and of a search, the counts.
-use Prim.Native.Nat.{ℕ, zero, suc, _+_, _*_, _-_, _/_, _^_, _≤_, _<_, max, min}
+use Prim.Native.Nat.{ℕ, zero, suc, _+_, _*_, _-_, _/_, _%_, _^_, _≤_, _<_, max, min}
 use mathlib.Core.Bool.{Bool, true, false, cond, _&&_}
 use mathlib.Core.Path.{_≡_, refl, sym, ap, _∙_}
 use mathlib.Core.List.{List}
 use native.Mathlib.Omega.{arith}
-use native.Mathlib.Nat.{add-sub-cancel-left}
+use native.Mathlib.Nat.{add-sub-cancel-left, div-eq-of-lt}
 use lib.ListN.{length, getD, take, drop}
 use lib.Seq.{getD-take, getD-drop}
 use lib.Dec.{leb, eqb}
@@ -12,7 +12,7 @@ use borrow.Author.Tests.{eq-eqb, ne-eqb, eqb-true, lt-leb, le-leb, leb-true, leb
 use Rattle.octets.specs.Each.{Octets}
 use Rattle.keys.specs.Entry.{width}
 use Rattle.keys.specs.EntryLaws.{width-le}
-use Rattle.keys.specs.Match.{matches}
+use Rattle.keys.specs.Match.{fixed, matches}
 use Rattle.keys.specs.MatchLaws.{and-true}
 use Rattle.keys.specs.Table.{nobody, hit as hitAt, found, hasId, answers}
 use Rattle.keys.specs.declared.entry.Entry.{Entry}
@@ -22,9 +22,10 @@ use Rattle.keys.specs.declared.table.TableKind.the-variants.{Keys, Md5}
 use Rattle.keys.specs.declared.table.By.{By}
 use Rattle.keys.specs.declared.table.By.the-variants.{Any, Send, Recv}
 use Rattle.keys.specs.declared.table.Found.{Found}
-use Rattle.prepared.specs.Prepared.{keyCount, md5Count, total, preparedBytes, fits, cleanSelector, frontIds, rawSelector, markOf}
+use Rattle.prepared.specs.Prepared.{keyCount, md5Count, total, preparedBytes, fits, cleanFamily, cleanSelector, frontIds, rawSelector, markOf}
 use Rattle.prepared.specs.Prepared.{bitsAt, markAt, slotAt, frontAt, backAt, storedAt, storedFrom, keyPart, md5Part}
-use Rattle.prepared.specs.Scan.{get64, nearBits, nearFront, near, portIn, possible, close, named, idAt, candidate}
+use Rattle.prepared.specs.Scan.{get64, top, nearBits, nearFront, lastByte, nearLast, nearRest, nearBack, localBits}
+use Rattle.prepared.specs.Scan.{nearLocal, alike, portIn, possible, nearby, close, named, idAt, candidate}
 use Rattle.prepared.specs.Scan.{NoneClose, NoneNamed, hit, First, Asks}
 use Rattle.prepared.specs.ScanLaws.{both-true, front-id, no-candidate, found-nobody, found-first}
 
@@ -65,24 +66,34 @@ slotCut t n i = take (4 + 4 * n + 24 * i + 24 - (4 + 4 * n + 24 * i)) (drop (4 +
 slot-is : (t : List ℕ) (n i : ℕ) → slotCut t n i ≡ slotAt t n i
 slot-is t n i = part-is t (4 + 4 * n + 24 * i) 24
 
+abbrev backCut : List ℕ → ℕ → ℕ → List ℕ
+backCut t n i = take (4 + 28 * n + 101 * i + 101 - (4 + 28 * n + 101 * i)) (drop (4 + 28 * n + 101 * i) t)
+
+back-is : (t : List ℕ) (n i : ℕ) → backCut t n i ≡ backAt t n i
+back-is t n i = part-is t (4 + 28 * n + 101 * i) 101
+
 pub most-four : (f : ℕ) → f ≡ 4 → _≡_ {A = ℕ} 24 (cond (eqb f 4) 24 64)
 most-four f e = rw (eq-eqb f 4 e)
 
 pub most-other : (f : ℕ) → (f ≡ 4 → ⊥) → _≡_ {A = ℕ} 64 (cond (eqb f 4) 24 64)
 most-other f e = rw (ne-eqb f 4 e)
 
+-- the first bits of two numbers
+
+pub top-none : (n x y : ℕ) → x < 2 ^ 64 → y < 2 ^ 64 → n ≡ 0 → true ≡ top n x y
+top-none n x y hx hy e =
+    let v : 64 - n ≡ 64 = omega arith in
+    let a : x / 2 ^ (64 - n) ≡ 0 = ap (λ (k : ℕ). x / 2 ^ k) v ∙ div-eq-of-lt hx in
+    let b : y / 2 ^ (64 - n) ≡ 0 = ap (λ (k : ℕ). y / 2 ^ k) v ∙ div-eq-of-lt hy in
+    sym (eq-eqb _ _ (a ∙ sym b))
+
 module _ (s : List ℕ) (bits high m n : ℕ) (me : m ≡ cond (eqb (getD s 0 0) 4) 24 64) (ne : n ≡ min bits m) where
   near-bits : n ≡ nearBits s bits
   near-bits = ne ∙ ap (λ (k : ℕ). min bits k) me
 
-  pub near-none : n ≡ 0 → true ≡ nearFront s bits high
+  pub near-top : (x : ℕ) → x ≡ get64 s 1 → (r : Bool) → r ≡ top n x high → r ≡ nearFront s bits high
   unfolding nearFront
-  near-none e = rw (eq-eqb (nearBits s bits) 0 (sym near-bits ∙ e))
-
-  pub near-top : (n ≡ 0 → ⊥) → (x : ℕ) → x ≡ get64 s 1 → eqb (x / 2 ^ (64 - n)) (high / 2 ^ (64 - n)) ≡ nearFront s bits high
-  unfolding nearFront
-  near-top z x e =
-      rw (ne-eqb (nearBits s bits) 0 (λ q. z (near-bits ∙ q))) (λ i. eqb (e i / 2 ^ (64 - near-bits i)) (high / 2 ^ (64 - near-bits i)))
+  near-top x e r q = q ∙ (λ i. top (near-bits i) (e i) high)
 
   pub near-few : n ≤ 64
   near-few = go (eqb (getD s 0 0) 4) refl
@@ -91,25 +102,89 @@ module _ (s : List ℕ) (bits high m n : ℕ) (me : m ≡ cond (eqb (getD s 0 0)
       go true e = let q : m ≡ 24 = me ∙ ap (λ (c : Bool). cond c 24 64) e in omega arith
       go false e = let q : m ≡ 64 = me ∙ ap (λ (c : Bool). cond c 24 64) e in omega arith
 
-module _ (s : List ℕ) (bits high low : ℕ) (a : Bool) (ae : a ≡ nearFront s bits high) where
-  pub near-apart : a ≡ false → false ≡ near s bits high low
-  unfolding near
-  near-apart h = and-no _ _ a ae h
+-- the last byte of IPv4, the other bytes of IPv6
 
-  module _ (ah : a ≡ true) where
-    pub near-four : getD s 0 0 ≡ 4 → true ≡ near s bits high low
-    unfolding near
-    near-four e = and-yes _ _ a true ae ah (rw (eq-eqb (getD s 0 0) 4 e))
+pub last-is : (m a b c : ℕ) → (m + 256 - (a + b + c) % 256) % 256 ≡ lastByte m a b c
+last-is m a b c =
+    let e : a + b + c ≡ a + (b + (c + 0)) = omega arith in
+    ap (λ (k : ℕ). k % 256) (less m ((a + b + c) % 256) (omega arith)) ∙ ap (λ (k : ℕ). (m + (256 - k % 256)) % 256) e
+  where
+    less : (m s : ℕ) → s < 256 → m + 256 - s ≡ m + (256 - s)
+    less m s h = omega arith
 
-    module _ (f : getD s 0 0 ≡ 4 → ⊥) where
-      pub near-short : bits < 120 → true ≡ near s bits high low
-      unfolding near
-      near-short h = and-yes _ _ a true ae ah (rw (ne-eqb (getD s 0 0) 4 f) (rw (lt-ltb bits 120 h)))
+pub last-short : (x y bits : ℕ) → bits ≤ 24 → true ≡ nearLast x y bits
+unfolding nearLast
+last-short x y bits h = rw (le-leb bits 24 h)
 
-      pub near-long : 120 ≤ bits → (x : ℕ) → x ≡ get64 s 8 → eqb x low ≡ near s bits high low
-      unfolding near
-      near-long h x e =
-          and-yes _ _ a (eqb x low) ae ah (rw (ne-eqb (getD s 0 0) 4 f) (rw (le-ltb bits 120 h) (ap (λ (k : ℕ). eqb k low) e)))
+pub last-long : (x y bits n : ℕ) → 24 < bits → n ≡ min bits 32 → eqb (x / 2 ^ (32 - n)) (y / 2 ^ (32 - n)) ≡ nearLast x y bits
+unfolding nearLast
+last-long x y bits n h e = rw (lt-leb bits 24 h) (λ i. eqb (x / 2 ^ (32 - e i)) (y / 2 ^ (32 - e i)))
+
+pub rest-short : (s : List ℕ) (bits low : ℕ) → bits ≤ 64 → true ≡ nearRest s bits low
+unfolding nearRest
+rest-short s bits low h = rw (le-leb bits 64 h)
+
+pub rest-long : (s : List ℕ) (bits low n x : ℕ) (r : Bool) → 64 < bits → n ≡ min bits 120 → x ≡ get64 s 8 → r ≡ top (n - 56) x low
+    → r ≡ nearRest s bits low
+unfolding nearRest
+rest-long s bits low n x r h e q z = rw (lt-leb bits 64 h) (z ∙ (λ i. top (e i - 56) (q i) low))
+
+module _ (s : List ℕ) (bits mark high low : ℕ) (r : Bool) where
+  pub back-four : getD s 0 0 ≡ 4 → (x y : ℕ) → x ≡ lastByte mark (getD s 1 0) (getD s 2 0) (getD s 3 0) → y ≡ high / 2 ^ 32 % 256
+      → r ≡ nearLast x y bits → r ≡ nearBack s bits mark high low
+  unfolding nearBack
+  back-four e x y xe ye q = rw (eq-eqb (getD s 0 0) 4 e) (q ∙ (λ i. nearLast (xe i) (ye i) bits))
+
+  pub back-other : (getD s 0 0 ≡ 4 → ⊥) → r ≡ nearRest s bits low → r ≡ nearBack s bits mark high low
+  unfolding nearBack
+  back-other f q = rw (ne-eqb (getD s 0 0) 4 f) q
+
+-- the local address
+
+module _ (f : ℕ) (r : List ℕ) (upper lower g n : ℕ) (ge : g ≡ cleanFamily f) (ne : n ≡ fixed g (getD r 4 0)) where
+  local-bits : n ≡ localBits f r
+  local-bits = ne ∙ ap (λ (k : ℕ). fixed k (getD r 4 0)) ge
+
+  pub local-few : n ≤ 128
+  local-few = let w = width-le g in omega arith
+
+  module _ (x : ℕ) (xe : x ≡ get64 r 5) where
+    pub local-short : (b : Bool) → n ≤ 64 → b ≡ top n x upper → b ≡ nearLocal f r upper lower
+    unfolding nearLocal
+    local-short b h q =
+        let z : leb (localBits f r) 64 ≡ true = ap (λ (k : ℕ). leb k 64) (sym local-bits) ∙ le-leb n 64 h in
+        rw z (q ∙ (λ i. top (local-bits i) (xe i) upper))
+
+    module _ (h : 64 < n) where
+      local-long-is : leb (localBits f r) 64 ≡ false
+      local-long-is = ap (λ (k : ℕ). leb k 64) (sym local-bits) ∙ lt-leb n 64 h
+
+      pub local-apart : (x ≡ upper → ⊥) → false ≡ nearLocal f r upper lower
+      unfolding nearLocal
+      local-apart u = rw local-long-is (and-no _ _ (eqb x upper) (λ i. eqb (xe i) upper) (ne-eqb x upper u))
+
+      pub local-long : x ≡ upper → (y : ℕ) → y ≡ get64 r 13 → (b : Bool) → b ≡ top (n - 64) y lower → b ≡ nearLocal f r upper lower
+      unfolding nearLocal
+      local-long u y ye b q =
+          rw local-long-is
+          (and-yes _ _ (eqb x upper) b (λ i. eqb (xe i) upper) (eq-eqb x upper u) (q ∙ (λ i. top (local-bits i - 64) (ye i) lower)))
+
+-- both addresses
+
+module _ (t : List ℕ) (n i high low upper lower : ℕ) (a : Bool) (ae : a ≡ nearBack (slotCut t n i) (bitsAt t n i) (markAt t n i) high low)
+  where
+    back-near : a ≡ nearBack (slotAt t n i) (bitsAt t n i) (markAt t n i) high low
+    back-near = ae ∙ (λ k. nearBack (slot-is t n i k) (bitsAt t n i) (markAt t n i) high low)
+
+    pub alike-not : a ≡ false → false ≡ alike t n high low upper lower i
+    unfolding alike
+    alike-not h = and-no _ _ a back-near h
+
+    pub alike-local : a ≡ true → (r : Bool) → r ≡ nearLocal (getD (slotCut t n i) 0 0) (backCut t n i) upper lower
+        → r ≡ alike t n high low upper lower i
+    unfolding alike
+    alike-local h r e =
+        and-yes _ _ a r back-near h (e ∙ (λ k. nearLocal (getD (slot-is t n i k) 0 0) (back-is t n i k) upper lower))
 
 -- the columns, test by test
 
@@ -119,44 +194,60 @@ short limit mark bits m h = rw (lt-ltb bits limit h)
 pub long : (limit mark bits m : ℕ) → limit ≤ bits → eqb m mark ≡ possible limit mark bits m
 long limit mark bits m h = rw (le-ltb bits limit h)
 
-module _ (t : List ℕ) (n i limit mark remote local high low : ℕ) where
-  abbrev isClose : Bool
-  isClose = close t n limit mark remote local high low i
+module _ (t : List ℕ) (n i limit mark remote local high : ℕ) where
+  abbrev isNearby : Bool
+  isNearby = nearby t n limit mark remote local high i
 
   abbrev can : Bool
   can = possible limit mark (bitsAt t n i) (markAt t n i)
 
   module _ (a : Bool) (ae : a ≡ can) where
-    pub close-cannot : a ≡ false → false ≡ isClose
-    unfolding close
-    close-cannot h = and-no _ _ a ae h
+    pub nearby-cannot : a ≡ false → false ≡ isNearby
+    unfolding nearby
+    nearby-cannot h = and-no _ _ a ae h
 
     module _ (ah : a ≡ true) (b : Bool) (be : b ≡ portIn (slotCut t n i) 16 remote) where
-      pub close-no : b ≡ false → false ≡ isClose
-      unfolding close
-      close-no h = and-yes _ _ a false ae ah (and-no _ _ b (be ∙ (λ k. portIn (slot-is t n i k) 16 remote)) h)
+      remote-is : b ≡ portIn (slotAt t n i) 16 remote
+      remote-is = be ∙ (λ k. portIn (slot-is t n i k) 16 remote)
+
+      pub nearby-no : b ≡ false → false ≡ isNearby
+      unfolding nearby
+      nearby-no h = and-yes _ _ a false ae ah (and-no _ _ b remote-is h)
 
       module _ (bh : b ≡ true) (c : Bool) (ce : c ≡ portIn (slotCut t n i) 20 local) where
-        pub close-not : c ≡ false → false ≡ isClose
-        unfolding close
-        close-not h =
-            and-yes _ _ a false ae ah
-            (and-yes _ _ b false (be ∙ (λ k. portIn (slot-is t n i k) 16 remote)) bh
-            (and-no _ _ c (ce ∙ (λ k. portIn (slot-is t n i k) 20 local)) h))
+        local-is : c ≡ portIn (slotAt t n i) 20 local
+        local-is = ce ∙ (λ k. portIn (slot-is t n i k) 20 local)
 
-        pub close-near : c ≡ true → (r : Bool) → r ≡ near (slotCut t n i) (bitsAt t n i) high low → r ≡ isClose
-        unfolding close
-        close-near h r e =
+        pub nearby-not : c ≡ false → false ≡ isNearby
+        unfolding nearby
+        nearby-not h = and-yes _ _ a false ae ah (and-yes _ _ b false remote-is bh (and-no _ _ c local-is h))
+
+        pub nearby-front : c ≡ true → (r : Bool) → r ≡ nearFront (slotCut t n i) (bitsAt t n i) high → r ≡ isNearby
+        unfolding nearby
+        nearby-front h r e =
             and-yes _ _ a r ae ah
-            (and-yes _ _ b r (be ∙ (λ k. portIn (slot-is t n i k) 16 remote)) bh
-            (and-yes _ _ c r (ce ∙ (λ k. portIn (slot-is t n i k) 20 local)) h (e ∙ (λ k. near (slot-is t n i k) (bitsAt t n i) high low))))
+            (and-yes _ _ b r remote-is bh
+            (and-yes _ _ c r local-is h (e ∙ (λ k. nearFront (slot-is t n i k) (bitsAt t n i) high))))
 
-  module _ (ids id : ℕ) where
-    pub named-not : (getD t (ids + i) 0 ≡ id → ⊥) → false ≡ named t n ids id limit mark remote local high low i
+  module _ (low upper lower : ℕ) (a : Bool) (ae : a ≡ isNearby) where
+    abbrev isClose : Bool
+    isClose = close t n limit mark remote local high low upper lower i
+
+    pub close-not : a ≡ false → false ≡ isClose
+    unfolding close
+    close-not h = and-no _ _ a ae h
+
+    pub close-alike : a ≡ true → (r : Bool) → r ≡ alike t n high low upper lower i → r ≡ isClose
+    unfolding close
+    close-alike h r e = and-yes _ _ a r ae h e
+
+  module _ (low upper lower ids id : ℕ) where
+    pub named-not : (getD t (ids + i) 0 ≡ id → ⊥) → false ≡ named t n ids id limit mark remote local high low upper lower i
     unfolding named
     named-not e = and-no _ _ false (sym (ne-eqb _ _ e)) refl
 
-    pub named-close : (b : Bool) → getD t (ids + i) 0 ≡ id → b ≡ isClose → b ≡ named t n ids id limit mark remote local high low i
+    pub named-close : (b : Bool) → getD t (ids + i) 0 ≡ id → b ≡ close t n limit mark remote local high low upper lower i
+        → b ≡ named t n ids id limit mark remote local high low upper lower i
     unfolding named
     named-close b e be = and-yes _ _ true b (sym (eq-eqb _ _ e)) refl be
 
@@ -173,33 +264,33 @@ block-byte t at i j l h =
     ∙ getD-drop (at + i) t (j - i) 0
     ∙ ap (λ (k : ℕ). getD t k 0) e
 
-and-left : (a b : Bool) → a ≡ false → (a && b) ≡ false
-and-left a b e = rw e
+and-both-left : (a b c : Bool) → a ≡ false → ((a && b) && c) ≡ false
+and-both-left a b c e = rw e
 
-and-three : (a b c : Bool) → (a && b) ≡ false → (a && (b && c)) ≡ false
-and-three true true c e = let z : _≡_ {A = ℕ} 0 1 = cc in absurd (omega arith)
-and-three true false c e = refl
-and-three false b c e = refl
+and-three : (a b c d : Bool) → (a && b) ≡ false → (a && ((b && c) && d)) ≡ false
+and-three true true c d e = let z : _≡_ {A = ℕ} 0 1 = cc in absurd (omega arith)
+and-three true false c d e = refl
+and-three false b c d e = refl
 
 none-block : (test : ℕ → Bool) (i : ℕ) → ((j : ℕ) → i ≤ j → j < i + 32 → test j ≡ false) → First test i (i + 32) (i + 32)
 none-block test i f = record { from = omega arith; few = omega arith; none = f; there = λ l. absurd (omega arith) }
 
-module _ (t : List ℕ) (n i limit mark remote local high low : ℕ) (b : Bool) where
+module _ (t : List ℕ) (n i limit mark remote local high low upper lower : ℕ) (b : Bool) where
   pub none-close : NoneClose (blockCut t (4 + 2 * n) i) (blockCut t (4 + 3 * n) i) limit mark b → b ≡ false
-      → First (close t n limit mark remote local high low) i (i + 32) (i + 32)
-  unfolding close
+      → First (close t n limit mark remote local high low upper lower) i (i + 32) (i + 32)
+  unfolding close nearby
   none-close f e =
-      none-block (close t n limit mark remote local high low) i
-      (λ j l h. and-left (possible limit mark (bitsAt t n j) (markAt t n j)) _
+      none-block (close t n limit mark remote local high low upper lower) i
+      (λ j l h. and-both-left (possible limit mark (bitsAt t n j) (markAt t n j)) _ _
       ((λ k. possible limit mark (sym (block-byte t (4 + 2 * n) i j l h) k) (sym (block-byte t (4 + 3 * n) i j l h) k))
       ∙ f e (j - i) (omega arith)))
 
   pub none-named : (ids id : ℕ) → NoneNamed (blockCut t ids i) (blockCut t (4 + 2 * n) i) (blockCut t (4 + 3 * n) i) id limit mark b
-      → b ≡ false → First (named t n ids id limit mark remote local high low) i (i + 32) (i + 32)
-  unfolding named close
+      → b ≡ false → First (named t n ids id limit mark remote local high low upper lower) i (i + 32) (i + 32)
+  unfolding named close nearby
   none-named ids id f e =
-      none-block (named t n ids id limit mark remote local high low) i
-      (λ j l h. and-three (eqb (getD t (ids + j) 0) id) (possible limit mark (bitsAt t n j) (markAt t n j)) _
+      none-block (named t n ids id limit mark remote local high low upper lower) i
+      (λ j l h. and-three (eqb (getD t (ids + j) 0) id) (possible limit mark (bitsAt t n j) (markAt t n j)) _ _
       ((λ k. eqb (sym (block-byte t ids i j l h) k) id
       && possible limit mark (sym (block-byte t (4 + 2 * n) i j l h) k) (sym (block-byte t (4 + 3 * n) i j l h) k))
       ∙ f e (j - i) (omega arith)))
@@ -261,51 +352,54 @@ module _ {test : ℕ → Bool} {i end r : ℕ} (w : Passed test i end r) where
       record { from = omega arith; few = s .few; none = joined test i r q (w .none) (s .none); there = s .there }
 
 -- the kinds of question
-module _ (t : List ℕ) (n limit mark remote local high low i end r : ℕ) (by : By) where
-  pub skip-any : by ≡ Any → First (close t n limit mark remote local high low) i end r
-      → First (candidate by t n limit mark remote local high low) i end r
+module _ (t : List ℕ) (n limit mark remote local high low upper lower i end r : ℕ) (by : By) where
+  pub skip-any : by ≡ Any → First (close t n limit mark remote local high low upper lower) i end r
+      → First (candidate by t n limit mark remote local high low upper lower) i end r
   unfolding candidate
   skip-any e s = rw e s
 
-  pub skip-send : (id : ℕ) → by ≡ Send id → First (named t n 4 id limit mark remote local high low) i end r
-      → First (candidate by t n limit mark remote local high low) i end r
+  pub skip-send : (id : ℕ) → by ≡ Send id → First (named t n 4 id limit mark remote local high low upper lower) i end r
+      → First (candidate by t n limit mark remote local high low upper lower) i end r
   unfolding candidate named
   skip-send id e s = rw e s
 
-  pub skip-recv : (id : ℕ) → by ≡ Recv id → First (named t n (4 + n) id limit mark remote local high low) i end r
-      → First (candidate by t n limit mark remote local high low) i end r
+  pub skip-recv : (id : ℕ) → by ≡ Recv id → First (named t n (4 + n) id limit mark remote local high low upper lower) i end r
+      → First (candidate by t n limit mark remote local high low upper lower) i end r
   unfolding candidate named
   skip-recv id e s = rw e s
 
 -- a search, turn by turn
 
 -- what it is asked with: the bytes are a table of n entries, and the numbers are those of the pair
-pub record Asked (t : List ℕ) (n end : ℕ) (p : Pair) (limit mark high low : ℕ) : Type 0 where
+pub record Asked (t : List ℕ) (n end : ℕ) (p : Pair) (limit mark high low upper lower : ℕ) : Type 0 where
   pub octets : Octets t
   pub room : preparedBytes n ≤ length t
   pub inside : end ≤ n
   pub remote-octets : Octets (p .remote)
   pub remote-length : length (p .remote) ≡ 16
+  pub local-octets : Octets (p .local)
   pub limit-is : limit ≡ 8 * width (p .family)
   pub mark-is : mark ≡ markOf (p .family) (p .remote)
   pub high-is : high ≡ get64 (p .remote) 0
   pub low-is : low ≡ get64 (p .remote) 7
+  pub upper-is : upper ≡ get64 (p .local) 0
+  pub lower-is : lower ≡ get64 (p .local) 8
 
 -- no entry from `first` on and before i is a hit, and entry i has the ID
-pub record Seeking (t : List ℕ) (n : ℕ) (by : By) (p : Pair) (first end limit mark high low i : ℕ) : Type 0 where
-  pub asked : Asked t n end p limit mark high low
+pub record Seeking (t : List ℕ) (n : ℕ) (by : By) (p : Pair) (first end limit mark high low upper lower i : ℕ) : Type 0 where
+  pub asked : Asked t n end p limit mark high low upper lower
   pub from : first ≤ i
   pub few : i ≤ end
   pub none : (j : ℕ) → first ≤ j → j < i → hit by p t n j ≡ false
   pub has : i < end → hasId by (frontIds (frontAt t n i)) ≡ true
 
-module _ (t : List ℕ) (n : ℕ) (by : By) (p : Pair) (first end limit mark high low : ℕ) where
+module _ (t : List ℕ) (n : ℕ) (by : By) (p : Pair) (first end limit mark high low upper lower : ℕ) where
   abbrev Next : ℕ → ℕ → Type 0
-  Next i r = First (candidate by t n limit mark (p .«remote_port») (p .«local_port») high low) i end r
+  Next i r = First (candidate by t n limit mark (p .«remote_port») (p .«local_port») high low upper lower) i end r
 
   -- entries that are no candidates are passed by
-  seek-by : (i r : ℕ) → Asked t n end p limit mark high low → first ≤ i → ((j : ℕ) → first ≤ j → j < i → hit by p t n j ≡ false)
-      → Next i r → Seeking t n by p first end limit mark high low r
+  seek-by : (i r : ℕ) → Asked t n end p limit mark high low upper lower → first ≤ i → ((j : ℕ) → first ≤ j → j < i → hit by p t n j ≡ false)
+      → Next i r → Seeking t n by p first end limit mark high low upper lower r
   unfolding candidate
   seek-by i r a l h s =
       let b = s .from in
@@ -317,19 +411,19 @@ module _ (t : List ℕ) (n : ℕ) (by : By) (p : Pair) (first end limit mark hig
         has = λ x. front-id t n r by ∙ and-true (idAt by t n r) _ (s .there x) .0;
       }
     where
-      no : Asked t n end p limit mark high low → Next i r → (j : ℕ) → i ≤ j → j < r → hit by p t n j ≡ false
+      no : Asked t n end p limit mark high low upper lower → Next i r → (j : ℕ) → i ≤ j → j < r → hit by p t n j ≡ false
       no a s j x y =
           let b = s .few in
           let c = a .inside in
-          no-candidate t n j (a .octets) (a .room) (omega arith) by p (a .remote-octets) (a .remote-length)
+          no-candidate t n j (a .octets) (a .room) (omega arith) by p (a .remote-octets) (a .remote-length) (a .local-octets)
           ((λ k. candidate by t n (sym (a .limit-is) k) (sym (a .mark-is) k) (p .«remote_port») (p .«local_port»)
-          (sym (a .high-is) k) (sym (a .low-is) k) j)
+          (sym (a .high-is) k) (sym (a .low-is) k) (sym (a .upper-is) k) (sym (a .lower-is) k) j)
           ∙ s .none j x y)
 
-  pub seek-start : (r : ℕ) → Asked t n end p limit mark high low → Next first r → Seeking t n by p first end limit mark high low r
+  pub seek-start : (r : ℕ) → Asked t n end p limit mark high low upper lower → Next first r → Seeking t n by p first end limit mark high low upper lower r
   seek-start r a s = seek-by first r a (omega arith) (λ j x y. absurd (omega arith)) s
 
-  module _ (i : ℕ) (w : Seeking t n by p first end limit mark high low i) where
+  module _ (i : ℕ) (w : Seeking t n by p first end limit mark high low upper lower i) where
     pub seek-over : end ≤ i → First (hit by p t n) first end i
     seek-over h = record { from = w .from; few = w .few; none = w .none; there = λ l. absurd (omega arith) }
 
@@ -342,7 +436,7 @@ module _ (t : List ℕ) (n : ℕ) (by : By) (p : Pair) (first end limit mark hig
       unfolding hit
       miss q = rw (w .has h) (sym e ∙ q)
 
-      pub seek-next : b ≡ false → (r : ℕ) → Next (i + 1) r → Seeking t n by p first end limit mark high low r
+      pub seek-next : b ≡ false → (r : ℕ) → Next (i + 1) r → Seeking t n by p first end limit mark high low upper lower r
       seek-next q r s =
           let c = w .from in
           seek-by (i + 1) r (w .asked) (omega arith)

@@ -53,7 +53,7 @@ abbrev pub PreparedRead : Type 0
 PreparedRead = (k m : List ℕ) (i j : ℕ) → Octets k → Octets m → loaded Keys maxEntries k ≡ Valid i → loaded Md5 maxEntries m ≡ Valid j
     → ReadBack k m
 
--- The form's bytes, as numerals (docs/BOUNDARY.md, "The prepared form"): a key entry of IPv4 and an MD5 entry of IPv6.
+-- The form's bytes, as numerals (docs/BOUNDARY.md, "The prepared form"): two key entries of IPv4 in their order, and an MD5 entry of IPv6.
 abbrev pub keyExample : Entry
 keyExample =
     record {
@@ -65,6 +65,20 @@ keyExample =
           };
       ids = record { send = 61; recv = 84 };
       secret = record { flags = 5; algorithm = 2; «mac_bytes» = 13; «key_len» = 1; key = (90 ∷ []) ++ replicate 79 0 };
+    }
+
+-- one that matches every pair of IPv4
+abbrev pub anyExample : Entry
+anyExample =
+    record {
+      selector =
+          record {
+            family = 4;
+            local = record { low = 0; high = 65535; bits = 0; address = replicate 16 0 };
+            remote = record { low = 0; high = 65535; bits = 0; address = replicate 16 0 };
+          };
+      ids = record { send = 62; recv = 85 };
+      secret = record { flags = 1; algorithm = 3; «mac_bytes» = 12; «key_len» = 2; key = (92 ∷ 93 ∷ []) ++ replicate 78 0 };
     }
 
 abbrev pub md5Example : Entry
@@ -83,9 +97,11 @@ md5Example =
 -- the counts; SendIDs, RecvIDs, remote prefix lengths, marks; the slots; the backs. 86 is 20 + 21 + 22 + 23, and 165 is 200 + 201 + 13 + 7
 -- less 256.
 abbrev pub FormBytes : Type 0
-FormBytes = image (keyExample ∷ []) (md5Example ∷ [])
-    ≡ (0 ∷ 1 ∷ 0 ∷ 1 ∷ 61 ∷ 0 ∷ 84 ∷ 0 ∷ 32 ∷ 128 ∷ 86 ∷ 165 ∷ [])
+FormBytes = image (keyExample ∷ anyExample ∷ []) (md5Example ∷ [])
+    ≡ (0 ∷ 2 ∷ 0 ∷ 1 ∷ 61 ∷ 62 ∷ 0 ∷ 84 ∷ 85 ∷ 0 ∷ 32 ∷ 0 ∷ 128 ∷ 86 ∷ 0 ∷ 165 ∷ [])
     ++ ((4 ∷ 20 ∷ 21 ∷ 22 ∷ []) ++ (replicate 12 0 ++ ((5 ∷ 6 ∷ 7 ∷ 8 ∷ 1 ∷ 2 ∷ 3 ∷ 4 ∷ [])
+    ++ ((4 ∷ []) ++ (replicate 15 0 ++ ((0 ∷ 0 ∷ 255 ∷ 255 ∷ 0 ∷ 0 ∷ 255 ∷ 255 ∷ [])
     ++ ((6 ∷ 200 ∷ 201 ∷ []) ++ (replicate 13 1 ++ ((0 ∷ 0 ∷ 255 ∷ 255 ∷ 0 ∷ 9 ∷ 0 ∷ 9 ∷ [])
     ++ ((5 ∷ 2 ∷ 13 ∷ 1 ∷ 24 ∷ 10 ∷ 11 ∷ 12 ∷ []) ++ (replicate 13 0 ++ ((90 ∷ []) ++ (replicate 79 0
-    ++ ((0 ∷ 19 ∷ 16 ∷ 80 ∷ 8 ∷ 30 ∷ []) ++ (replicate 15 0 ++ replicate 80 91))))))))))))
+    ++ ((1 ∷ 3 ∷ 12 ∷ 2 ∷ 0 ∷ []) ++ (replicate 16 0 ++ ((92 ∷ 93 ∷ []) ++ (replicate 78 0
+    ++ ((0 ∷ 19 ∷ 16 ∷ 80 ∷ 8 ∷ 30 ∷ []) ++ (replicate 15 0 ++ replicate 80 91)))))))))))))))))))

@@ -1,9 +1,8 @@
 -- What a scan over the columns may pass by: an entry that answers is a candidate, and what a search finds is the first that answers.
 -- The first bits of addresses are compared as numbers: where the first bits of two addresses agree, so do the first bits of the numbers
--- that their first eight bytes make. Where a prefix covers the bytes before the last one, so do the numbers that the last eight of those
--- make. Where all bits agree, so do the marks.
+-- that their bytes make, eight at a time. Where all bits agree, so do the marks.
 use Prim.Native.Nat.{ℕ, suc, zero, _+_, _*_, _-_, _/_, _%_, _^_, _≤_, _<_, max, min}
-use mathlib.Core.Bool.{Bool, true, false, cond, _&&_}
+use mathlib.Core.Bool.{Bool, true, false, cond, _&&_, _||_}
 use mathlib.Core.Path.{_≡_, refl, sym, ap, _∙_}
 use mathlib.Core.List.{List, [], _∷_, _++_}
 use native.Mathlib.Omega.{arith}
@@ -12,7 +11,7 @@ use lib.ListN.{length, getD, take, drop, replicate, length-append, length-drop, 
 use lib.Dec.{leb, ltb, eqb}
 use lib.Pow.{shr-shr, field, mod-mod-pow}
 use lib.Seq.{length-take-le, getD-append-add, take-append-add, getD-take, getD-drop, ext-getD, take-at}
-use borrow.Author.Tests.{eq-eqb, eqb-true, ltb-false}
+use borrow.Author.Tests.{eq-eqb, eqb-true, leb-true, leb-false, ltb-false}
 use Rattle.octets.specs.Each.{Octets}
 use Rattle.octets.specs.Octets.{be16, be32}
 use Rattle.wire.specs.Prefix.{bit, agree}
@@ -23,6 +22,7 @@ use Rattle.keys.specs.Match.{fixed, holding, holds, matching, matches}
 use Rattle.keys.specs.MatchLaws.{every-true, and-true}
 use Rattle.keys.specs.Table.{nobody, hit as hitAt, found, hasId, answers}
 use Rattle.keys.specs.declared.entry.Pair.{Pair}
+use Rattle.keys.specs.declared.entry.Side.{Side}
 use Rattle.keys.specs.declared.table.TableKind.{TableKind}
 use Rattle.keys.specs.declared.table.TableKind.the-variants.{Keys, Md5}
 use Rattle.keys.specs.declared.table.By.{By}
@@ -31,7 +31,8 @@ use Rattle.prepared.specs.Prepared.{preparedBytes, clear, cleanFamily, c
 use Rattle.prepared.specs.Prepared.{rawRemote, rawSelector, rawEntry, storedEntry, octetSum, markOf, addressOf, sendAt, recvAt}
 use Rattle.prepared.specs.Prepared.{bitsAt, markAt, slotAt, frontAt, backAt, storedAt, storedFrom}
 use Rattle.prepared.specs.ClearLaws.{clear-agree}
-use Rattle.prepared.specs.Scan.{get64, nearBits, nearFront, nearBack, near, portIn, possible, close}
+use Rattle.prepared.specs.Scan.{get64, top, nearBits, nearFront, lastByte, nearLast, nearRest, nearBack}
+use Rattle.prepared.specs.Scan.{localBits, nearLocal, alike, portIn, possible, nearby, close}
 use Rattle.prepared.specs.Scan.{idAt, candidate, hit, First, Asks}
 
 -- tests
@@ -97,10 +98,31 @@ top-same (suc n) a b oa ob h f =
 behind : (a b : List ℕ) (m k : ℕ) → length a ≡ m → getD (a ++ b) (m + k) 0 ≡ getD b k 0
 behind a b m k e = ap (λ (v : ℕ). getD (a ++ b) (v + k) 0) (sym e) ∙ getD-append-add a b k 0
 
-drop-word : (s : List ℕ) → get64 (drop 1 s) 0 ≡ get64 s 1
-drop-word s =
-    let e : (j : ℕ) → getD (drop 1 s) j 0 ≡ getD s (1 + j) 0 = λ j. getD-drop 1 s j 0 in
-    λ k. be32 (e 0 k) (e 1 k) (e 2 k) (e 3 k) * 2 ^ 32 + be32 (e 4 k) (e 5 k) (e 6 k) (e 7 k)
+-- a number, and a bit, behind k bytes
+word-drop : (k : ℕ) (s : List ℕ) → get64 (drop k s) 0 ≡ get64 s k
+word-drop k s =
+    λ i.
+    be32 (at 0 k (omega arith) i) (at 1 (k + 1) (omega arith) i) (at 2 (k + 2) (omega arith) i) (at 3 (k + 3) (omega arith) i) * 2 ^ 32
+    + be32 (at 4 (k + 4) (omega arith) i) (at 5 (k + 4 + 1) (omega arith) i) (at 6 (k + 4 + 2) (omega arith) i)
+    (at 7 (k + 4 + 3) (omega arith) i)
+  where
+    at : (j m : ℕ) → k + j ≡ m → getD (drop k s) j 0 ≡ getD s m 0
+    at j m e = getD-drop k s j 0 ∙ ap (λ (v : ℕ). getD s v 0) e
+
+bit-drop : (k : ℕ) (s : List ℕ) (i : ℕ) → bit (drop k s) i ≡ bit s (8 * k + i)
+bit-drop k s i =
+    let q : k + i / 8 ≡ (8 * k + i) / 8 = omega arith in
+    let m : i % 8 ≡ (8 * k + i) % 8 = omega arith in
+    ap (λ (v : ℕ). v / 2 ^ (7 - i % 8) % 2) (getD-drop k s (i / 8) 0) ∙ (λ j. getD s (q j) 0 / 2 ^ (7 - m j) % 2)
+
+-- the first n bits behind k bytes of the one and l of the other
+top-behind : (n k l : ℕ) (a b : List ℕ) → Octets a → Octets b → n ≤ 64 → ((i : ℕ) → i < n → bit a (8 * k + i) ≡ bit b (8 * l + i))
+    → get64 a k / 2 ^ (64 - n) ≡ get64 b l / 2 ^ (64 - n)
+top-behind n k l a b oa ob h f =
+    ap (λ (x : ℕ). x / 2 ^ (64 - n)) (sym (word-drop k a))
+    ∙ top-same n (drop k a) (drop l b) (drop-octets k a oa) (drop-octets l b ob) h
+    (λ i m. bit-drop k a i ∙ f i m ∙ sym (bit-drop l b i))
+    ∙ ap (λ (x : ℕ). x / 2 ^ (64 - n)) (word-drop l b)
 
 -- bytes by their bits
 
@@ -210,6 +232,16 @@ module _ (g mark : ℕ) (a : List ℕ) (l : length a ≡ 15) where
 
 -- What an entry that matches has.
 
+side-bits : (g : ℕ) (s : Side) (port : ℕ) (q : List ℕ) → holds g (cleanSide g s) port q ≡ true
+    → (i : ℕ) → i < fixed g (s .bits) → bit (s .address) i ≡ bit q i
+unfolding holds cleanSide
+side-bits g s port q h =
+    let n = fixed g (s .bits) in
+    let w = every-true (holding g (cleanSide g s) port q) h .1 .1 .0 in
+    let e : n ≡ fixed g n = omega arith in
+    let d : agree n (clear n (s .address)) q ≡ true = ap (λ (k : ℕ). agree k (clear n (s .address)) q) e ∙ w in
+    agree-bit n (s .address) q (sym (clear-agree n (s .address) q) ∙ d)
+
 -- the remote address of a front
 abbrev pub remoteOf : List ℕ → List ℕ
 remoteOf f = take 16 (drop 4 f)
@@ -229,15 +261,10 @@ module _ (f r : List ℕ) (p : Pair) (m : matches (cleanSelector (rawSelector f 
   local-holds = every-true (matching (cleanSelector (rawSelector f r)) p) m .1 .0
 
   remote-bits : (i : ℕ) → i < fixed (cleanFamily (getD f 3 0)) (getD f 2 0) → bit (remoteOf f) i ≡ bit (p .remote) i
-  unfolding holds cleanSide
-  remote-bits =
-      let g = cleanFamily (getD f 3 0) in
-      let n = fixed g (getD f 2 0) in
-      let q = every-true (holding g (cleanSide g (rawRemote f)) (p .«remote_port») (p .remote)) remote-holds .1 .1 .0 in
-      let e : n ≡ fixed g n = omega arith in
-      let d : agree n (clear n (remoteOf f)) (p .remote) ≡ true =
-      ap (λ (k : ℕ). agree k (clear n (remoteOf f)) (p .remote)) e ∙ q in
-      agree-bit n (remoteOf f) (p .remote) (sym (clear-agree n (remoteOf f) (p .remote)) ∙ d)
+  remote-bits = side-bits (cleanFamily (getD f 3 0)) (rawRemote f) (p .«remote_port») (p .remote) remote-holds
+
+  local-bits : (i : ℕ) → i < fixed (cleanFamily (getD f 3 0)) (getD r 4 0) → bit (take 16 (drop 5 r)) i ≡ bit (p .local) i
+  local-bits = side-bits (cleanFamily (getD f 3 0)) (rawLocal f r) (p .«local_port») (p .local) local-holds
 
   remote-in : portIn f 20 (p .«remote_port») ≡ true
   unfolding holds cleanSide
@@ -276,6 +303,24 @@ near-most f bits = go (eqb f 4) refl
 long-wide : (f : ℕ) → eqb f 4 ≡ false → 120 ≤ 8 * (width (cleanFamily f) - 1)
 unfolding cleanFamily width
 long-wide f e = rw e (omega arith)
+
+four-wide : (f : ℕ) → eqb f 4 ≡ true → 32 ≤ 8 * width (cleanFamily f)
+unfolding cleanFamily width
+four-wide f e = rw e (omega arith)
+
+sum-three : (l : List ℕ) → 3 ≤ length l → octetSum (take 3 l) ≡ getD l 0 0 + (getD l 1 0 + (getD l 2 0 + 0))
+sum-three [] h = absurd (omega arith)
+sum-three (x ∷ []) h = absurd (omega arith)
+sum-three (x ∷ y ∷ []) h = absurd (omega arith)
+sum-three (x ∷ y ∷ z ∷ l) h = refl
+
+-- of IPv4 the fourth byte is the last one
+last-four : (mark : ℕ) (a : List ℕ) → length a ≡ 15
+    → getD (addressOf 4 mark a) 3 0 ≡ lastByte mark (getD a 0 0) (getD a 1 0) (getD a 2 0)
+unfolding addressOf width
+last-four mark a l =
+    behind (take 3 a) (_ ∷ replicate 12 0) 3 0 (length-take-le 3 a (omega arith))
+    ∙ ap (λ (v : ℕ). (mark + (256 - v % 256)) % 256) (sum-three a (omega arith))
 
 module _ (t : List ℕ) (n i : ℕ) (o : Octets t) (room : preparedBytes n ≤ length t) (inside : i < n) where
   abbrev slotOf : List ℕ
@@ -340,13 +385,73 @@ module _ (t : List ℕ) (n i : ℕ) (o : Octets t) (room : preparedBytes n ≤ l
       let b = getD-take 15 (drop 1 slotOf) (k / 8) 0 (omega arith) in
       ap (λ (v : ℕ). v / 2 ^ (7 - k % 8) % 2) (sym (a ∙ b))
 
+  slot-byte : (j : ℕ) → j < 15 → getD given j 0 ≡ getD slotOf (1 + j) 0
+  slot-byte j h = getD-take 15 (drop 1 slotOf) j 0 h ∙ getD-drop 1 slotOf j 0
+
+  address-last : eqb (getD slotOf 0 0) 4 ≡ true
+      → getD address 3 0 ≡ lastByte (markAt t n i) (getD slotOf 1 0) (getD slotOf 2 0) (getD slotOf 3 0)
+  unfolding cleanFamily
+  address-last e =
+      let a = slot-byte 0 (omega arith) in
+      let b = slot-byte 1 (omega arith) in
+      let c = slot-byte 2 (omega arith) in
+      ap (λ (b : Bool). getD (addressOf (cond b 4 6) (markAt t n i) given) 3 0) e
+      ∙ last-four (markAt t n i) given given-length
+      ∙ (λ k. lastByte (markAt t n i) (a k) (b k) (c k))
+
+  abbrev backOf : List ℕ
+  backOf = backAt t n i
+
+  back-octets : Octets backOf
+  back-octets = take-octets 101 (drop (4 + 28 * n + 101 * i) t) (drop-octets (4 + 28 * n + 101 * i) t o)
+
   module _ (p : Pair) (m : matches (cleanSelector (rawSelector (frontAt t n i) (backAt t n i))) p ≡ true)
-      (op : Octets (p .remote)) (lp : length (p .remote) ≡ 16) where
+      (op : Octets (p .remote)) (lp : length (p .remote) ≡ 16) (ol : Octets (p .local)) where
+    -- the bits of the local address in the back
+    local-same : (k : ℕ) → k < localBits (getD slotOf 0 0) backOf → bit backOf (40 + k) ≡ bit (p .local) k
+    unfolding frontAt
+    local-same k h =
+        let w = width-le familyOf in
+        sym (bit-drop 5 backOf k)
+        ∙ ap (λ (v : ℕ). v / 2 ^ (7 - k % 8) % 2) (sym (getD-take 16 (drop 5 backOf) (k / 8) 0 (omega arith)))
+        ∙ local-bits (frontAt t n i) backOf p m k h
+
+    abbrev b : ℕ
+    b = localBits (getD slotOf 0 0) backOf
+
+    local-needed : nearLocal (getD slotOf 0 0) backOf (get64 (p .local) 0) (get64 (p .local) 8) ≡ true
+    unfolding nearLocal
+    local-needed = go (leb b 64) refl
+      where
+        go : (c : Bool) → leb b 64 ≡ c
+            → cond (leb b 64) (top b (get64 backOf 5) (get64 (p .local) 0))
+            (eqb (get64 backOf 5) (get64 (p .local) 0) && top (b - 64) (get64 backOf 13) (get64 (p .local) 8)) ≡ true
+        go true q =
+            let z = leb-true b 64 q in
+            rw q (eq-eqb _ _ (top-behind b 5 0 backOf (p .local) back-octets ol z
+            (λ k l. local-same k l ∙ ap (λ (j : ℕ). bit (p .local) j) (sym (zero-add k)))))
+        go false q =
+            let z = leb-false b 64 q in
+            let w = width-le familyOf in
+            let e =
+            top-behind 64 5 0 backOf (p .local) back-octets ol (omega arith)
+            (λ k l. local-same k (omega arith) ∙ ap (λ (j : ℕ). bit (p .local) j) (sym (zero-add k))) in
+            rw q
+            (both-true _ _ (eq-eqb _ _ (sym (div-one (get64 backOf 5)) ∙ e ∙ div-one (get64 (p .local) 0)))
+            (eq-eqb _ _ (top-behind (b - 64) 13 8 backOf (p .local) back-octets ol (omega arith)
+            (λ k l.
+            let v : 8 * 13 + k ≡ 40 + (64 + k) = omega arith in
+            ap (λ (j : ℕ). bit backOf j) v ∙ local-same (64 + k) (omega arith)))))
+
     same-bits : (k : ℕ) → k < fixed familyOf (bitsAt t n i) → bit address k ≡ bit (p .remote) k
     unfolding frontAt
     same-bits k h =
         ap (λ (s : List ℕ). bit s k) (sym front-remote)
         ∙ remote-bits (frontAt t n i) (backAt t n i) p m k h
+
+    -- the bits of the slot, which begin behind its first byte
+    slot-same : (k : ℕ) → k < 8 * (width familyOf - 1) → k < fixed familyOf (bitsAt t n i) → bit slotOf (8 + k) ≡ bit (p .remote) k
+    slot-same k h l = sym (bit-drop 1 slotOf k) ∙ slot-bit k h ∙ same-bits k l
 
     front-needed : nearFront slotOf (bitsAt t n i) (get64 (p .remote) 0) ≡ true
     unfolding nearFront
@@ -355,46 +460,69 @@ module _ (t : List ℕ) (n i : ℕ) (o : Octets t) (room : preparedBytes n ≤ l
         let q = near-most (getD slotOf 0 0) (bitsAt t n i) in
         let u = q .0 in
         let v = q .1 in
-        let e : get64 slotOf 1 / 2 ^ (64 - b) ≡ get64 (p .remote) 0 / 2 ^ (64 - b) =
-        ap (λ (x : ℕ). x / 2 ^ (64 - b)) (sym (drop-word slotOf))
-        ∙ top-same b (drop 1 slotOf) (p .remote) (drop-octets 1 slotOf slot-octets) op (q .2)
-        (λ k l. slot-bit k (omega arith) ∙ same-bits k (omega arith)) in
-        if-zero (eqb b 0) (eq-eqb _ _ e)
+        eq-eqb _ _ (top-behind b 1 0 slotOf (p .remote) slot-octets op (q .2)
+        (λ k l. slot-same k (omega arith) (omega arith) ∙ ap (λ (j : ℕ). bit (p .remote) j) (sym (zero-add k))))
+
+    -- the bytes before the last one, of IPv6
+    rest-needed : eqb (getD slotOf 0 0) 4 ≡ false → nearRest slotOf (bitsAt t n i) (get64 (p .remote) 7) ≡ true
+    unfolding nearRest
+    rest-needed e = go (leb (bitsAt t n i) 64) refl
       where
-        if-zero : (c : Bool) {d : Bool} → d ≡ true → cond c true d ≡ true
-        if-zero true h = refl
-        if-zero false h = h
+        go : (b : Bool) → leb (bitsAt t n i) 64 ≡ b
+            → (leb (bitsAt t n i) 64 || top (min (bitsAt t n i) 120 - 56) (get64 slotOf 8) (get64 (p .remote) 7)) ≡ true
+        go true q = rw q
+        go false q =
+            let w = long-wide (getD slotOf 0 0) e in
+            let z = leb-false (bitsAt t n i) 64 q in
+            rw q
+            (eq-eqb _ _ (top-behind (min (bitsAt t n i) 120 - 56) 8 7 slotOf (p .remote) slot-octets op (omega arith)
+            (λ k l.
+            let v : 8 * 8 + k ≡ 8 + (56 + k) = omega arith in
+            ap (λ (j : ℕ). bit slotOf j) v ∙ slot-same (56 + k) (omega arith) (omega arith))))
 
-    -- the bytes before the last one, where the prefix covers them
-    low-same : 120 ≤ 8 * (width familyOf - 1) → 120 ≤ bitsAt t n i → get64 slotOf 8 ≡ get64 (p .remote) 7
-    low-same w h =
-        let e : (j : ℕ) → j < 15 → getD slotOf (1 + j) 0 ≡ getD (p .remote) j 0 =
-        λ j l.
-        sym (getD-drop 1 slotOf j 0)
-        ∙ bytes-same 15 (drop 1 slotOf) (p .remote) (drop-octets 1 slotOf slot-octets) op
-        (λ k x. slot-bit k (omega arith) ∙ same-bits k (omega arith)) j l in
-        let a = e 7 (omega arith) in
-        let b = e 8 (omega arith) in
-        let c = e 9 (omega arith) in
-        let d = e 10 (omega arith) in
-        let f = e 11 (omega arith) in
-        let g = e 12 (omega arith) in
-        let q = e 13 (omega arith) in
-        let r = e 14 (omega arith) in
-        λ k. be32 (a k) (b k) (c k) (d k) * 2 ^ 32 + be32 (f k) (g k) (q k) (r k)
+    -- the last byte of IPv4
+    abbrev x : ℕ
+    x = lastByte (markAt t n i) (getD slotOf 1 0) (getD slotOf 2 0) (getD slotOf 3 0)
 
-    back-needed : nearBack slotOf (bitsAt t n i) (get64 (p .remote) 7) ≡ true
-    back-needed = go (eqb (getD slotOf 0 0) 4) refl (ltb (bitsAt t n i) 120) refl
+    abbrev y : ℕ
+    y = get64 (p .remote) 0 / 2 ^ 32 % 256
+
+    last-needed : eqb (getD slotOf 0 0) 4 ≡ true → nearLast x y (bitsAt t n i) ≡ true
+    unfolding nearLast
+    last-needed e = go (leb (bitsAt t n i) 24) refl
       where
-        go : (b : Bool) → eqb (getD slotOf 0 0) 4 ≡ b → (c : Bool) → ltb (bitsAt t n i) 120 ≡ c
-            → nearBack slotOf (bitsAt t n i) (get64 (p .remote) 7) ≡ true
-        go true e c d = rw e
-        go false e true d = rw e (rw d)
-        go false e false d = rw e (rw d (eq-eqb _ _ (low-same (long-wide (getD slotOf 0 0) e) (ltb-false _ _ d))))
+        go : (b : Bool) → leb (bitsAt t n i) 24 ≡ b
+            → (leb (bitsAt t n i) 24 || eqb (x / 2 ^ (32 - min (bitsAt t n i) 32)) (y / 2 ^ (32 - min (bitsAt t n i) 32))) ≡ true
+        go true q = rw q
+        go false q =
+            let z = leb-false (bitsAt t n i) 24 q in
+            let g = four-wide (getD slotOf 0 0) e in
+            let a = address-last e in
+            let v : 8 - (min (bitsAt t n i) 32 - 24) ≡ 32 - min (bitsAt t n i) 32 = omega arith in
+            rw q
+            (eq-eqb _ _
+            (ap (λ (c : ℕ). x / 2 ^ c) (sym v)
+            ∙ high-same (min (bitsAt t n i) 32 - 24) x y (omega arith) (omega arith) (omega arith)
+            (λ k l.
+            ap (λ (c : ℕ). c / 2 ^ (7 - k) % 2) (sym a)
+            ∙ bit-of address 3 k (omega arith)
+            ∙ same-bits (8 * 3 + k) (omega arith)
+            ∙ sym (bit-of (p .remote) 3 k (omega arith))
+            ∙ ap (λ (c : ℕ). c / 2 ^ (7 - k) % 2) (sym (byte-of (p .remote) op 3 (omega arith))))
+            ∙ ap (λ (c : ℕ). y / 2 ^ c) v))
 
-    near-needed : near slotOf (bitsAt t n i) (get64 (p .remote) 0) (get64 (p .remote) 7) ≡ true
-    unfolding near
-    near-needed = both-true _ _ front-needed back-needed
+    back-needed : nearBack slotOf (bitsAt t n i) (markAt t n i) (get64 (p .remote) 0) (get64 (p .remote) 7) ≡ true
+    unfolding nearBack
+    back-needed = go (eqb (getD slotOf 0 0) 4) refl
+      where
+        go : (b : Bool) → eqb (getD slotOf 0 0) 4 ≡ b
+            → cond (eqb (getD slotOf 0 0) 4) (nearLast x y (bitsAt t n i)) (nearRest slotOf (bitsAt t n i) (get64 (p .remote) 7)) ≡ true
+        go true e = rw e (last-needed e)
+        go false e = rw e (rest-needed e)
+
+    alike-needed : alike t n (get64 (p .remote) 0) (get64 (p .remote) 7) (get64 (p .local) 0) (get64 (p .local) 8) i ≡ true
+    unfolding alike
+    alike-needed = both-true _ _ back-needed local-needed
 
     family-is : familyOf ≡ p .family
     unfolding frontAt
@@ -424,35 +552,41 @@ module _ (t : List ℕ) (n i : ℕ) (o : Octets t) (room : preparedBytes n ≤ l
         go true e = rw e
         go false e = rw e (eq-eqb _ _ (mark-same (ltb-false _ _ e)))
 
-    matches-close : close t n (8 * width (p .family)) (markOf (p .family) (p .remote)) (p .«remote_port») (p .«local_port»)
-        (get64 (p .remote) 0) (get64 (p .remote) 7) i
+    nearby-needed : nearby t n (8 * width (p .family)) (markOf (p .family) (p .remote)) (p .«remote_port») (p .«local_port»)
+        (get64 (p .remote) 0) i
         ≡ true
-    unfolding close
-    matches-close =
+    unfolding nearby
+    nearby-needed =
         let f = frontAt t n i in
         let r = backAt t n i in
         both-true _ _ possible-needed
         (both-true _ _ (sym (front-remote-in (p .«remote_port»)) ∙ remote-in f r p m)
-        (both-true _ _ (sym (front-local-in (p .«local_port»)) ∙ local-in f r p m) near-needed))
+        (both-true _ _ (sym (front-local-in (p .«local_port»)) ∙ local-in f r p m) front-needed))
 
-  pub candidate-needed : (by : By) (p : Pair) → Octets (p .remote) → length (p .remote) ≡ 16 → hit by p t n i ≡ true
+    matches-close : close t n (8 * width (p .family)) (markOf (p .family) (p .remote)) (p .«remote_port») (p .«local_port»)
+        (get64 (p .remote) 0) (get64 (p .remote) 7) (get64 (p .local) 0) (get64 (p .local) 8) i
+        ≡ true
+    unfolding close
+    matches-close = both-true _ _ nearby-needed alike-needed
+
+  pub candidate-needed : (by : By) (p : Pair) → Octets (p .remote) → length (p .remote) ≡ 16 → Octets (p .local) → hit by p t n i ≡ true
       → candidate by t n (8 * width (p .family)) (markOf (p .family) (p .remote)) (p .«remote_port») (p .«local_port»)
-      (get64 (p .remote) 0) (get64 (p .remote) 7) i ≡ true
+      (get64 (p .remote) 0) (get64 (p .remote) 7) (get64 (p .local) 0) (get64 (p .local) 8) i ≡ true
   unfolding candidate hit
-  candidate-needed by p op lp q =
+  candidate-needed by p op lp ol q =
       let m = and-true (hasId by (frontIds (frontAt t n i))) (matches (cleanSelector (rawSelector (frontAt t n i) (backAt t n i))) p) q in
-      both-true _ _ (sym (front-id t n i by) ∙ m .0) (matches-close p (m .1) op lp)
+      both-true _ _ (sym (front-id t n i by) ∙ m .0) (matches-close p (m .1) op lp ol)
 
   -- what is no candidate does not answer
-  pub no-candidate : (by : By) (p : Pair) → Octets (p .remote) → length (p .remote) ≡ 16
+  pub no-candidate : (by : By) (p : Pair) → Octets (p .remote) → length (p .remote) ≡ 16 → Octets (p .local)
       → candidate by t n (8 * width (p .family)) (markOf (p .family) (p .remote)) (p .«remote_port») (p .«local_port»)
-      (get64 (p .remote) 0) (get64 (p .remote) 7) i ≡ false
+      (get64 (p .remote) 0) (get64 (p .remote) 7) (get64 (p .local) 0) (get64 (p .local) 8) i ≡ false
       → hit by p t n i ≡ false
-  no-candidate by p op lp c = go (hit by p t n i) refl
+  no-candidate by p op lp ol c = go (hit by p t n i) refl
     where
       go : (a : Bool) → hit by p t n i ≡ a → hit by p t n i ≡ false
       go false q = q
-      go true q = let z : _≡_ {A = ℕ} 0 1 = cc (sym c ∙ candidate-needed by p op lp q) in absurd (omega arith)
+      go true q = let z : _≡_ {A = ℕ} 0 1 = cc (sym c ∙ candidate-needed by p op lp ol q) in absurd (omega arith)
 
 -- What a search finds.
 

@@ -1,16 +1,17 @@
 // A prepared table, read: its counts and length, and the searches. Any bytes may come as one.
 ghost use mathlib.Core.Bool.{cond};
 ghost use mathlib.Core.Path.{_≡_};
-ghost use Prim.Native.Nat.{_+_, _*_, _≤_, _<_};
+ghost use Prim.Native.Nat.{_+_, _*_, _/_, _%_, _^_, _≤_, _<_};
 ghost use lib.Dec.{eqb};
 ghost use lib.ListN.{length};
 ghost use Rattle.octets.specs.Octets.{get16};
 ghost use Rattle.keys.specs.Match.{matches as matchesOf};
 ghost use Rattle.keys.specs.Table.{found, answers};
 ghost use Rattle.keys.specs.declared.table.By.the-variants.{Any};
-ghost use Rattle.prepared.specs.Prepared.{preparedBytes, fits as fitsOf, cleanSelector, rawSelector, markAt, frontAt, backAt};
+ghost use Rattle.prepared.specs.Prepared.{preparedBytes, fits as fitsOf, cleanSelector, rawSelector, frontAt, backAt};
 ghost use Rattle.prepared.specs.Prepared.{storedAt, storedFrom, keyPart, md5Part};
-ghost use Rattle.prepared.specs.Scan.{get64, nearFront, near as nearOf, portIn, close, named, candidate, hit as hitOf, First, Asks};
+ghost use Rattle.prepared.specs.Scan.{get64, top, nearFront, lastByte, nearLast, nearRest, nearBack, nearLocal, alike};
+ghost use Rattle.prepared.specs.Scan.{portIn, nearby, close, named, candidate, hit as hitOf, First, Asks};
 ghost use Rattle.prepared.specs.Scan.{possible, NoneClose, NoneNamed};
 use crate::clean::entry_of;
 use crate::clean::family_of;
@@ -55,7 +56,19 @@ fn port_in(s: &[u8], at: usize, port: u16) -> bool
     port <= high
 }
 
-// How many first bits of an address are compared here: those of the first three bytes of IPv4, of the first eight of IPv6.
+// Whether the first n bits of two numbers of 64 bits agree.
+fn top_bits(n: u8, x: u64, y: u64) -> bool
+    requires { ⌜ n ≤ 64 ⌝ }
+    ensures { λ r. ⌜ r ≡ top n x y ⌝ }
+{
+    if n == 0 {
+        return true;
+    }
+    let k = 64 - n;
+    (x >> k) == (y >> k)
+}
+
+// How many first bits of a remote address are compared first: those of the first three bytes of IPv4, of the first eight of IPv6.
 fn most_bits(family: u8) -> u8
     ensures { λ r. ⌜ r ≡ cond (eqb family 4) 24 64 ⌝ }
 {
@@ -68,44 +81,102 @@ fn near_front(s: &[u8], bits: u8, high: u64) -> bool
     ensures { λ r. ⌜ r ≡ nearFront (now (s .entry)) bits high ⌝ }
 {
     let n = crate::clean::least(bits, most_bits(s[0]));
-    if n == 0 {
-        return true;
-    }
-    let k = 64 - n;
-    (load64(s, 1) >> k) == (high >> k)
+    top_bits(n, load64(s, 1), high)
 }
 
-// And, of IPv6, whether the eight bytes before its last one make the other number, where the prefix covers them: the hosts of one /64
-// differ only there and in the last byte.
-fn near(s: &[u8], bits: u8, high: u64, low: u64) -> bool
-    requires { ⌜ length (now s) ≡ 24 ⌝ }
-    ensures { λ r. ⌜ r ≡ nearOf (now (s .entry)) bits high low ⌝ }
+// The last byte of an IPv4 address, from its mark and the three before it.
+fn last_byte(m: u8, a: u8, b: u8, c: u8) -> u8
+    ensures { λ r. ⌜ r ≡ lastByte m a b c ⌝ }
 {
-    if !near_front(s, bits, high) {
+    let sum = (a as u16 + b as u16 + c as u16) % 256;
+    ((m as u16 + 256 - sum) % 256) as u8
+}
+
+// The fourth byte of an address whose first eight bytes make the number.
+fn fourth_byte(high: u64) -> u8
+    ensures { λ r. ⌜ r ≡ high / 2 ^ 32 % 256 ⌝ }
+{
+    ((high >> 32) % 256) as u8
+}
+
+// Whether the last bytes of two IPv4 addresses agree in the bits that a prefix covers.
+fn near_last(x: u8, y: u8, bits: u8) -> bool
+    ensures { λ r. ⌜ r ≡ nearLast x y bits ⌝ }
+{
+    if bits <= 24 {
+        return true;
+    }
+    let k = 32 - crate::clean::least(bits, 32);
+    (x >> k) == (y >> k)
+}
+
+// Whether, of IPv6, the eight bytes before the last one agree with the number in the bits that a prefix covers: the hosts of one /64
+// differ only there and in the last byte.
+fn near_rest(s: &[u8], bits: u8, low: u64) -> bool
+    requires { ⌜ length (now s) ≡ 24 ⌝ }
+    ensures { λ r. ⌜ r ≡ nearRest (now (s .entry)) bits low ⌝ }
+{
+    if bits <= 64 {
+        return true;
+    }
+    let n = crate::clean::least(bits, 120) - 56;
+    top_bits(n, load64(s, 8), low)
+}
+
+// Whether the remote address of a slot with this mark agrees, behind its first bits, in the bits that its prefix covers; of IPv6 without
+// its last byte.
+fn near_back(s: &[u8], bits: u8, m: u8, high: u64, low: u64) -> bool
+    requires { ⌜ length (now s) ≡ 24 ⌝ }
+    ensures { λ r. ⌜ r ≡ nearBack (now (s .entry)) bits m high low ⌝ }
+{
+    if s[0] == 4 {
+        return near_last(last_byte(m, s[1], s[2], s[3]), fourth_byte(high), bits);
+    }
+    near_rest(s, bits, low)
+}
+
+// Whether the local address of a back agrees with the one whose two halves make the numbers, in the bits that its prefix covers.
+fn near_local(family: u8, r: &[u8], upper: u64, lower: u64) -> bool
+    requires { ⌜ 21 ≤ length (now r) ⌝ }
+    ensures { λ b. ⌜ b ≡ nearLocal family (now (r .entry)) upper lower ⌝ }
+{
+    let n = crate::clean::fixed_bits(family_of(family), r[4]);
+    if n <= 64 {
+        return top_bits(n, load64(r, 5), upper);
+    }
+    if load64(r, 5) != upper {
         return false;
     }
-    if s[0] == 4 {
-        return true;
-    }
-    if bits < 120 {
-        return true;
-    }
-    load64(s, 8) == low
+    top_bits(n - 64, load64(r, 13), lower)
 }
 
-// Whether entry i of n can match by its prefix length, given, and its mark.
-fn can_match(t: &[u8], n: usize, i: usize, bits: u8, limit: u8, mark: u8) -> bool
+// Whether the addresses of entry i of n agree, the remote one behind its first bits. Few entries come so far, so this is apart from the
+// loop, with few arguments.
+fn alike_at(t: &[u8], n: usize, i: usize, high: u64, low: u64, upper: u64, lower: u64) -> bool
     requires { ⌜ (preparedBytes n ≤ length (now t)) × (i < n) ⌝ }
-    ensures { λ b. ⌜ b ≡ possible limit mark bits (markAt (now (t .entry)) n i) ⌝ }
+    ensures { λ b. ⌜ b ≡ alike (now (t .entry)) n high low upper lower i ⌝ }
+{
+    let at = 4 + 4 * n + 24 * i;
+    let s = &t[at..at + 24];
+    if !near_back(s, t[4 + 2 * n + i], t[4 + 3 * n + i], high, low) {
+        return false;
+    }
+    let r = 4 + 28 * n + 101 * i;
+    near_local(s[0], &t[r..r + 101], upper, lower)
+}
+
+// Whether an entry can match by its prefix length and mark.
+fn can_match(bits: u8, m: u8, limit: u8, mark: u8) -> bool
+    ensures { λ b. ⌜ b ≡ possible limit mark bits m ⌝ }
 {
     if bits < limit {
         return true;
     }
-    t[4 + 3 * n + i] == mark
+    m == mark
 }
 
-// Whether entry i of n can match: by its prefix length and mark, its ports, and the bytes of its remote address that `near` takes.
-fn close_at(
+// Whether entry i of n can match: by its prefix length and mark, its ports, and the first bits of its remote address.
+fn nearby_at(
     t: &[u8],
     n: usize,
     i: usize,
@@ -114,13 +185,13 @@ fn close_at(
     remote: u16,
     local: u16,
     high: u64,
-    low: u64,
 ) -> bool
     requires { ⌜ (preparedBytes n ≤ length (now t)) × (i < n) ⌝ }
-    ensures { λ b. ⌜ b ≡ close (now (t .entry)) n limit mark remote local high low i ⌝ }
+    ensures { λ b. ⌜ b ≡ nearby (now (t .entry)) n limit mark remote local high i ⌝ }
 {
     let bits = t[4 + 2 * n + i];
-    if !can_match(t, n, i, bits, limit, mark) {
+    let m = t[4 + 3 * n + i];
+    if !can_match(bits, m, limit, mark) {
         return false;
     }
     let at = 4 + 4 * n + 24 * i;
@@ -131,10 +202,34 @@ fn close_at(
     if !port_in(s, 20, local) {
         return false;
     }
-    near(s, bits, high, low)
+    near_front(s, bits, high)
 }
 
-// The same where the entry has the ID in the column that begins at `ids`, which is looked at first.
+// The same, and by the rest of its addresses.
+fn close_at(
+    t: &[u8],
+    n: usize,
+    i: usize,
+    limit: u8,
+    mark: u8,
+    remote: u16,
+    local: u16,
+    high: u64,
+    low: u64,
+    upper: u64,
+    lower: u64,
+) -> bool
+    requires { ⌜ (preparedBytes n ≤ length (now t)) × (i < n) ⌝ }
+    ensures { λ b. ⌜ b ≡ close (now (t .entry)) n limit mark remote local high low upper lower i ⌝ }
+{
+    if !nearby_at(t, n, i, limit, mark, remote, local, high) {
+        return false;
+    }
+    alike_at(t, n, i, high, low, upper, lower)
+}
+
+// The same where the entry has the ID in the column that begins at `ids`, which is looked at first. `close_at` is not called: `alike_at`,
+// called from two places, stays apart from both loops.
 fn named_at(
     t: &[u8],
     n: usize,
@@ -147,14 +242,19 @@ fn named_at(
     local: u16,
     high: u64,
     low: u64,
+    upper: u64,
+    lower: u64,
 ) -> bool
     requires { ⌜ (preparedBytes n ≤ length (now t)) × (i < n) × (ids ≤ 4 + n) ⌝ }
-    ensures { λ b. ⌜ b ≡ named (now (t .entry)) n ids id limit mark remote local high low i ⌝ }
+    ensures { λ b. ⌜ b ≡ named (now (t .entry)) n ids id limit mark remote local high low upper lower i ⌝ }
 {
     if t[ids + i] != id {
         return false;
     }
-    close_at(t, n, i, limit, mark, remote, local, high, low)
+    if !nearby_at(t, n, i, limit, mark, remote, local, high) {
+        return false;
+    }
+    alike_at(t, n, i, high, low, upper, lower)
 }
 
 // The next entry from `from` on and before `end` that has the ID and is close; `end` if there is none. No struct is passed here: the
@@ -172,13 +272,29 @@ fn scan_named(
     local: u16,
     high: u64,
     low: u64,
+    upper: u64,
+    lower: u64,
 ) -> usize
     requires { ⌜ (preparedBytes n ≤ length (now t)) × (from ≤ end) × (end ≤ n) × (ids ≤ 4 + n) ⌝ }
-    ensures { λ r. ⌜ First (named (now (t .entry)) n ids id limit mark remote local high low) from end r ⌝ }
+    ensures { λ r. ⌜ First (named (now (t .entry)) n ids id limit mark remote local high low upper lower) from end r ⌝ }
 {
     let mut i = from;
     while i < end {
-        if named_at(t, n, i, ids, id, limit, mark, remote, local, high, low) {
+        if named_at(
+            t,
+            n,
+            i,
+            ids,
+            id,
+            limit,
+            mark,
+            remote,
+            local,
+            high,
+            low,
+            upper,
+            lower,
+        ) {
             return i;
         }
         i += 1;
@@ -198,13 +314,15 @@ fn scan_close(
     local: u16,
     high: u64,
     low: u64,
+    upper: u64,
+    lower: u64,
 ) -> usize
     requires { ⌜ (preparedBytes n ≤ length (now t)) × (from ≤ end) × (end ≤ n) ⌝ }
-    ensures { λ r. ⌜ First (close (now (t .entry)) n limit mark remote local high low) from end r ⌝ }
+    ensures { λ r. ⌜ First (close (now (t .entry)) n limit mark remote local high low upper lower) from end r ⌝ }
 {
     let mut i = from;
     while i < end {
-        if close_at(t, n, i, limit, mark, remote, local, high, low) {
+        if close_at(t, n, i, limit, mark, remote, local, high, low, upper, lower) {
             return i;
         }
         i += 1;
@@ -271,9 +389,11 @@ fn named_in_block(
     local: u16,
     high: u64,
     low: u64,
+    upper: u64,
+    lower: u64,
 ) -> usize
     requires { ⌜ (preparedBytes n ≤ length (now t)) × (i + 32 ≤ n) × (ids ≤ 4 + n) ⌝ }
-    ensures { λ r. ⌜ First (named (now (t .entry)) n ids id limit mark remote local high low) i (i + 32) r ⌝ }
+    ensures { λ r. ⌜ First (named (now (t .entry)) n ids id limit mark remote local high low upper lower) i (i + 32) r ⌝ }
 {
     let bits = 4 + 2 * n + i;
     let marks = 4 + 3 * n + i;
@@ -288,7 +408,22 @@ fn named_in_block(
     ) {
         return end;
     }
-    scan_named(t, n, i, end, ids, id, limit, mark, remote, local, high, low)
+    scan_named(
+        t,
+        n,
+        i,
+        end,
+        ids,
+        id,
+        limit,
+        mark,
+        remote,
+        local,
+        high,
+        low,
+        upper,
+        lower,
+    )
 }
 
 // `scan_named`, a block at a time.
@@ -305,20 +440,51 @@ fn next_named(
     local: u16,
     high: u64,
     low: u64,
+    upper: u64,
+    lower: u64,
 ) -> usize
     requires { ⌜ (preparedBytes n ≤ length (now t)) × (from ≤ end) × (end ≤ n) × (ids ≤ 4 + n) ⌝ }
-    ensures { λ r. ⌜ First (named (now (t .entry)) n ids id limit mark remote local high low) from end r ⌝ }
+    ensures { λ r. ⌜ First (named (now (t .entry)) n ids id limit mark remote local high low upper lower) from end r ⌝ }
 {
     let mut i = from;
     while BLOCK <= end - i {
         let next = i + BLOCK;
-        let r = named_in_block(t, n, i, ids, id, limit, mark, remote, local, high, low);
+        let r = named_in_block(
+            t,
+            n,
+            i,
+            ids,
+            id,
+            limit,
+            mark,
+            remote,
+            local,
+            high,
+            low,
+            upper,
+            lower,
+        );
         if r < next {
             return r;
         }
         i = next;
     }
-    scan_named(t, n, i, end, ids, id, limit, mark, remote, local, high, low)
+    scan_named(
+        t,
+        n,
+        i,
+        end,
+        ids,
+        id,
+        limit,
+        mark,
+        remote,
+        local,
+        high,
+        low,
+        upper,
+        lower,
+    )
 }
 
 // `scan_close` of a block.
@@ -332,9 +498,11 @@ fn close_in_block(
     local: u16,
     high: u64,
     low: u64,
+    upper: u64,
+    lower: u64,
 ) -> usize
     requires { ⌜ (preparedBytes n ≤ length (now t)) × (i + 32 ≤ n) ⌝ }
-    ensures { λ r. ⌜ First (close (now (t .entry)) n limit mark remote local high low) i (i + 32) r ⌝ }
+    ensures { λ r. ⌜ First (close (now (t .entry)) n limit mark remote local high low upper lower) i (i + 32) r ⌝ }
 {
     let bits = 4 + 2 * n + i;
     let marks = 4 + 3 * n + i;
@@ -347,7 +515,20 @@ fn close_in_block(
     ) {
         return end;
     }
-    scan_close(t, n, i, end, limit, mark, remote, local, high, low)
+    scan_close(
+        t,
+        n,
+        i,
+        end,
+        limit,
+        mark,
+        remote,
+        local,
+        high,
+        low,
+        upper,
+        lower,
+    )
 }
 
 // `scan_close`, a block at a time.
@@ -362,20 +543,35 @@ fn next_close(
     local: u16,
     high: u64,
     low: u64,
+    upper: u64,
+    lower: u64,
 ) -> usize
     requires { ⌜ (preparedBytes n ≤ length (now t)) × (from ≤ end) × (end ≤ n) ⌝ }
-    ensures { λ r. ⌜ First (close (now (t .entry)) n limit mark remote local high low) from end r ⌝ }
+    ensures { λ r. ⌜ First (close (now (t .entry)) n limit mark remote local high low upper lower) from end r ⌝ }
 {
     let mut i = from;
     while BLOCK <= end - i {
         let next = i + BLOCK;
-        let r = close_in_block(t, n, i, limit, mark, remote, local, high, low);
+        let r = close_in_block(t, n, i, limit, mark, remote, local, high, low, upper, lower);
         if r < next {
             return r;
         }
         i = next;
     }
-    scan_close(t, n, i, end, limit, mark, remote, local, high, low)
+    scan_close(
+        t,
+        n,
+        i,
+        end,
+        limit,
+        mark,
+        remote,
+        local,
+        high,
+        low,
+        upper,
+        lower,
+    )
 }
 
 fn next(
@@ -390,12 +586,27 @@ fn next(
     local: u16,
     high: u64,
     low: u64,
+    upper: u64,
+    lower: u64,
 ) -> usize
     requires { ⌜ (preparedBytes n ≤ length (now t)) × (from ≤ end) × (end ≤ n) ⌝ }
-    ensures { λ r. ⌜ First (candidate by (now (t .entry)) n limit mark remote local high low) from end r ⌝ }
+    ensures { λ r. ⌜ First (candidate by (now (t .entry)) n limit mark remote local high low upper lower) from end r ⌝ }
 {
     match by {
-        By::Any => next_close(t, n, from, end, limit, mark, remote, local, high, low),
+        By::Any => next_close(
+            t,
+            n,
+            from,
+            end,
+            limit,
+            mark,
+            remote,
+            local,
+            high,
+            low,
+            upper,
+            lower,
+        ),
         By::Send(id) => next_named(
             t,
             n,
@@ -409,6 +620,8 @@ fn next(
             local,
             high,
             low,
+            upper,
+            lower,
         ),
         By::Recv(id) => next_named(
             t,
@@ -423,6 +636,8 @@ fn next(
             local,
             high,
             low,
+            upper,
+            lower,
         ),
     }
 }
@@ -472,6 +687,9 @@ fn search(t: &[u8], n: usize, first: usize, end: usize, by: By, pair: Pair) -> u
     let mark = mark_of(pair.family, a);
     let high = load64(&a, 0);
     let low = load64(&a, 7);
+    let b = pair.local;
+    let upper = load64(&b, 0);
+    let lower = load64(&b, 8);
     let mut i = next(
         t,
         n,
@@ -484,6 +702,8 @@ fn search(t: &[u8], n: usize, first: usize, end: usize, by: By, pair: Pair) -> u
         pair.local_port,
         high,
         low,
+        upper,
+        lower,
     );
     while i < end {
         if matches_at(t, n, i, pair) {
@@ -501,6 +721,8 @@ fn search(t: &[u8], n: usize, first: usize, end: usize, by: By, pair: Pair) -> u
             pair.local_port,
             high,
             low,
+            upper,
+            lower,
         );
     }
     i

@@ -1,6 +1,4 @@
 -- The prefix length, then the mark.
-use borrow.Author.Needs.{needs}
-use Rattle.prepared.specs.Prepared.{markAt}
 use Rattle.prepared.proofs.ScanSteps.{short, long}
 use Rattle.prepared.proofs.stored.can_match.Statement.{statement}
 use Rattle.prepared.proofs.stored.can_match.Tie as tie
@@ -8,20 +6,12 @@ use Rattle.prepared.proofs.stored.can_match.Tie as tie
 returns : tie.Need-returns
 returns c =
     let a = c .before .args in
-    short (a .limit) (a .mark) (a .bits) (markAt (a .t .now) (a .n) (a .i)) (c .if1 .taken)
+    short (a .limit) (a .mark) (a .bits) (a .m) (c .if1 .taken)
 
 returns-2 : tie.Need-returns-2
 returns-2 c =
-    let a = c .before .before .args in
-    long (a .limit) (a .mark) (a .bits) (markAt (a .t .now) (a .n) (a .i)) (c .before .if1 .left)
+    let a = c .before .args in
+    long (a .limit) (a .mark) (a .bits) (a .m) (c .if1 .left)
 
 pub can-match-spec : {M : Type 1} → statement M
-can-match-spec =
-    tie.close
-    (tie.spec
-    returns
-    (λ c. search needs)
-    (λ c. search needs)
-    (λ c. search needs)
-    (λ c. search needs)
-    returns-2)
+can-match-spec = tie.close (tie.spec returns returns-2)

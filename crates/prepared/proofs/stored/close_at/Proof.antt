@@ -1,62 +1,23 @@
--- The tests of `close`, one after another.
+-- What is near, then the rest of the addresses.
 use borrow.Author.Needs.{needs}
 use borrow.Author.Tests.{not-true, not-false}
-use Rattle.prepared.proofs.ScanSteps.{close-cannot, close-no, close-not, close-near}
+use Rattle.prepared.proofs.ScanSteps.{close-not, close-alike}
 use Rattle.prepared.proofs.stored.close_at.Statement.{statement}
 use Rattle.prepared.proofs.stored.close_at.Tie as tie
 
 returns : tie.Need-returns
-returns c =
-    let a = c .before .before .before .before .args in
-    close-cannot (a .t .now) (a .n) (a .i) (a .limit) (a .mark) (a .remote) (a .local) (a .high) (a .low) _ (c .before .can-match .ensures)
-    (not-true _ (c .if1 .taken))
+returns c = close-not _ _ _ _ _ _ _ _ _ _ _ _ (c .before .nearby-at .ensures) (not-true _ (c .if1 .taken))
 
 returns-2 : tie.Need-returns-2
 returns-2 c =
-    let b = c .before .before .before in
-    let a = b .before .before .before .before .args in
-    close-no (a .t .now) (a .n) (a .i) (a .limit) (a .mark) (a .remote) (a .local) (a .high) (a .low) _ (b .before .can-match .ensures)
-    (not-false _ (b .if1 .left)) _ (c .before .port-in .ensures) (not-true _ (c .if2 .taken))
-
-returns-3 : tie.Need-returns-3
-returns-3 c =
-    let d = c .before .before in
-    let b = d .before .before .before in
-    let a = b .before .before .before .before .args in
-    close-not (a .t .now) (a .n) (a .i) (a .limit) (a .mark) (a .remote) (a .local) (a .high) (a .low) _ (b .before .can-match .ensures)
-    (not-false _ (b .if1 .left)) _ (d .before .port-in .ensures) (not-false _ (d .if2 .left))
-    _ (c .before .port-in2 .ensures) (not-true _ (c .if3 .taken))
-
-returns-4 : tie.Need-returns-4
-returns-4 c =
-    let d = c .before .before .before in
-    let b = d .before .before .before in
-    let a = b .before .before .before .before .args in
-    close-near (a .t .now) (a .n) (a .i) (a .limit) (a .mark) (a .remote) (a .local) (a .high) (a .low) _ (b .before .can-match .ensures)
-    (not-false _ (b .if1 .left)) _ (d .before .port-in .ensures) (not-false _ (d .if2 .left))
-    _ (c .before .before .port-in2 .ensures) (not-false _ (c .before .if3 .left)) _ (c .near .ensures)
+    let b = c .before in
+    close-alike _ _ _ _ _ _ _ _ _ _ _ _ (b .before .nearby-at .ensures) (not-false _ (b .if1 .left)) _ (c .alike-at .ensures)
 
 pub close-at-spec : {M : Type 1} → statement M
 close-at-spec =
     tie.close
     (tie.spec
-    (λ c. search needs)
-    (λ c. search needs)
-    (λ c. search needs)
-    (λ c. search needs)
     (λ c κs. search needs)
     returns
-    (λ c. search needs)
-    (λ c. search needs)
-    (λ c. search needs)
-    (λ c. search needs)
-    (λ c. search needs)
-    (λ c. search needs)
-    (λ c. search needs)
-    (λ c. search needs)
     (λ c κs. search needs)
-    returns-2
-    (λ c κs. search needs)
-    returns-3
-    (λ c κs. search needs)
-    returns-4)
+    returns-2)

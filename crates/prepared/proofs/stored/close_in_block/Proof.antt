@@ -8,7 +8,7 @@ use Rattle.prepared.proofs.stored.close_in_block.Tie as tie
 returns : tie.Need-returns
 returns c =
     let a = c .before .before .before .before .before .args in
-    none-close (a .t .now) (a .n) (a .i) (a .limit) (a .mark) (a .remote) (a .local) (a .high) (a .low) _
+    none-close (a .t .now) (a .n) (a .i) (a .limit) (a .mark) (a .remote) (a .local) (a .high) (a .low) (a .upper) (a .lower) _
     (c .before .block-close .ensures)
     (not-true _ (c .if1 .taken))
 

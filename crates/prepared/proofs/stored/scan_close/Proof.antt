@@ -8,10 +8,10 @@ use Rattle.prepared.proofs.stored.scan_close.Statement.{statement}
 use Rattle.prepared.proofs.stored.scan_close.Tie as tie
 
 abbrev Inv-loop : tie.InvT-loop
-Inv-loop t n from end limit mark remote local high low i₀ i = Passed (close t n limit mark remote local high low) from end i
+Inv-loop t n from end limit mark remote local high low upper lower i₀ i = Passed (close t n limit mark remote local high low upper lower) from end i
 
 abbrev μ-loop : tie.MeasureT-loop
-μ-loop t n from end limit mark remote local high low i₀ i = end - i
+μ-loop t n from end limit mark remote local high low upper lower i₀ i = end - i
 
 pub scan-close-spec : {M : Type 1} → statement M
 scan-close-spec =
