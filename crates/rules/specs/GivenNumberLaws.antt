@@ -24,7 +24,7 @@ use Rattle.keys.specs.MatchLaws.{and-true}
 use Rattle.keys.specs.PlaceLaws.{at-below}
 use Rattle.tables.specs.declared.Admitted.{Admitted}
 use Rattle.tables.specs.declared.Admitted.the-variants.{Valid, Refused}
-use Rattle.tables.specs.Tables.{Tables, noIndex, maxEntries, crossing, besides, admitted, preparedTables, sendEntry, anyEntry, md5Entry}
+use Rattle.tables.specs.Tables.{Tables, noIndex, maxEntries, crossing, besides, admitted, tablesOf, sendEntry, anyEntry, md5Entry}
 use Rattle.tables.specs.ValidLaws.{prepared-answer}
 use Rattle.rules.specs.declared.Outcome.{Outcome}
 use Rattle.rules.specs.declared.Outcome.the-variants.{Good, Passed, Bad}
@@ -141,11 +141,11 @@ bytes-within k m = go (K.loaded Keys maxEntries k) (K.loaded Md5 maxEntries m) (
         rw (e, f, q) (refl, omega arith, omega (arith, z, w, v), λ y. absurd (omega (arith, y)))
     go (LoadedValid n) (LoadedValid j) false e f q = rw (e, f, q) (rw e at (loads-within Keys maxEntries k))
 
-prepared-within : (k m : List ℕ) → Bounded maxEntries (preparedTables k m .answer)
-prepared-within k m = go (prepared-answer k m)
+prepared-within : (form : ℕ) (k m : List ℕ) → (form ≡ 0 → ⊥) → Bounded maxEntries (tablesOf form k m .answer)
+prepared-within form k m z = go (prepared-answer form k m z)
   where
-    go : (preparedTables k m .answer ≡ Refused 44 noIndex) ⊎ ((n : ℕ) × (preparedTables k m .answer ≡ Valid n) × (n ≤ maxEntries))
-        → Bounded maxEntries (preparedTables k m .answer)
+    go : (tablesOf form k m .answer ≡ Refused 44 noIndex) ⊎ ((n : ℕ) × (tablesOf form k m .answer ≡ Valid n) × (n ≤ maxEntries))
+        → Bounded maxEntries (tablesOf form k m .answer)
     go (inl e) = rw e (refl, omega arith, omega arith, λ z. refl)
     go (inr (n, e, h)) = rw e h
 
@@ -154,7 +154,7 @@ checked-within b = go (eqb (b .form) 0) refl
   where
     go : (c : Bool) → eqb (b .form) 0 ≡ c → Bounded maxEntries (tables b .answer)
     go true q = rw q (bytes-within (b .keys) (b .md5))
-    go false q = rw q (prepared-within (b .keys) (b .md5))
+    go false q = prepared-within (b .form) (b .keys) (b .md5) (eqb-false (b .form) 0 q)
 
 -- What the tests of a call come to.
 

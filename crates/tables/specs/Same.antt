@@ -8,7 +8,7 @@ use lib.ListN.{length, take, drop}
 use Rattle.octets.specs.Each.{Octets}
 use Rattle.octets.specs.Octets.{get16}
 use Rattle.keys.specs.Entry.{entries}
-use Rattle.tables.specs.Tables.{noIndex, admitted, preparedTables, tablesOf}
+use Rattle.tables.specs.Tables.{noIndex, admitted, tablesOf}
 use Rattle.tables.specs.Preparing.{preparedOf, prepareAnswer, prepareOutput}
 use Rattle.tables.specs.declared.Index.{Index}
 use Rattle.tables.specs.declared.Admitted.the-variants.{Valid, Refused}
@@ -46,17 +46,29 @@ PrepareShort = (k m : List ℕ) (room n : ℕ) → admitted k m ≡ Valid n → 
 abbrev pub PrepareDone : Type 0
 PrepareDone = (k m : List ℕ) (room n : ℕ) → admitted k m ≡ Valid n → sizeOf k m ≤ room → prepareAnswer k m room ≡ Valid (sizeOf k m)
 
+-- Which form is which: 0 the tables' own bytes, any other value a prepared table.
+
+-- of form 0 the answer is that of Crossing.antt and Limit.antt, and the entries are those of the two buffers
+abbrev pub BytesAnswer : Type 0
+BytesAnswer = (k m : List ℕ)
+    → (tablesOf 0 k m .answer ≡ admitted k m) × (tablesOf 0 k m .keys ≡ entries k) × (tablesOf 0 k m .md5s ≡ entries m)
+
+-- all other values are one form
+abbrev pub OtherForms : Type 0
+OtherForms = (form other : ℕ) (b m : List ℕ) → (form ≡ 0 → ⊥) → (other ≡ 0 → ⊥) → tablesOf form b m ≡ tablesOf other b m
+
 -- 44, with the numerals, of any bytes: a count is above 1,024, the length is not that of the counts, or a second buffer is not empty
 abbrev pub Unfit : List ℕ → List ℕ → Type 0
 Unfit b m =
     (1024 < get16 b 0) ⊎ ((1024 < get16 b 2) ⊎ (((length b ≡ 4 + 129 * (get16 b 0 + get16 b 2)) → ⊥) ⊎ (0 < length m)))
 
+-- in every form but 0 it is given there, without an index, and nowhere else
 abbrev pub RefusedUnfit : Type 0
-RefusedUnfit = (b m : List ℕ) → preparedTables b m .answer ≡ Refused 44 noIndex → Unfit b m
+RefusedUnfit = (form : ℕ) (b m : List ℕ) → (form ≡ 0 → ⊥) → tablesOf form b m .answer ≡ Refused 44 noIndex → Unfit b m
 
 abbrev pub UnfitRefused : Type 0
-UnfitRefused = (b m : List ℕ) → Unfit b m → preparedTables b m .answer ≡ Refused 44 noIndex
+UnfitRefused = (form : ℕ) (b m : List ℕ) → (form ≡ 0 → ⊥) → Unfit b m → tablesOf form b m .answer ≡ Refused 44 noIndex
 
 -- the tables' own bytes are never given 44
 abbrev pub BytesNot44 : Type 0
-BytesNot44 = (k m : List ℕ) (i : Index) → admitted k m ≡ Refused 44 i → ⊥
+BytesNot44 = (k m : List ℕ) (i : Index) → tablesOf 0 k m .answer ≡ Refused 44 i → ⊥

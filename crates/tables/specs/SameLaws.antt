@@ -20,8 +20,9 @@ use Rattle.prepared.specs.Prepared.{keyCount, md5Count, fits, keyPart, md5Part}
 use Rattle.prepared.specs.ImageLaws.{prepared-read, image-length}
 use Rattle.tables.specs.Tables.{Tables, noIndex, maxEntries, crossing, besides, admitted, preparedAnswer, preparedTables, tablesOf, bytesTables}
 use Rattle.tables.specs.Preparing.{preparedOf, preparedLength, prepareAnswer, prepareOutput}
-use Rattle.tables.specs.ValidLaws.{admitted-taken, valid-count}
-use Rattle.tables.specs.Same.{PreparedSame, WrittenSame, sizeOf, PrepareWrites, PrepareRefuses, PrepareShort, PrepareDone, Unfit, RefusedUnfit, UnfitRefused, BytesNot44}
+use Rattle.tables.specs.ValidLaws.{admitted-taken, valid-count, other-form}
+use Rattle.tables.specs.Same.{PreparedSame, WrittenSame, sizeOf, PrepareWrites, PrepareRefuses, PrepareShort, PrepareDone, Unfit}
+use Rattle.tables.specs.Same.{BytesAnswer, OtherForms, RefusedUnfit, UnfitRefused, BytesNot44}
 use Rattle.tables.specs.declared.Index.{Index}
 use Rattle.tables.specs.declared.Admitted.{Admitted}
 use Rattle.tables.specs.declared.Admitted.the-variants.{Valid, Refused}
@@ -93,11 +94,19 @@ prepare-writes k m out n e = go (admitted k m) (leb (preparedLength k m) (length
           ap length w ∙ length-append s (drop (length s) out) ∙ (omega (arith, d, z, y, r)),
         )
 
+-- the forms
+
+pub bytes-answer : BytesAnswer
+bytes-answer k m = (refl, refl, refl)
+
+pub other-forms : OtherForms
+other-forms form other b m z w = other-form form b m z ∙ sym (other-form other b m w)
+
 -- 44
 
-pub refused-unfit : RefusedUnfit
+refused-of : (b m : List ℕ) → preparedTables b m .answer ≡ Refused 44 noIndex → Unfit b m
 unfolding preparedTables preparedAnswer fits
-refused-unfit b m e = go (leb (keyCount b) maxEntries) (leb (md5Count b) maxEntries) (eqb (length b) (4 + 129 * (keyCount b + md5Count b))) (eqb (length m) 0) refl refl refl refl
+refused-of b m e = go (leb (keyCount b) maxEntries) (leb (md5Count b) maxEntries) (eqb (length b) (4 + 129 * (keyCount b + md5Count b))) (eqb (length m) 0) refl refl refl refl
   where
     go : (x y z w : Bool) → leb (keyCount b) maxEntries ≡ x → leb (md5Count b) maxEntries ≡ y
         → eqb (length b) (4 + 129 * (keyCount b + md5Count b)) ≡ z → eqb (length m) 0 ≡ w → Unfit b m
@@ -111,13 +120,19 @@ and-false : (b : Bool) → (b && false) ≡ false
 and-false true = refl
 and-false false = refl
 
-pub unfit-refused : UnfitRefused
+pub refused-unfit : RefusedUnfit
+refused-unfit form b m z e = refused-of b m (sym (ap (λ (t : Tables). t .answer) (other-form form b m z)) ∙ e)
+
+unfit-of : (b m : List ℕ) → Unfit b m → preparedTables b m .answer ≡ Refused 44 noIndex
 unfolding preparedTables preparedAnswer fits
-unfit-refused b m (inl h) = rw (lt-leb _ _ h)
-unfit-refused b m (inr (inl h)) = rw (lt-leb _ _ h, and-false (leb (keyCount b) maxEntries))
-unfit-refused b m (inr (inr (inl h))) =
+unfit-of b m (inl h) = rw (lt-leb _ _ h)
+unfit-of b m (inr (inl h)) = rw (lt-leb _ _ h, and-false (leb (keyCount b) maxEntries))
+unfit-of b m (inr (inr (inl h))) =
     rw (ne-eqb _ _ h, and-false (leb (md5Count b) maxEntries), and-false (leb (keyCount b) maxEntries))
-unfit-refused b m (inr (inr (inr h))) = rw (ne-eqb (length m) 0 (λ e. omega arith), and-false (fits b))
+unfit-of b m (inr (inr (inr h))) = rw (ne-eqb (length m) 0 (λ e. omega arith), and-false (fits b))
+
+pub unfit-refused : UnfitRefused
+unfit-refused form b m z u = ap (λ (t : Tables). t .answer) (other-form form b m z) ∙ unfit-of b m u
 
 pub bytes-not-44 : BytesNot44
 unfolding admitted besides

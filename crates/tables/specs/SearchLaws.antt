@@ -21,8 +21,9 @@ use Rattle.keys.specs.declared.table.By.{By}
 use Rattle.keys.specs.declared.table.By.the-variants.{Any, Send, Recv}
 use Rattle.keys.specs.declared.table.Found.{Found}
 use Rattle.tables.specs.Tables.{Tables, sendEntry, recvEntry, anyEntry, md5Entry}
-pub use Rattle.tables.specs.Search.{hit, Named}
+pub use Rattle.tables.specs.Search.{hit, Named, Holder}
 use Rattle.tables.specs.Search.{AnswerUnique, SendFound, RecvFound, Md5Found, SendFirst, RecvFirst, Md5First, Uncrossed}
+use Rattle.tables.specs.Search.{SendHolder, RecvHolder, Md5Holder, SendNone, RecvNone, Md5None, AnyHolder, AnyOf}
 use Rattle.tables.specs.Valid.{NoClash, Digest16, Held, ValidTables}
 use Rattle.tables.specs.ValidLaws.{valid-key, valid-md5, valid-digest}
 
@@ -104,10 +105,6 @@ md5-first t p i e a m n =
 
 -- what a search finds, in any tables
 
-pub record Holder (l : List Entry) (p : Pair) (r : Found) : Type 0 where
-  pub place : At l (r .index) (r .entry)
-  pub matched : matches (r .entry .selector) p ≡ true
-
 found-holder : (l : List Entry) (by : By) (p : Pair) → found (answers by p) 0 l .there ≡ true
     → Holder l p (found (answers by p) 0 l) × (hasId by (found (answers by p) 0 l .entry .ids) ≡ true)
 found-holder l by p h =
@@ -117,36 +114,31 @@ found-holder l by p h =
     subst (λ (x : Found). Holder l p x × (hasId by (x .entry .ids) ≡ true)) (sym (r .4))
     (record { place = subst (λ (n : ℕ). At l n (r .1)) z (r .2); matched = a .1 }, a .0)
 
+pub send-holder : SendHolder
+send-holder t p id h = let r = found-holder (t .keys) (Send id) p h in (r .0, eqb-true _ _ (r .1))
+
+pub recv-holder : RecvHolder
+recv-holder t p id h = let r = found-holder (t .keys) (Recv id) p h in (r .0, eqb-true _ _ (r .1))
+
+pub md5-holder : Md5Holder
+md5-holder t p h = found-holder (t .md5s) Any p h .0
+
+-- nothing found: no entry of the table answers
+
+none-of : (l : List Entry) (by : By) (p : Pair) {i : ℕ} {e : Entry} → found (answers by p) 0 l .there ≡ false → At l i e
+    → answers by p e ≡ true → ⊥
+none-of l by p h a y = let z : _≡_ {A = ℕ} 0 1 = cc (found-none (answers by p) 0 h a, y) in omega arith
+
+pub send-none : SendNone
+send-none t p id i e h a m s = none-of (t .keys) (Send id) p h a (answers-of (Send id) p e (eq-eqb (e .ids .send) id s) m)
+
+pub recv-none : RecvNone
+recv-none t p id i e h a m s = none-of (t .keys) (Recv id) p h a (answers-of (Recv id) p e (eq-eqb (e .ids .recv) id s) m)
+
+pub md5-none : Md5None
+md5-none t p i e h a m = none-of (t .md5s) Any p h a (answers-of Any p e refl m)
+
 module _ (t : Tables) (p : Pair) where
-  pub send-holder : (id : ℕ) → sendEntry t p id .there ≡ true
-      → Holder (t .keys) p (sendEntry t p id) × (sendEntry t p id .entry .ids .send ≡ id)
-  send-holder id h = let r = found-holder (t .keys) (Send id) p h in (r .0, eqb-true _ _ (r .1))
-
-  pub recv-holder : (id : ℕ) → recvEntry t p id .there ≡ true
-      → Holder (t .keys) p (recvEntry t p id) × (recvEntry t p id .entry .ids .recv ≡ id)
-  recv-holder id h = let r = found-holder (t .keys) (Recv id) p h in (r .0, eqb-true _ _ (r .1))
-
-  pub md5-holder : md5Entry t p .there ≡ true → Holder (t .md5s) p (md5Entry t p)
-  md5-holder h = found-holder (t .md5s) Any p h .0
-
-  -- nothing found: no entry of the table matches the pair and has the ID
-  pub send-none : (id : ℕ) {i : ℕ} {e : Entry} → sendEntry t p id .there ≡ false → At (t .keys) i e → matches (e .selector) p ≡ true
-      → e .ids .send ≡ id → ⊥
-  send-none id {i} {e} h a m s =
-      let y = answers-of (Send id) p e (eq-eqb (e .ids .send) id s) m in
-      let z : _≡_ {A = ℕ} 0 1 = cc (found-none (answers (Send id) p) 0 h a, y) in
-      omega arith
-
-  pub recv-none : (id : ℕ) {i : ℕ} {e : Entry} → recvEntry t p id .there ≡ false → At (t .keys) i e → matches (e .selector) p ≡ true
-      → e .ids .recv ≡ id → ⊥
-  recv-none id {i} {e} h a m s =
-      let y = answers-of (Recv id) p e (eq-eqb (e .ids .recv) id s) m in
-      let z : _≡_ {A = ℕ} 0 1 = cc (found-none (answers (Recv id) p) 0 h a, y) in
-      omega arith
-
-  pub md5-none : {i : ℕ} {e : Entry} → md5Entry t p .there ≡ false → At (t .md5s) i e → matches (e .selector) p ≡ true → ⊥
-  md5-none {i} {e} h a m = let z : _≡_ {A = ℕ} 0 1 = cc (found-none (answers Any p) 0 h a, answers-of Any p e refl m) in omega arith
-
   pub send-nobody : (id : ℕ) → sendEntry t p id .there ≡ false → sendEntry t p id ≡ nobody
   send-nobody id h = found-nobody (answers (Send id) p) (t .keys) 0 h
 
@@ -156,12 +148,13 @@ module _ (t : Tables) (p : Pair) where
   pub md5-nobody : md5Entry t p .there ≡ false → md5Entry t p ≡ nobody
   md5-nobody h = found-nobody (answers Any p) (t .md5s) 0 h
 
-  -- an entry that matches the pair is there to be matched
-  pub any-of : {i : ℕ} {e : Entry} → At (t .keys) i e → matches (e .selector) p ≡ true → anyEntry t p ≡ true
-  any-of {i} {e} a m = any-passing (answers Any p) a (answers-of Any p e refl m)
+-- an entry that matches the pair is there to be matched
 
-  pub any-holder : anyEntry t p ≡ true → (i : ℕ) × (e : Entry) × At (t .keys) i e × (matches (e .selector) p ≡ true)
-  any-holder h = let r = any-there (answers Any p) (t .keys) h in (r .0, r .1, r .2, answers-parts Any p (r .1) (r .3) .1)
+pub any-of : AnyOf
+any-of t p i e a m = any-passing (answers Any p) a (answers-of Any p e refl m)
+
+pub any-holder : AnyHolder
+any-holder t p h = let r = any-there (answers Any p) (t .keys) h in (r .0, r .1, r .2, answers-parts Any p (r .1) (r .3) .1)
 
 -- the two tables of valid tables share no pair
 

@@ -71,7 +71,7 @@ abbrev pub ValidCount : Type 0
 ValidCount = (form : ℕ) (k m : List ℕ) (n : ℕ) → tablesOf form k m .answer ≡ Valid n
     → (n ≡ length (tablesOf form k m .keys)) × (n ≤ maxEntries) × (length (tablesOf form k m .md5s) ≤ maxEntries)
 
--- a prepared table is taken, with at most so many key entries, or refused with 44, and then no entry is named
+-- in every form but 0 a prepared table is taken, with at most so many key entries, or refused with 44, and then no entry is named
 abbrev pub PreparedAnswer : Type 0
-PreparedAnswer = (k m : List ℕ)
-    → (preparedTables k m .answer ≡ Refused 44 noIndex) ⊎ ((n : ℕ) × (preparedTables k m .answer ≡ Valid n) × (n ≤ maxEntries))
+PreparedAnswer = (form : ℕ) (b m : List ℕ) → (form ≡ 0 → ⊥)
+    → (tablesOf form b m .answer ≡ Refused 44 noIndex) ⊎ ((n : ℕ) × (tablesOf form b m .answer ≡ Valid n) × (n ≤ maxEntries))

@@ -1,12 +1,13 @@
 -- What tables are that are refused with no number.
 use Prim.Native.Nat.{ℕ, _≤_}
 use mathlib.Core.Bool.{Bool, true, false}
-use mathlib.Core.Path.{_≡_, refl, sym, ap, _∙_}
+use mathlib.Core.Path.{_≡_, refl, sym, ap, _∙_, subst⁻¹}
 use mathlib.Core.List.{List}
 use mathlib.Core.Logic.{_⊎_, inl, inr}
 use lib.ListN.{length}
 use lib.Dec.{eqb}
 use native.Mathlib.Omega.{arith}
+use borrow.Author.Tests.{ne-eqb}
 use Rattle.keys.specs.Clash.{Formed}
 use Rattle.keys.specs.Entry.{entries}
 use Rattle.keys.specs.FormedLaws.{KeyProper, key-proper, Md5Proper, md5-proper, md5-digests}
@@ -85,15 +86,25 @@ valid-bytes k m n e = record { taken = (n, e); held = bytes-held k m n e; apart 
 
 -- prepared tables
 
-pub prepared-answer : PreparedAnswer
+-- every form but 0 is one
+pub other-form : (form : ℕ) (b m : List ℕ) → (form ≡ 0 → ⊥) → tablesOf form b m ≡ preparedTables b m
+other-form form b m z = rw (ne-eqb form 0 z)
+
+answered : (b m : List ℕ)
+    → (preparedTables b m .answer ≡ Refused 44 noIndex) ⊎ ((n : ℕ) × (preparedTables b m .answer ≡ Valid n) × (n ≤ maxEntries))
 unfolding preparedTables preparedAnswer
-prepared-answer b m = go (fits b) (eqb (length m) 0) refl refl
+answered b m = go (fits b) (eqb (length m) 0) refl refl
   where
     go : (x y : Bool) → fits b ≡ x → eqb (length m) 0 ≡ y
         → (preparedTables b m .answer ≡ Refused 44 noIndex) ⊎ ((n : ℕ) × (preparedTables b m .answer ≡ Valid n) × (n ≤ maxEntries))
     go false y p q = inl (rw p)
     go true false p q = inl (rw (p, q))
     go true true p q = inr (keyCount b, rw (p, q), counted b p .2)
+
+pub prepared-answer : PreparedAnswer
+prepared-answer form b m z =
+    subst⁻¹ (λ (t : Tables). (t .answer ≡ Refused 44 noIndex) ⊎ ((n : ℕ) × (t .answer ≡ Valid n) × (n ≤ maxEntries)))
+    (other-form form b m z) (answered b m)
 
 prepared-held : (b m : List ℕ) → Held (preparedTables b m)
 unfolding preparedTables
