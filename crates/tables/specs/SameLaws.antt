@@ -140,13 +140,17 @@ bytes-not-44 k m x e = go (loaded Keys maxEntries k) (loaded Md5 maxEntries m) (
   where
     go : (a b : Loaded) (c : Bool) → loaded Keys maxEntries k ≡ a → loaded Md5 maxEntries m ≡ b
         → crossing (entries k) (entries m) .there ≡ c → ⊥
-    go (LoadedRefused n i) b c p q r =
+    go (LoadedRefused n i) (LoadedValid j) c p q r =
         let l = refused-low Keys maxEntries n i k p in
-        let z : n ≡ 44 = cc (rw p at e) in
+        let z : n ≡ 44 = cc in
+        omega arith
+    go (LoadedRefused n i) (LoadedRefused h j) c p q r =
+        let l = refused-low Keys maxEntries n i k p in
+        let z : n ≡ 44 = cc in
         omega arith
     go (LoadedValid i) (LoadedRefused n j) c p q r =
         let l = refused-low Md5 maxEntries n j m q in
-        let z : n ≡ 44 = cc (rw (p, q) at e) in
+        let z : n ≡ 44 = cc in
         omega arith
-    go (LoadedValid i) (LoadedValid j) false p q r = let z : _≡_ {A = ℕ} 0 1 = cc (rw (p, q, r) at e) in omega arith
-    go (LoadedValid i) (LoadedValid j) true p q r = let z : _≡_ {A = ℕ} 44 45 = cc (rw (p, q, r) at e) in omega arith
+    go (LoadedValid i) (LoadedValid j) false p q r = let z : _≡_ {A = ℕ} 0 1 = cc in omega arith
+    go (LoadedValid i) (LoadedValid j) true p q r = let z : _≡_ {A = ℕ} 44 45 = cc in omega arith

@@ -1,6 +1,6 @@
 -- What a search finds, as statements. Of valid tables: at most one entry answers a pair and an ID, and where one does, the search gives it;
--- at most one MD5 entry matches a pair, and none where a key entry does. Of any tables: the first such entry, nothing but such an entry, and
--- nothing exactly where there is none. SearchLaws proves them.
+-- at most one MD5 entry matches a pair, and none where a key entry does. Of any tables: the first such entry, nothing but such an entry,
+-- and nothing exactly where there is none. SearchLaws proves them.
 use Prim.Native.Nat.{ℕ, _<_}
 use mathlib.Core.Bool.{true, false}
 use mathlib.Core.Path.{_≡_}

@@ -38,17 +38,17 @@ admitted-taken k m n e = go (loaded Keys maxEntries k) (loaded Md5 maxEntries m)
   where
     go : (x y : Loaded) (b : Bool) → loaded Keys maxEntries k ≡ x → loaded Md5 maxEntries m ≡ y
         → crossing (entries k) (entries m) .there ≡ b → Taken k m n
-    go (LoadedRefused i j) y b p q r = let z : _≡_ {A = ℕ} 0 1 = cc (rw p at e) in absurd (omega arith)
-    go (LoadedValid i) (LoadedRefused h j) b p q r = let z : _≡_ {A = ℕ} 0 1 = cc (rw (p, q) at e) in absurd (omega arith)
-    go (LoadedValid i) (LoadedValid j) true p q r = let z : _≡_ {A = ℕ} 0 1 = cc (rw (p, q, r) at e) in absurd (omega arith)
+    go (LoadedRefused i j) (LoadedValid h) b p q r = let z : _≡_ {A = ℕ} 0 1 = cc in absurd (omega arith)
+    go (LoadedRefused i j) (LoadedRefused g h) b p q r = let z : _≡_ {A = ℕ} 0 1 = cc in absurd (omega arith)
+    go (LoadedValid i) (LoadedRefused h j) b p q r = let z : _≡_ {A = ℕ} 0 1 = cc in absurd (omega arith)
+    go (LoadedValid i) (LoadedValid j) true p q r = let z : _≡_ {A = ℕ} 0 1 = cc in absurd (omega arith)
     go (LoadedValid i) (LoadedValid j) false p q r =
-        let f : Valid i ≡ Valid n = rw (p, q, r) at e in
         let z : i ≡ n = cc in
         record { keys = p ∙ ap LoadedValid z; md5s = (j, q); uncrossed = r }
 
 pub taken-admitted : (k m : List ℕ) (n : ℕ) → Taken k m n → admitted k m ≡ Valid n
 unfolding admitted besides
-taken-admitted k m n t = rw (t .keys, t .md5s .1, t .uncrossed)
+taken-admitted k m n t = cc (t .keys, t .md5s .1, t .uncrossed)
 
 bytes-count : (k m : List ℕ) (n : ℕ) → admitted k m ≡ Valid n
     → (n ≡ length (entries k)) × (n ≤ maxEntries) × (length (entries m) ≤ maxEntries)

@@ -32,7 +32,7 @@ returns c =
     let d = c .before .before .before .before .before .before in
     let a = d .before .before .before .before .args in
     prepare-short _ _ (a .out .now) _ _ (sym (d .check-bytes .ensures) ∙ c .before .before .before .before .n .given .1)
-    (c .before .before .count .ensures) _ (c .before .if1 .taken) (c .refused .ensures)
+    (c .before .before .count .ensures) _ (omega (arith, c .before .if1 .taken)) (c .refused .ensures)
 
 put-requires : tie.Need-put-requires
 put-requires c κs =
