@@ -1,4 +1,5 @@
--- The statement Live holds: a good recording is read record by record. Assumes nothing.
+-- The statement Live holds: a good recording is read record by record; and what is printed where the opening is refused, by 12 at the
+-- 65th entry too. Assumes nothing.
 use Prim.Native.Nat.{ℕ, _+_, _≤_, _<_}
 use mathlib.Core.Path.{_≡_, refl, sym, ap, _∙_, subst, subst⁻¹}
 use mathlib.Core.Bool.{Bool, true, false, cond}
@@ -8,7 +9,14 @@ use lib.ListN.{length}
 use lib.Dec.{eqb, ltb, leb}
 use borrow.Author.Tests.{le-ltb}
 use Rattle.octets.specs.Each.{Each}
-use Rattle.tables.specs.Tables.{Tables}
+use Rattle.keys.specs.Entry.{isFamily}
+use Rattle.keys.specs.Table.{loaded}
+use Rattle.keys.specs.declared.table.TableKind.the-variants.{Keys}
+use Rattle.keys.specs.declared.table.Loaded.{Loaded}
+use Rattle.keys.specs.declared.table.Loaded.the-variants.{Valid as LoadedValid, Refused as LoadedRefused}
+use Rattle.tables.specs.declared.Index.{Index}
+use Rattle.tables.specs.Tables.{Tables, sendEntry, recvEntry}
+use Rattle.tables.specs.LimitLaws.{limit-refused, refused-limit}
 use Rattle.rules.specs.declared.Outcome.{Outcome}
 use Rattle.rules.specs.declared.Outcome.the-variants.{Good, Passed, Bad}
 use Rattle.rules.specs.declared.State.{State}
@@ -16,12 +24,14 @@ use Rattle.rules.specs.declared.Connection.{Connection}
 use Rattle.rules.specs.Connection.{Arrival, arrivalOf, localAddress, remoteAddress, isOpen, isMd5, withCounted, withAccepted}
 use Rattle.rules.specs.Calls.{unrefused, check, nextOn, afterJudging, judged}
 use Rattle.rules.specs.Demand3.{judgeAll}
-use Rattle.recording.specs.Lines.{verdictLine, lineText}
-use Rattle.recording.specs.Recording.{kindOf, recordBytes, entryBytes, segmentBytes, next, Desk, start, isStopped, withHeld, faulty}
-use Rattle.recording.specs.Recording.{deskTables, openOutcome, openState, atOpening, openedBy, arrivalFrom, judgedOn, entered, settled}
+use Rattle.recording.specs.declared.line.Line.the-variants.{Refused}
+use Rattle.recording.specs.Lines.{digits, decimal, verdictLine, lineText}
+use Rattle.recording.specs.Recording.{kindOf, recordBytes, entryBytes, segmentBytes, next, Desk, start, isStopped, withHeld, faulty, stopped}
+use Rattle.recording.specs.Recording.{deskTables, openPair, sendId, askId, openOutcome, openState, atOpening, openedBy, arrivalFrom, judgedOn, entered, settled}
 use Rattle.recording.specs.Recording.{looked, absorb, finished, whole, deskText}
-use Rattle.recording.specs.RecordingLaws.{absorb-append, absorb-part, looked-whole}
+use Rattle.recording.specs.RecordingLaws.{absorb-append, absorb-stopped, absorb-part, looked-whole}
 use Rattle.recording.specs.Live.{IsEntry, IsOpening, IsSegment, joined, tableOf, arrivals, linesFrom, Live}
+use Rattle.recording.specs.Live.{OpeningRefused, DeskLimit, LimitDesk, LimitPrinted}
 
 -- one whole record
 
@@ -163,3 +173,57 @@ live es o ss ee oe se k =
     ∙ ends-well (absorb whole m (joined ss)) (p .0 .stage) (p .0 .held)
     ∙ p .1
     ∙ (λ i. n .printed i ++ linesFrom (n .segments i) (judgeAll (deskTables (tableOf es)) (openState o) (map (from (openState o .conn)) ss) .verdicts))
+
+-- an opening that is refused
+
+stops-at : (d : Desk) (o : List ℕ) (t : List ℕ) (n : ℕ) (i : Index) → Entered d t → IsOpening o → openOutcome t o ≡ Bad n i
+    → absorb whole d o ≡ stopped (Refused n) (withHeld o d)
+unfolding faulty recordBytes settled
+stops-at d o t n i m e k =
+    read-record d o (rw (m .stage)) (m .held) (rw (m .stage, e .kind)) (rw (e .kind) (e .size)) (omega (arith, e .size))
+    ∙ rw (e .kind) (ap (openedBy (withHeld o d)) (ap (λ (x : List ℕ). openOutcome x o) (m .table) ∙ k))
+
+pub opening-refused : OpeningRefused
+unfolding finished
+opening-refused es o rest n i ee oe k =
+    let m : Entered (absorb whole start (joined es)) (tableOf es) =
+    entries-read es start [] ee (record { stage = refl; held = refl; table = refl; segments = refl; printed = refl }) in
+    let d = absorb whole start (joined es) in
+    ap finished
+    (absorb-append whole start (joined es) (o ++ rest)
+    ∙ absorb-append whole d o rest
+    ∙ ap (λ (x : Desk). absorb whole x rest) (stops-at d o (tableOf es) n i m oe k)
+    ∙ absorb-stopped whole (stopped (Refused n) (withHeld o d)) rest refl)
+    ∙ ap (λ (x : List ℕ). x ++ lineText (Refused n)) (m .printed)
+
+-- 12
+
+pub desk-limit : DeskLimit
+unfolding openOutcome
+desk-limit u s o b f v = rw (f, limit-refused Keys 64 u s b v)
+
+pub limit-desk : LimitDesk
+unfolding openOutcome
+limit-desk t o i e =
+    go (isFamily (openPair o .family)) (loaded Keys 64 t) (sendEntry (deskTables t) (openPair o) (sendId o) .there)
+    (recvEntry (deskTables t) (openPair o) (askId o) .there) refl refl refl refl
+  where
+    go : (f : Bool) (l : Loaded) (x y : Bool) → isFamily (openPair o .family) ≡ f → loaded Keys 64 t ≡ l
+        → sendEntry (deskTables t) (openPair o) (sendId o) .there ≡ x → recvEntry (deskTables t) (openPair o) (askId o) .there ≡ y
+        → (i ≡ record { table = 0; entry = 64 })
+        × (u : List ℕ) × (b : ℕ) × (s : List ℕ) × (t ≡ u ++ (b ∷ s)) × (loaded Keys 64 u ≡ LoadedValid 64)
+    go false l x y p q a b = let z : _≡_ {A = ℕ} 12 18 = cc (rw p at e) in absurd (omega arith)
+    go true (LoadedRefused n j) x y p q a b =
+        let z : Bad n (record { table = 0; entry = j }) ≡ Bad 12 i = rw (p, q) at e in
+        let w : n ≡ 12 = cc in
+        let v : record { table = 0; entry = j } ≡ i = cc in
+        let r = refused-limit Keys 64 j t (q ∙ ap (λ (m : ℕ). LoadedRefused m j) w) in
+        (sym v ∙ ap (λ (m : ℕ). record { table = 0; entry = m }) (r .0), r .1, r .2, r .3, r .4, r .5)
+    go true (LoadedValid n) false y p q a b = let z : _≡_ {A = ℕ} 12 35 = cc (rw (p, q, a) at e) in absurd (omega arith)
+    go true (LoadedValid n) true false p q a b = let z : _≡_ {A = ℕ} 12 35 = cc (rw (p, q, a, b) at e) in absurd (omega arith)
+    go true (LoadedValid n) true true p q a b = let z : _≡_ {A = ℕ} 0 1 = cc (rw (p, q, a, b) at e) in absurd (omega arith)
+
+pub limit-printed : LimitPrinted
+unfolding lineText decimal digits
+limit-printed es o rest u s b ee oe f e v =
+    opening-refused es o rest 12 (record { table = 0; entry = 64 }) ee oe (ap (λ (t : List ℕ). openOutcome t o) e ∙ desk-limit u s o b f v)
