@@ -1,9 +1,10 @@
 -- What the desk check promises, as statements: document 02, Ticket 1. The laws that prove them are in RecordingLaws, KeptLaws, LiveLaws
 -- and RunLaws.
-use Prim.Native.Nat.{ℕ, _+_, _*_, _≤_, _<_}
+use Prim.Native.Nat.{ℕ, _+_, _*_, _^_, _≤_, _<_}
 use mathlib.Core.Path.{_≡_}
 use mathlib.Core.Bool.{true}
 use mathlib.Core.List.{List, [], _∷_, _++_, map}
+use mathlib.Core.Logic.{_⊎_}
 use lib.ListN.{length, take, drop}
 use Rattle.octets.specs.Each.{Each}
 use Rattle.keys.specs.Entry.{isFamily}
@@ -19,7 +20,7 @@ use Rattle.rules.specs.Demand3.{judgeAll}
 use Rattle.recording.specs.declared.desk.Desk as C
 use Rattle.recording.specs.declared.desk.Step.{Step}
 use Rattle.recording.specs.declared.line.Line.{Line}
-use Rattle.recording.specs.declared.line.Line.the-variants.{Refused}
+use Rattle.recording.specs.declared.line.Line.the-variants.{Fault, Refused}
 use Rattle.recording.specs.Lines.{verdictLine, lineText}
 use Rattle.recording.specs.Recording.{kindOf, recordBytes, entryLength, entryBytes, usedLength, segmentBytes, next, Desk, isStopped}
 use Rattle.recording.specs.Recording.{deskEntries, deskTables, openPair, openOutcome, openState, arrivalFrom}
@@ -88,6 +89,34 @@ Live = (entries : List (List ℕ)) (opening : List ℕ) (segments : List (List �
     → openOutcome (tableOf entries) opening ≡ unrefused
     → deskText (joined entries ++ (opening ++ joined segments))
     ≡ linesFrom 0 (judgeAll (deskTables (tableOf entries)) (openState opening) (arrivals opening segments) .verdicts)
+
+-- "A cut, unknown or misplaced record, .. or a used length above 1,598", of what stands behind the opening and the segments: its kind is
+-- not a segment's, its used length is above 1,598, or it is not whole
+abbrev pub Spoiled : List ℕ → Type 0
+Spoiled r = (kindOf r ≡ 3 → ⊥) ⊎ ((1598 < usedLength r) ⊎ (length r < 1601))
+
+-- "stops it with a last line of 38 and the record's index": before it stand the lines of the segments before it, as above, and behind it
+-- nothing. No recording has 2^64 records.
+abbrev pub LiveStopped : Type 0
+LiveStopped = (entries : List (List ℕ)) (opening : List ℕ) (segments : List (List ℕ)) (rest : List ℕ)
+    → Each IsEntry entries → IsOpening opening → Each IsSegment segments
+    → openOutcome (tableOf entries) opening ≡ unrefused
+    → length entries + 1 + length segments < 2 ^ 64
+    → 0 < length rest → Spoiled rest
+    → deskText (joined entries ++ (opening ++ (joined segments ++ rest)))
+    ≡ linesFrom 0 (judgeAll (deskTables (tableOf entries)) (openState opening) (arrivals opening segments) .verdicts)
+    ++ lineText (Fault (length entries + 1 + length segments))
+
+-- The same before the opening: the kind is neither an entry's nor the opening's, an entry length is above 129, or the record is not whole;
+-- where nothing follows, it is "an end before the opening". No line stands before the last one.
+abbrev pub SpoiledEntry : List ℕ → Type 0
+SpoiledEntry r =
+    ((kindOf r ≡ 1 → ⊥) × (kindOf r ≡ 2 → ⊥))
+    ⊎ (((kindOf r ≡ 1) × ((129 < entryLength r) ⊎ (length r < 131))) ⊎ ((kindOf r ≡ 2) × (length r < 48)))
+
+abbrev pub EntriesStopped : Type 0
+EntriesStopped = (entries : List (List ℕ)) (rest : List ℕ) → Each IsEntry entries → length entries < 2 ^ 64
+    → (length rest ≡ 0) ⊎ SpoiledEntry rest → deskText (joined entries ++ rest) ≡ lineText (Fault (length entries))
 
 -- "a bad table or opening .. with 01's number alone": behind the entries and the opening nothing more is read
 abbrev pub OpeningRefused : Type 0
