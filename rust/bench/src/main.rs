@@ -37,6 +37,7 @@ fn main() -> ExitCode {
         prepared::few_ids(),
         prepared::different_ids(),
         prepared::hard(),
+        prepared::addresses(),
         prepared::against_bytes(),
         prepared::preparing(),
     ];

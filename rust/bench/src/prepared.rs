@@ -1,20 +1,19 @@
 //! Prepared tables: signing and judging 1,400 bytes with HMAC-SHA-1 where there are 64 or 1,024 entries, against one
 //! entry, against a hash map's look-up in plain Rust, and against the tables' bytes; and what preparing takes.
 
-use crate::connection::KEY;
+use crate::connection::{opened, ISNS, KEY};
 use crate::count;
 use crate::timing::{Limit, Outcome, Table};
 use bench::{Bytes, ARCHIVE};
 use kit::entry::table;
 use kit::segment::{summed, ACK, SYN};
-use kit::{prepared, End, Entry, Pair, Segment, Side, State};
+use kit::{prepared, End, Entry, Pair, Segment, Side};
 use std::collections::HashMap;
 use std::hint::black_box;
 
 /// A test makes each row once, whatever it takes.
 const ROUNDS: usize = if cfg!(test) { 1 } else { 61 };
 const BYTES: usize = 1_400;
-const ISNS: [u32; 2] = [0x1234_5678, 0x9abc_def0];
 const PORTS: [u16; 2] = [179, 50_000];
 /// The server's address, and peers' of which the last two bytes differ.
 const SERVER: [&[u8]; 2] = [&[10, 1, 1, 1], b"\x20\x01\x0d\xb8 IPv6 server"];
@@ -24,10 +23,33 @@ const PEERS: [&[u8]; 2] = [&[10, 2, 0, 0], b"\x20\x01\x0d\xb8 IPv6 peer\0\0"];
 type Family = usize;
 const FAMILIES: [&str; 2] = ["IPv4", "IPv6"];
 
+/// The address with its last two bytes by an index.
+fn numbered(address: &[u8], i: usize) -> Vec<u8> {
+    let before = &address[..address.len() - 2];
+    [before, &(i as u16).to_be_bytes()].concat()
+}
+
 fn peer(family: Family, i: usize) -> Vec<u8> {
-    let mut address = PEERS[family].to_vec();
-    let last = address.len() - 2;
-    address[last..].copy_from_slice(&(i as u16).to_be_bytes());
+    numbered(PEERS[family], i)
+}
+
+/// A peer's prefix, by its index: of IPv4 a /30 in one of four /24, of IPv6 a /112, all of them in one /64.
+fn prefix(family: Family, i: usize) -> Side {
+    if family == 0 {
+        Side::any(4).prefix(&peer(0, i % 4 * 256 + i / 4 * 4), 30)
+    } else {
+        let before = &PEERS[1][..12];
+        let address = [before, &(i as u16).to_be_bytes(), &[0, 0]].concat();
+        Side::any(16).prefix(&address, 112)
+    }
+}
+
+/// A host that a side matches: where it has a prefix, not the prefix's own address.
+fn host(side: &Side) -> Vec<u8> {
+    let mut address = side.address.clone();
+    if usize::from(side.prefix) < 8 * address.len() {
+        address[side.address.len() - 1] |= 1;
+    }
     address
 }
 
@@ -80,6 +102,23 @@ const LOCAL_PORTS: Keys = Keys {
     },
 };
 
+const LOCAL_ADDRESSES: Keys = Keys {
+    name: "local addresses",
+    entry: |family, i| Entry {
+        local: Side::host(&numbered(SERVER[family], i)),
+        ..entry(family, 0).ids(1, 2)
+    },
+};
+
+/// As `FEW_IDS`, but each peer has a prefix.
+const PREFIXES: Keys = Keys {
+    name: "prefixes",
+    entry: |family, i| Entry {
+        remote: prefix(family, i / 5),
+        ..(FEW_IDS.entry)(family, i)
+    },
+};
+
 impl Keys {
     /// So many entries, of which the last is the last of 1,024.
     fn entries(self, family: Family, n: usize) -> Vec<Entry> {
@@ -103,29 +142,13 @@ impl Server {
     fn new(entries: &[Entry]) -> Server {
         let used = &entries[entries.len() - 1];
         let pair = Pair {
-            local: used.local.address.clone(),
-            remote: used.remote.address.clone(),
+            local: host(&used.local),
+            remote: host(&used.remote),
             local_port: PORTS[0],
             remote_port: PORTS[1],
         };
-        let end = |pair: Pair, table: Vec<u8>, used: &Entry, isns: [u32; 2]| {
-            let state = State {
-                stage: 1,
-                outgoing_send_id: used.send_id,
-                asked_recv_id: used.recv_id,
-                our_isn: isns[0],
-                peer_isn: isns[1],
-                signing_reference: u64::from(isns[0]),
-                arriving_reference: u64::from(isns[1]),
-                ..State::of_pair(&pair)
-            };
-            let mut end = End::new(ARCHIVE, pair, table);
-            end.set(state);
-            end
-        };
-        let theirs = used.mirror();
-        let server = end(pair.clone(), table(entries), used, ISNS);
-        let mut peer = end(pair.mirror(), theirs.bytes(), &theirs, [ISNS[1], ISNS[0]]);
+        let server = opened(pair.clone(), entries, ISNS);
+        let mut peer = opened(pair.mirror(), &[used.mirror()], [ISNS[1], ISNS[0]]);
         let data = Bytes(9).take(BYTES - 20);
         let arriving = peer.sign(ISNS[1] + 1, ACK, &data);
         let leaving = server.segment(ISNS[0] + 1, ACK, &data).bytes();
@@ -177,7 +200,7 @@ fn against_one(table: &mut Table, keys: Keys, sizes: &[usize]) {
             many.compare(&mut bytes.clone());
             for (call, timed) in CALLS {
                 table.row(
-                    &format!("{call:<5} {name} {:<14} {n:>5}", keys.name),
+                    &format!("{call:<5} {name} {:<15} {n:>5}", keys.name),
                     true,
                     count(BYTES),
                     &mut || timed(black_box(&mut many)),
@@ -221,52 +244,115 @@ pub fn different_ids() -> Outcome {
     table.end()
 }
 
-/// A bare SYN that no entry matches, with TCP-AO or without, gets no MAC: by judging as many bytes under one entry,
-/// and by the same SYN where there is one entry.
-fn unmatched_syn(table: &mut Table, family: Family, signed: bool) {
-    let servers = [1, 1_024].map(|n| Server::new(&FEW_IDS.entries(family, n)).prepared());
-    let far = peer(family, 60_000);
-    let syn = Segment {
-        source_port: PORTS[1],
-        destination_port: PORTS[0],
-        flags: SYN,
-        data: Bytes(9).take(BYTES - 20),
-        ..Segment::default()
-    };
-    let syn = if signed { syn.ao(16, 11, 1) } else { syn };
-    let syn = summed(&far, SERVER[family], &syn.bytes());
-    let [few, many] = servers.clone().map(|server| {
-        let mut listening = server.end;
-        listening.pair.remote.clone_from(&far);
-        listening
-    });
-    let passes = |listening: &End| assert_eq!(listening.judge_syn(&syn, 0), 1);
-    let [mut judging, _] = servers;
-    let label = |by: &str| {
-        let signed = if signed { "TCP-AO" } else { "unsigned" };
-        format!("stranger's SYN {} {signed:<8} {by}", FAMILIES[family])
-    };
-    table.row(
-        &label("by judging"),
-        true,
-        count(BYTES),
-        &mut || passes(black_box(&many)),
-        &mut || black_box(&mut judging).judge(),
-    );
-    table.row(
-        &label("by itself"),
-        true,
-        count(BYTES),
-        &mut || passes(black_box(&many)),
-        &mut || passes(black_box(&few)),
-    );
+/// The options of a SYN as Linux sends it: MSS, SACK, timestamps and the window's scale.
+const SYN_OPTIONS: &[u8] = b"\x02\x04\x05\xb4\x04\x02\x08\x0a12345678\x01\x03\x03\x07";
+
+/// Whose SYN it is: an address that no entry matches, and how it is said behind the table's name.
+#[derive(Clone, Copy)]
+struct Stranger {
+    name: &'static str,
+    address: fn(Family) -> Vec<u8>,
+}
+
+const ANY_STRANGER: Stranger = Stranger {
+    name: "",
+    address: |family| peer(family, 60_000),
+};
+
+/// He has the first peer's mark: the sum of the address's bytes, by which a prepared table is searched first.
+const SAME_MARK: Stranger = Stranger {
+    name: "*",
+    address: |family| peer(family, 0x8080),
+};
+
+/// He stands between the peers' prefixes.
+const BETWEEN_PREFIXES: Stranger = Stranger {
+    name: "",
+    address: |family| host(&prefix(family, 240)),
+};
+
+/// A stranger's bare SYN, of 40 bytes or with TCP-AO of 56. No entry matches it, so no MAC is computed.
+struct StrangersSyn {
+    label: String,
+    /// With one entry and with 1,024.
+    listening: [End; 2],
+    syn: Vec<u8>,
+    /// With one entry, where 1,400 bytes are judged.
+    judging: Server,
+}
+
+impl StrangersSyn {
+    fn new(keys: Keys, stranger: Stranger, family: Family, signed: bool) -> StrangersSyn {
+        let from = (stranger.address)(family);
+        let servers = [1, 1_024].map(|n| Server::new(&keys.entries(family, n)).prepared());
+        let listening = servers.clone().map(|server| {
+            let mut end = server.end;
+            end.pair.remote.clone_from(&from);
+            end
+        });
+        let syn = Segment {
+            source_port: PORTS[1],
+            destination_port: PORTS[0],
+            flags: SYN,
+            options: SYN_OPTIONS.to_vec(),
+            ..Segment::default()
+        };
+        let syn = if signed { syn.ao(16, 11, 1) } else { syn };
+        let signed = if signed { "TCP-AO" } else { "no AO" };
+        let [judging, _] = servers;
+        StrangersSyn {
+            label: format!(
+                "SYN {} {signed:<6} {}{}",
+                FAMILIES[family], keys.name, stranger.name
+            ),
+            syn: summed(&from, SERVER[family], &syn.bytes()),
+            listening,
+            judging,
+        }
+    }
+
+    /// IPv4 and IPv6, with TCP-AO and without.
+    fn all(keys: Keys, stranger: Stranger) -> impl Iterator<Item = StrangersSyn> {
+        let ways = [(0, false), (0, true), (1, false), (1, true)];
+        let new = move |(family, signed)| StrangersSyn::new(keys, stranger, family, signed);
+        ways.into_iter().map(new)
+    }
+
+    fn passes(&self, listening: usize) {
+        let end = black_box(&self.listening[listening]);
+        assert_eq!(end.judge_syn(&self.syn, 0), 1);
+    }
+
+    /// By judging 1,400 bytes under one entry.
+    fn by_judging(&self, table: &mut Table) {
+        let mut judging = self.judging.clone();
+        table.row(
+            &format!("{} by judging", self.label),
+            true,
+            count(BYTES),
+            &mut || self.passes(1),
+            &mut || black_box(&mut judging).judge(),
+        );
+    }
+
+    /// By the same SYN where there is one entry.
+    fn by_itself(&self, table: &mut Table, limited: bool) {
+        table.row(
+            &format!("{} by itself", self.label),
+            limited,
+            count(BYTES),
+            &mut || self.passes(1),
+            &mut || self.passes(0),
+        );
+    }
 }
 
 pub fn hard() -> Outcome {
     let mut table = Table::new(
-        "The same where only the ports tell 1,024 entries apart, one peer and one ID; and a stranger's bare SYN of\n\
-         1,400 bytes, which no entry matches: by judging as many bytes under one entry, and by itself where there is\n\
-         one entry.",
+        "The same where only the ports tell 1,024 entries apart, one peer and one ID; and a stranger's bare SYN, which\n\
+         no entry matches, of 40 bytes or with TCP-AO of 56: by judging 1,400 bytes under one entry, and by itself\n\
+         where there is one entry. *: the bytes of his address have the same sum as the peer's; by itself that is\n\
+         only reported.",
         "call, entries",
         "one entry",
         ROUNDS,
@@ -278,9 +364,36 @@ pub fn hard() -> Outcome {
     );
     against_one(&mut table, REMOTE_PORTS, &[1_024]);
     against_one(&mut table, LOCAL_PORTS, &[1_024]);
-    for family in [0, 1] {
-        unmatched_syn(&mut table, family, false);
-        unmatched_syn(&mut table, family, true);
+    for (keys, stranger, limited) in [
+        (FEW_IDS, ANY_STRANGER, true),
+        (REMOTE_PORTS, ANY_STRANGER, true),
+        (REMOTE_PORTS, SAME_MARK, false),
+    ] {
+        for syn in StrangersSyn::all(keys, stranger) {
+            syn.by_judging(&mut table);
+            syn.by_itself(&mut table, limited);
+        }
+    }
+    table.end()
+}
+
+pub fn addresses() -> Outcome {
+    let mut table = Table::new(
+        "The same where only the local address tells 1,024 entries apart, one peer and one ID; and 205 peers with five\n\
+         keys each that have prefixes: /30 in four /24, or /112 in one /64. The stranger's address is between theirs.",
+        "call, entries",
+        "one entry",
+        ROUNDS,
+        Limit {
+            rows: "1,024 prepared entries by one, local addresses and prefixes",
+            ratio: 2.0,
+            wanted: false,
+        },
+    );
+    against_one(&mut table, LOCAL_ADDRESSES, &[1_024]);
+    against_one(&mut table, PREFIXES, &[1_024]);
+    for syn in StrangersSyn::all(PREFIXES, BETWEEN_PREFIXES) {
+        syn.by_judging(&mut table);
     }
     table.end()
 }
@@ -357,7 +470,10 @@ pub fn preparing() -> Outcome {
     let mut growth = String::new();
     for keys in [FEW_IDS, DIFFERENT_IDS] {
         for (family, name) in FAMILIES.iter().enumerate() {
-            let checks = [64, 256, 1_024].map(|n| prepare(&mut table, keys, family, n));
+            let checks = [64, 256, 1_024].map(|n| {
+                let label = format!("{name} {:<14} {n:>5}", keys.name);
+                prepare(&mut table, &label, &keys.entries(family, n), &[])
+            });
             growth += &format!(
                 "{name}, {}: {:.1} times as long for 256 entries as for 64, {:.1} times for 1,024 as for 256.\n",
                 keys.name,
@@ -366,6 +482,10 @@ pub fn preparing() -> Outcome {
             );
         }
     }
+    let md5 = |i: usize| Entry::md5(SERVER[0], &peer(0, 1_000 + i));
+    let md5: Vec<Entry> = (0..1_024).map(md5).collect();
+    let label = format!("IPv4 {} 1024 + 1024 MD5", FEW_IDS.name);
+    prepare(&mut table, &label, &FEW_IDS.entries(0, 1_024), &md5);
     println!("\nChecking, as the number of entries grows fourfold:\n{growth}");
     println!(
         "An entry that shares an ID is compared with all before it, so that of such tables the check grows towards\n\
@@ -375,21 +495,22 @@ pub fn preparing() -> Outcome {
 }
 
 /// One row; gives what checking takes.
-fn prepare(rows: &mut Table, keys: Keys, family: Family, n: usize) -> f64 {
-    let bytes = table(&keys.entries(family, n));
-    let mut out = vec![0; prepared::length(n)];
+fn prepare(rows: &mut Table, label: &str, keys: &[Entry], md5: &[Entry]) -> f64 {
+    let entries = [keys.len(), md5.len()];
+    let [keys, md5] = [keys, md5].map(table);
+    let mut out = vec![0; prepared::length(entries.iter().sum())];
     let done = (out.len() as u64) << 32;
     let [_, check] = rows.row(
-        &format!("{} {:<14} {n:>5}", FAMILIES[family], keys.name),
+        label,
         true,
         1,
         &mut || {
-            let answer = (ARCHIVE.prepare)(black_box(&bytes), &[], black_box(&mut out));
+            let answer = (ARCHIVE.prepare)(black_box(&keys), &md5, black_box(&mut out));
             assert_eq!(answer, done);
         },
         &mut || {
-            let answer = (ARCHIVE.check_table)(0, black_box(&bytes), &[]);
-            assert_eq!(answer, (n as u64) << 32);
+            let answer = (ARCHIVE.check_table)(0, black_box(&keys), &md5);
+            assert_eq!(answer, (entries[0] as u64) << 32);
         },
     );
     check
@@ -402,7 +523,14 @@ mod tests {
     /// Both sides of every row give what they should; how long they take is not looked at.
     #[test]
     fn every_row() {
-        for part in [few_ids, different_ids, hard, against_bytes, preparing] {
+        for part in [
+            few_ids,
+            different_ids,
+            hard,
+            addresses,
+            against_bytes,
+            preparing,
+        ] {
             part();
         }
     }
