@@ -112,13 +112,11 @@ impl Given {
 
     /// The same with both tables prepared.
     fn prepared(&self) -> Given {
-        let mut table = vec![0; prepared::MOST];
-        let answer = raw::prepare(&self.table, &self.md5, &mut table);
-        assert_eq!((self.form, kit::number(answer)), (0, 0));
-        table.truncate(kit::value(answer) as usize);
+        assert_eq!(self.form, 0);
+        let table = prepared::by(raw::prepare, &self.table, &self.md5);
         Given {
             form: 1,
-            table,
+            table: table.expect("tables that are not refused"),
             md5: vec![],
             ..self.clone()
         }
@@ -372,16 +370,13 @@ impl Given {
         let (one, used) = (self.prepared(), self.used());
         // The key stands before the MD5 entry.
         let (counts, sources) = match used {
-            0 => ([0, 2, 0, 1], [0, 0, 1]),
-            _ => ([0, 1, 0, 2], [0, 1, 1]),
+            0 => ([2, 1], [0, 0, 1]),
+            _ => ([1, 2], [0, 1, 1]),
         };
         let mut table = vec![0; prepared::length(3)];
-        table[..4].copy_from_slice(&counts);
+        prepared::put_counts(&mut table, counts);
         for (index, source) in sources.into_iter().enumerate() {
-            for field in Field::ALL {
-                let bytes = &one.table[field.of(2, source)];
-                table[field.of(3, index)].copy_from_slice(bytes);
-            }
+            prepared::copy(&one.table, (2, source), &mut table, (3, index));
         }
         for (index, key) in (used..).zip(keys) {
             table[Field::KeyLength.of(3, index)].fill(key.len() as u8);

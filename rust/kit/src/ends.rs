@@ -76,13 +76,11 @@ impl End {
 
     /// The same end with its tables prepared, which are not refused.
     pub fn prepared(&self) -> End {
-        let mut table = vec![0; crate::prepared::MOST];
-        let answer = (self.boundary.prepare)(&self.table, &self.md5, &mut table);
-        assert_eq!((self.form, number(answer)), (0, 0));
-        table.truncate(value(answer) as usize);
+        assert_eq!(self.form, 0);
+        let table = crate::prepared::by(self.boundary.prepare, &self.table, &self.md5);
         End {
             form: 1,
-            table,
+            table: table.expect("tables that are not refused"),
             md5: vec![],
             ..self.clone()
         }

@@ -1,5 +1,6 @@
 //! The bytes of a prepared table: the boundary page, "The prepared form".
 
+use crate::calls::{number, value};
 use crate::entry::{Entry, Side};
 use std::ops::Range;
 
@@ -106,12 +107,36 @@ pub fn counts(table: &[u8]) -> [usize; 2] {
     [0, 2].map(|at| usize::from(u16::from_be_bytes([table[at], table[at + 1]])))
 }
 
+/// Writes the counts, and nothing else.
+pub fn put_counts(table: &mut [u8], [keys, md5]: [usize; 2]) {
+    table[..2].copy_from_slice(&(keys as u16).to_be_bytes());
+    table[2..COUNTS].copy_from_slice(&(md5 as u16).to_be_bytes());
+}
+
+/// Copies an entry from one table to another, each with so many entries, from and to such a place.
+pub fn copy(from: &[u8], (n, i): (usize, usize), to: &mut [u8], (m, j): (usize, usize)) {
+    for field in Field::ALL {
+        to[field.of(m, j)].copy_from_slice(&from[field.of(n, i)]);
+    }
+}
+
+/// Both tables prepared by this call; nothing if they are refused.
+pub fn by(
+    prepare: impl Fn(&[u8], &[u8], &mut [u8]) -> u64,
+    keys: &[u8],
+    md5: &[u8],
+) -> Option<Vec<u8>> {
+    let mut out = vec![0xee; MOST];
+    let answer = prepare(keys, md5, &mut out);
+    out.truncate(value(answer) as usize);
+    (number(answer) == 0).then_some(out)
+}
+
 /// The prepared form of these entries, each as it is, good or bad.
 pub fn prepared(keys: &[Entry], md5: &[Entry]) -> Vec<u8> {
     let all: Vec<&Entry> = keys.iter().chain(md5).collect();
     let mut table = vec![0; length(all.len())];
-    table[..2].copy_from_slice(&(keys.len() as u16).to_be_bytes());
-    table[2..4].copy_from_slice(&(md5.len() as u16).to_be_bytes());
+    put_counts(&mut table, [keys.len(), md5.len()]);
     for (index, entry) in all.iter().enumerate() {
         let mut put = |field: Field, bytes: &[u8]| {
             let place = field.of(all.len(), index);

@@ -6,22 +6,10 @@ mod common;
 use common::*;
 use faulty::Fault;
 use kit::segment::summed;
-use kit::State;
-
-struct Random(u64);
-
-impl Random {
-    fn below(&mut self, bound: usize) -> usize {
-        self.0 = self
-            .0
-            .wrapping_mul(6_364_136_223_846_793_005)
-            .wrapping_add(1_442_695_040_888_963_407);
-        ((self.0 >> 33) % bound as u64) as usize
-    }
-}
+use kit::{Bytes, State};
 
 /// Changes a few bytes, mostly near the front, and now and then the length.
-fn disturb(random: &mut Random, bytes: &mut Vec<u8>) {
+fn disturb(random: &mut Bytes, bytes: &mut Vec<u8>) {
     if bytes.len() > 5000 {
         return;
     }
@@ -48,7 +36,7 @@ fn disturb(random: &mut Random, bytes: &mut Vec<u8>) {
     }
 }
 
-fn disturbed(random: &mut Random, case: &Case) -> Case {
+fn disturbed(random: &mut Bytes, case: &Case) -> Case {
     let mut case = case.clone();
     let call = &mut case.call;
     disturb(random, &mut call.table);
@@ -96,7 +84,7 @@ fn every_call_returns() {
         .into_iter()
         .filter(|case| case.call.table.len() < 1000)
         .collect();
-    let mut random = Random(20_261_115);
+    let mut random = Bytes(20_261_115);
     for round in 0..40_000 {
         let case = disturbed(&mut random, &cases[round % cases.len()]);
         let outcome = run(&case);

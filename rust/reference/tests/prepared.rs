@@ -5,18 +5,11 @@ mod common;
 
 use common::cases::prepared::{others, raws, with_entry};
 use common::*;
-use kit::prepared::{counts, length, mark, prepared, Field, BACK, COLUMNS, MOST, SLOT};
-use kit::word;
+use kit::prepared::{by, counts, length, mark, prepared, Field, BACK, COLUMNS, MOST, SLOT};
+use kit::{entry::covered, word, Bytes};
 use reference::md5_table::{self, Lent, Md5Entry};
 use reference::prepared::prepared_bytes;
 use reference::table::{self as keys, Side as Read};
-
-/// A case's tables prepared, if they are not refused.
-fn prepared_of(call: &Call) -> Option<Vec<u8>> {
-    let mut out = vec![0xee; MOST];
-    let answer = (REFERENCE.prepare)(&call.table, &call.md5, &mut out);
-    (number(answer) == 0).then(|| out[..value(answer) as usize].to_vec())
-}
 
 /// "a call with it gives what the bytes would give": every directed case with good tables, by each form.
 #[test]
@@ -27,7 +20,7 @@ fn what_the_bytes_give() {
         if call.form != 0 || !call.function.takes_form() || call.table.len() > 50_000 {
             continue;
         }
-        let Some(table) = prepared_of(&call) else {
+        let Some(table) = by(REFERENCE.prepare, &call.table, &call.md5) else {
             continue;
         };
         for form in [1, 255] {
@@ -233,22 +226,11 @@ fn every_entry_of_the_largest() {
     assert_eq!(open(3, &table, &[], &A6, &B6, 1, 1_024, 3, &mut state), 35);
 }
 
-struct Random(u64);
-
-impl Random {
-    fn byte(&mut self) -> u8 {
-        self.0 = self.0.wrapping_mul(6_364_136_223_846_793_005);
-        self.0 = self.0.wrapping_add(1_442_695_040_888_963_407);
-        (self.0 >> 40) as u8
-    }
-}
-
 /// A side that was read, as an entry's.
 fn side(read: &Read) -> Side {
     let mut address = read.address.to_vec();
     for (at, byte) in address.iter_mut().enumerate() {
-        let bits = read.prefix.saturating_sub(8 * at).min(8);
-        *byte &= !(0xff_u16 >> bits) as u8;
+        *byte &= covered(read.prefix, at);
     }
     Side {
         low: read.low,
@@ -262,7 +244,7 @@ fn side(read: &Read) -> Side {
 /// refused, and reads as the same.
 #[test]
 fn whatever_is_stored() {
-    let mut random = Random(8);
+    let mut random = Bytes(8);
     for round in 0..4_000 {
         let [n, m] = [random.byte() % 3, random.byte() % 3];
         let mut table: Vec<u8> = vec![0, n, 0, m];
