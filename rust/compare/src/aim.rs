@@ -481,7 +481,9 @@ pub fn sign(random: &mut Prng, at: &At, aim: &Aim) -> Call {
         let wrong = random.pick(&[ACK, SYN | ACK, 0]);
         let flags = if aim.has(34) { wrong } else { SYN };
         let other = random.pick(&[1, u32::MAX, 1 << 31]);
-        let step = if aim.has(36) { other } else { 0 };
+        // Few SYNs are signed by MD5, so that it is aimed at more often there.
+        let wrong_number = aim.has(36) || by_md5 && random.one_in(20);
+        let step = if wrong_number { other } else { 0 };
         (state.our_isn.wrapping_add(step), flags)
     };
 
@@ -513,7 +515,7 @@ pub fn sign(random: &mut Prng, at: &At, aim: &Aim) -> Call {
             area.resize(free + random.pick(&[4, 4 + 4 * more]), 1);
         } else {
             // The result is too long, often by less than what pads TCP-AO or MD5.
-            data.resize(most + random.pick(&[1, 1, 2, 3, 16]), 7);
+            data.resize(most + random.pick(&[1, 1, 1, 2, 3, 16]), 7);
         }
     }
     let mut segment = Segment {

@@ -45,8 +45,6 @@ pub struct Run {
     pub tried: Vec<Tried>,
     /// Where the archive first gave something else with prepared tables than with their bytes.
     pub forms: Option<Difference>,
-    /// How often it gave the same.
-    pub same_prepared: u64,
     /// The last of all calls.
     pub last: Option<(Call, Outcome)>,
     /// Whether each call is named before it is made, in case it does not return.
@@ -69,7 +67,6 @@ impl Run {
             counts: Counts::default(),
             tried: tried.collect(),
             forms: None,
-            same_prepared: 0,
             last: None,
             trace: false,
             limit,
@@ -148,7 +145,7 @@ impl Caller for Run {
         if let Some(again) = again.flatten() {
             let prepared = self.compared(&again, way)?;
             if prepared == by_bytes {
-                self.same_prepared += 1;
+                self.counts.add_same_prepared(call.function);
             } else if self.forms.is_none() {
                 self.forms = Some(Difference {
                     forms: true,

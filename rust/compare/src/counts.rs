@@ -6,7 +6,7 @@ use crate::translation::{Rewritten, Translation};
 use crate::unknown::{Matched, Unknown};
 use kit::prepared::{mark, Field, Field::*};
 use kit::segment::summed;
-use kit::Function::{Ask, Judge, JudgeSyn, OpenPassive, Sign};
+use kit::Function::{Ask, Judge, JudgeSyn, OpenActive, OpenPassive, Sign};
 use kit::{Call, Function, Outcome};
 use reference::md5_table::{Lent, Tables};
 use reference::segment::{read_options, AoOption, Header};
@@ -19,6 +19,8 @@ pub const LEAST: u64 = 100;
 pub struct Counts {
     numbers: [[u64; ALL.len() + 1]; Function::ALL.len()],
     situations: [u64; SITUATIONS.len()],
+    /// How often each call gave with prepared tables what it gave with their bytes.
+    same_prepared: [u64; Function::ALL.len()],
 }
 
 impl Default for Counts {
@@ -26,6 +28,7 @@ impl Default for Counts {
         Counts {
             numbers: [[0; ALL.len() + 1]; Function::ALL.len()],
             situations: [0; SITUATIONS.len()],
+            same_prepared: [0; Function::ALL.len()],
         }
     }
 }
@@ -127,7 +130,7 @@ enum Asked {
 
 type Situation = (&'static str, fn(&Seen) -> bool);
 
-const SITUATIONS: [Situation; 270] = [
+const SITUATIONS: [Situation; 275] = [
     ("accepted at the reference: repeated", |seen| {
         seen.open(|a, reference| a.position == reference)
     }),
@@ -851,6 +854,38 @@ const SITUATIONS: [Situation; 270] = [
     ("accepted, prepared, by the first of two", |seen| {
         seen.call.form != 0 && seen.accepts(|a| a.others)
     }),
+    ("opened, prepared, by the first of two SendIDs", |seen| {
+        let (call, id) = (seen.call, seen.call.byte);
+        let opened = call.function == OpenActive && seen.outcome.number() == 0;
+        let pair = Pair {
+            local: &call.source,
+            remote: &call.destination,
+            local_port: call.local_port,
+            remote_port: call.remote_port,
+        };
+        opened && {
+            let such = |key: &&Entry| key.send_id == id;
+            differ(&seen.stored_for(&pair, such), |key| key.recv_id)
+        }
+    }),
+    ("signed, prepared, by the first of two SendIDs", |seen| {
+        let id = seen.before.outgoing_send_id;
+        let such = |key: &&Entry| key.send_id == id;
+        let pair = seen.before.pair().filter(|_| seen.signed());
+        pair.is_some_and(|pair| differ(&seen.stored_for(&pair, such), |key| key.key))
+    }),
+    ("asked, prepared, by the first of two RecvIDs", |seen| {
+        let asked = seen.call.function == Ask && seen.outcome.number() == 0;
+        let such = |key: &&Entry| key.recv_id == seen.call.byte;
+        let pair = seen.before.pair().filter(|_| asked);
+        pair.is_some_and(|pair| seen.stored_for(&pair, such).len() > 1)
+    }),
+    ("accepted by MD5, prepared, by the first of two", |seen| {
+        seen.md5(Judge, 0, |_| seen.two_md5())
+    }),
+    ("signed by MD5, prepared, by the first of two", |seen| {
+        seen.md5(Sign, 0, |_| seen.two_md5())
+    }),
     ("accepted, prepared, bytes behind IPv4's third", |seen| {
         let behind = |stored: &Stored| {
             stored.field(Family) == [4] && stored.field(RemoteAddress)[3..] != [0; 12]
@@ -920,6 +955,11 @@ impl<'t> Stored<'t> {
     fn field(&self, field: Field) -> &'t [u8] {
         &self.0[field.of(self.1, self.2)]
     }
+}
+
+/// Whether two of these differ in this, so that it is seen which one is taken.
+fn differ<T, U: PartialEq>(entries: &[T], by: impl Fn(&T) -> U) -> bool {
+    entries.windows(2).any(|two| by(&two[0]) != by(&two[1]))
 }
 
 /// Whether two of these clash.
@@ -1014,6 +1054,24 @@ impl<'a> Seen<'a> {
     /// Whether the tables are prepared and not refused, and so.
     fn stored(&self, which: impl Fn(&Tables) -> bool) -> bool {
         self.call.form != 0 && self.tables.as_ref().is_some_and(which)
+    }
+
+    /// The entries of a prepared key table that match the pair and are such.
+    fn stored_for(&self, pair: &Pair, such: impl Fn(&&Entry<'a>) -> bool) -> Vec<Entry<'a>> {
+        let prepared = self.call.form != 0;
+        let keys = self.keys().iter().filter(|_| prepared).filter(such);
+        keys.filter(|key| key.matches(pair)).copied().collect()
+    }
+
+    /// Whether two MD5 entries of a prepared table match the state's pair, with different keys.
+    fn two_md5(&self) -> bool {
+        let two = |pair: Pair| {
+            self.stored(|tables| {
+                let matching = tables.md5.iter().filter(|entry| entry.matches(&pair));
+                differ(&matching.collect::<Vec<_>>(), |entry| entry.key)
+            })
+        };
+        self.before.pair().is_some_and(two)
     }
 
     /// Whether a segment was judged with a prepared table of few such entries, and got this number.
@@ -1256,6 +1314,19 @@ impl Counts {
         }
     }
 
+    /// This call was made by bytes and prepared, and gave the same.
+    pub fn add_same_prepared(&mut self, function: Function) {
+        self.same_prepared[function as usize] += 1;
+    }
+
+    /// How often a call that takes the tables in either form gave the same.
+    fn same_prepared(&self) -> impl Iterator<Item = (Function, u64)> + '_ {
+        let functions = Function::ALL.into_iter();
+        functions
+            .filter(|function| function.takes_form())
+            .map(|function| (function, self.same_prepared[function as usize]))
+    }
+
     /// Adds another run's counts.
     pub fn join(&mut self, other: &Counts) {
         let numbers = self.numbers.iter_mut().flatten();
@@ -1263,6 +1334,9 @@ impl Counts {
             *count += more;
         }
         for (count, more) in self.situations.iter_mut().zip(other.situations) {
+            *count += more;
+        }
+        for (count, more) in self.same_prepared.iter_mut().zip(other.same_prepared) {
             *count += more;
         }
     }
@@ -1290,6 +1364,12 @@ impl Counts {
                 faults.push(format!("{name}: only {count} times"));
             }
         }
+        for (function, count) in self.same_prepared() {
+            if count < LEAST {
+                let name = function.name();
+                faults.push(format!("{name}: by bytes and prepared only {count} times"));
+            }
+        }
         faults
     }
 
@@ -1313,6 +1393,10 @@ impl Counts {
         }
         for ((name, _), count) in SITUATIONS.iter().zip(self.situations) {
             println!("{count:>9}  {name}");
+        }
+        for (function, count) in self.same_prepared() {
+            let name = function.name();
+            println!("{count:>9}  {name}, the same by bytes and prepared");
         }
     }
 }

@@ -1,7 +1,9 @@
 //! Prepared tables: what stands for the same entries, and what is damaged.
 
 use crate::prng::Prng;
-use kit::prepared::{counts, length, mark, Field, BACK, COLUMNS, COUNTS, SLOT};
+use crate::tables::id;
+use kit::entry::covered;
+use kit::prepared::{copy, counts, length, mark, put_counts, Field, BACK, COLUMNS, COUNTS, SLOT};
 use kit::Call;
 use reference::calls::prepare;
 use reference::md5_table::Lent;
@@ -43,11 +45,13 @@ pub fn lend(random: &mut Prng, call: &mut Call, refused: bool) {
     let md5 = std::mem::take(&mut call.md5);
     call.form = form(random);
     call.table = bytes;
-    match random.below(8) {
+    match random.below(10) {
         0 => {}
         1 => write_otherwise(random, &mut call.table),
-        2..=4 => double(random, &mut call.table),
-        5 => call.table = grown(random, &call.table),
+        2..=3 => double(random, &mut call.table),
+        4..=5 => call.table = repeated(random, &call.table),
+        6 => call.table = grown(random, &call.table),
+        7 => call.table = any_bytes(random),
         _ => {
             for _ in 0..random.pick(&[1, 1, 1, 2, 5]) {
                 damage(random, &mut call.table);
@@ -100,9 +104,7 @@ fn write_otherwise_field(
     };
     // Which bits of an address's byte count.
     let kept = |table: &[u8], prefix: Field, byte: usize| -> u8 {
-        let prefix = usize::from(table[of(prefix).start]).min(bits);
-        let counting = prefix.saturating_sub(8 * byte).min(8);
-        !(0xff_u16 >> counting) as u8
+        covered(usize::from(table[of(prefix).start]).min(bits), byte)
     };
     match (field, by_md5) {
         (SendId | RecvId | Flags | Algorithm | MacBytes, true) => table[at.start] = random.byte(),
@@ -202,6 +204,27 @@ fn damage(random: &mut Prng, table: &mut [u8]) {
     }
 }
 
+/// Any bytes, but for the counts and the length, which are right; and entries that match any pair of a family now and
+/// then, else hardly any would match.
+fn any_bytes(random: &mut Prng) -> Vec<u8> {
+    let few = [0, 1, 2, 3, 31, 32, 33];
+    let parts = [(); 2].map(|_| random.pick(&few));
+    let entries = parts.iter().sum();
+    let mut table = random.bytes(length(entries));
+    put_counts(&mut table, parts);
+    for index in 0..entries {
+        let mut put = |field: Field, byte: u8| table[field.of(entries, index)].fill(byte);
+        if random.one_in(2) {
+            put(Field::Family, random.pick(&[4, 6]));
+            put(Field::RemotePrefix, 0);
+            put(Field::LocalPrefix, 0);
+            put(Field::SendId, id(random));
+            put(Field::RecvId, id(random));
+        }
+    }
+    table
+}
+
 /// Puts an entry in another's place, in whichever part, with another key or MAC's length: both then match the
 /// same pairs, and what is first counts.
 fn double(random: &mut Prng, table: &mut [u8]) {
@@ -225,13 +248,45 @@ fn double(random: &mut Prng, table: &mut [u8]) {
     }
 }
 
-/// With more entries, up to 1,024 in each part, somewhere among those that are there: copies of these, of which
+/// Each entry once more, behind all of its part and with another key or ID: whichever a call takes, a later one would
+/// do as well.
+fn repeated(random: &mut Prng, table: &[u8]) -> Vec<u8> {
+    let [keys, md5] = counts(table);
+    let old = keys + md5;
+    if keys.max(md5) > 512 {
+        return table.to_vec();
+    }
+    let mut repeated = vec![0; length(2 * old)];
+    put_counts(&mut repeated, [2 * keys, 2 * md5]);
+    let parts = [
+        (0..keys, false),
+        (0..keys, true),
+        (keys..old, false),
+        (keys..old, true),
+    ];
+    let sources = parts
+        .into_iter()
+        .flat_map(|(part, again)| part.map(move |i| (i, again)));
+    for (index, (source, again)) in sources.enumerate() {
+        copy(table, (old, source), &mut repeated, (2 * old, index));
+        if again {
+            let field = random.pick(&[Field::SendId, Field::RecvId, Field::Key, Field::Key]);
+            repeated[field.of(2 * old, index).start] ^= 1 << random.below(8);
+        }
+    }
+    repeated
+}
+
+/// With more entries, up to 1,024 in each part or about as many as the search looks at in one go (32), somewhere among those that are there: copies of these, of which
 /// most are for others.
 fn grown(random: &mut Prng, table: &[u8]) -> Vec<u8> {
-    let many = random.one_in(60);
+    let many = random.one_in(40);
     let mut part = |n: usize| {
-        let counts = if many { [n, 1_024, 1_024] } else { [n, n, 8] };
-        let count = random.pick(&counts).max(n);
+        let counts: &[usize] = match many {
+            true => &[0, 1_024, 1_024],
+            false => &[0, 0, 8, 31, 32, 33, 64],
+        };
+        let count = random.pick(counts).max(n);
         // Which of the old entries stands at each place.
         let first = random.below(count - n + 1);
         (first, count)
@@ -256,13 +311,9 @@ fn grown(random: &mut Prng, table: &[u8]) -> Vec<u8> {
     }
     let entries = sources.len();
     let mut grown = vec![0; length(entries)];
-    grown[..2].copy_from_slice(&(keys_count as u16).to_be_bytes());
-    grown[2..4].copy_from_slice(&(md5_count as u16).to_be_bytes());
+    put_counts(&mut grown, [keys_count, md5_count]);
     for (index, (source, kept)) in sources.into_iter().enumerate() {
-        for field in Field::ALL {
-            let bytes = &table[field.of(old, source)];
-            grown[field.of(entries, index)].copy_from_slice(bytes);
-        }
+        copy(table, (old, source), &mut grown, (entries, index));
         if !kept && !random.one_in(20) {
             // For another peer, if a bit of the address counts: its mark is another, or its last byte.
             let upper = Field::RemoteAddress.of(entries, index).start;
@@ -308,8 +359,7 @@ fn spoil(random: &mut Prng, call: &mut Call, md5: Vec<u8>) {
             let md5 = random.pick(&[0, 1, 1_025]);
             if random.one_in(20) {
                 table.resize(length(keys + md5), 0);
-                table[..2].copy_from_slice(&(keys as u16).to_be_bytes());
-                table[2..4].copy_from_slice(&(md5 as u16).to_be_bytes());
+                put_counts(table, [keys, md5]);
             } else {
                 table.clear();
             }

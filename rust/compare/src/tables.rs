@@ -2,7 +2,7 @@
 
 use crate::prng::Prng;
 use crate::translation::{Rewritten, Translation};
-use kit::entry::table;
+use kit::entry::{covered, table};
 use kit::{Entry, Pair, Side};
 use reference::md5_table::{self, Lent};
 
@@ -133,9 +133,9 @@ fn masked(address: &[u8], prefix: u8) -> Vec<u8> {
 }
 
 fn put_first_bits(to: &mut [u8], from: &[u8], count: u8) {
-    for bit in 0..count as usize {
-        let mask = 0x80 >> (bit % 8);
-        to[bit / 8] = to[bit / 8] & !mask | from[bit / 8] & mask;
+    for (at, (byte, new)) in to.iter_mut().zip(from).enumerate() {
+        let covered = covered(count.into(), at);
+        *byte = *byte & !covered | new & covered;
     }
 }
 
@@ -623,7 +623,7 @@ fn spoil_md5_entry(random: &mut Prng, entry: &mut [u8]) {
     if entry.len() < 104 {
         return;
     }
-    match random.below(10) {
+    match random.below(14) {
         0 => entry[0] = random.pick(&[0, 3, 5, 7, 8, 19, 255]),
         1 => entry[1] = random.pick(&[1, 2, 4, 7, 8, 255]),
         2 => entry[2] = random.pick(&[0, 1, 2, 3, 18, 20, 255]),

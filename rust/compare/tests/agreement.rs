@@ -20,10 +20,6 @@ fn main() {
         missed.iter().for_each(|missed| println!("{missed}"));
     }
     println!(
-        "{} calls with prepared tables gave what their bytes gave",
-        run.same_prepared
-    );
-    println!(
         "{NAME} and reference: {} calls from seed {SEED} in {:.1} s, {}, {}",
         run.calls,
         begin.elapsed().as_secs_f64(),

@@ -3028,14 +3028,27 @@ pub const FAULTS: &[Planted] = &[
         )],
     },
     Planted {
-        name: "LastSuchKey",
-        does: "A search takes the last such entry.",
+        name: "LastSuchSendId",
+        does: "A search by pair and SendID takes the last such entry.",
         breaks: "\"a search by pair and ID takes the first such entry\"",
-        file: "prepared.rs",
-        function: "fn read(",
-        edits: &[Instead(
-            "(0..keys).map(|index| stored(index).key_entry()).collect()",
-            "(0..keys).rev().map(|index| stored(index).key_entry()).collect()",
+        file: "table.rs",
+        function: "fn by_send_id<",
+        edits: &[Before(
+            "entries\n        .iter()",
+            "let mut last = entries.iter().rev();
+            return last.find(|entry| entry.send_id == send_id && entry.matches(pair)).copied();",
+        )],
+    },
+    Planted {
+        name: "LastSuchRecvId",
+        does: "A search by pair and RecvID takes the last such entry.",
+        breaks: "\"a search by pair and ID takes the first such entry\"",
+        file: "table.rs",
+        function: "fn by_recv_id<",
+        edits: &[Before(
+            "entries\n        .iter()",
+            "let mut last = entries.iter().rev();
+            return last.find(|entry| entry.recv_id == recv_id && entry.matches(pair)).copied();",
         )],
     },
     Planted {
@@ -3829,7 +3842,7 @@ pub const FAULTS: &[Planted] = &[
     Planted {
         name: "Md5CountLittleEndian",
         does: "The number of MD5 entries has its lower byte first.",
-        breaks: "\"m, the number of MD5 entries, big-endian\"",
+        breaks: "\"m, big-endian\"",
         file: "prepared.rs",
         function: "fn counts(",
         edits: &[Instead(
@@ -3862,9 +3875,9 @@ pub const FAULTS: &[Planted] = &[
         )],
     },
     Planted {
-        name: "PrefixesReadExchanged",
-        does: "A stored entry's prefix lengths are exchanged.",
-        breaks: "\"N | the remote prefix lengths\"; \"4 | local prefix length\"",
+        name: "LocalPrefixReadTwice",
+        does: "A stored entry's local prefix length is read as the remote one too.",
+        breaks: "\"N | the remote prefix lengths\"",
         file: "prepared.rs",
         function: "fn remote(",
         edits: &[Instead(
@@ -3873,7 +3886,7 @@ pub const FAULTS: &[Planted] = &[
         )],
     },
     Planted {
-        name: "PrefixesStoredExchanged",
+        name: "LocalPrefixStoredTwice",
         does: "The local prefix length is stored as the remote one too.",
         breaks: "\"N | the remote prefix lengths\"",
         file: "prepared.rs",

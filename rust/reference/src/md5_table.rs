@@ -129,8 +129,8 @@ impl<'t> Lent<'t> {
             return self.read_bytes();
         }
 
-        // 44: "(boundary) With a prepared table `md5` must be empty: a second buffer that is not is refused
-        // with 44, since it would not be looked at".
+        // 44: "With a prepared table `md5` must be empty: a second buffer that is not is refused with 44, since it
+        // would not be looked at".
         if !self.md5.is_empty() {
             return Err(Refusal::of(44));
         }
