@@ -7,7 +7,7 @@
 #include "embankery.h"
 
 enum { ENTRY = EMBANKERY_IPV4_ENTRY_BYTES, STATE = EMBANKERY_STATE_BYTES, ROOM = 64 };
-enum { SYN = 2, ACK = 16, PORT_A = 40000, PORT_B = 179, BYTES = EMBANKERY_BYTES };
+enum { SYN = 2, ACK = 16, PORT_A = 40000, PORT_B = 179, BYTES = EMBANKERY_FORM_BYTES };
 
 static const uint8_t A[4] = {10, 0, 0, 1}, B[4] = {10, 0, 0, 2};
 

@@ -159,8 +159,9 @@ extern "C" {
  *
  *   form 0           keys and md5 are the tables' own bytes, of which either may be empty. Every call
  *                    checks both anew, as tcpao_check_table does: an entry that shares an ID with one
- *                    before it is compared with those before it, and every MD5 entry with every key
- *                    entry, so that with many entries a call may spend nearly all its time on that
+ *                    before it is compared with all before it, and every MD5 entry with all before it
+ *                    and with every key entry, so that with many entries a call may spend nearly all
+ *                    its time on that
  *   any other value  keys is a prepared table, which tcpao_prepare wrote once and which has both; md5 is
  *                    empty (else 44)
  *
@@ -175,10 +176,11 @@ extern "C" {
  * prepared form"; a later version of the library may have another form, and no byte says which it is, so
  * what was stored is prepared anew with a new library.
  */
-#define EMBANKERY_BYTES 0
-#define EMBANKERY_PREPARED 1
+#define EMBANKERY_FORM_BYTES 0
+#define EMBANKERY_FORM_PREPARED 1
 #define EMBANKERY_ENTRIES 1024 /* of each table */
 #define EMBANKERY_PREPARED_BYTES(entries) (4 + 129 * (size_t)(entries)) /* of both tables' entries */
+#define EMBANKERY_PREPARED_MAX EMBANKERY_PREPARED_BYTES(2 * EMBANKERY_ENTRIES) /* 264,196 */
 #define EMBANKERY_IPV4_ENTRY_BYTES 104 /* of kind 4; one more of kind 5 */
 #define EMBANKERY_IPV6_ENTRY_BYTES 128 /* of kind 6; one more of kind 7 */
 
@@ -242,8 +244,8 @@ uint64_t tcpao_check_table(uint8_t form, const uint8_t *keys, size_t keys_len,
                            const uint8_t *md5, size_t md5_len);
 
 /* Prepares both tables, given as bytes: writes to out their prepared form, of
- * EMBANKERY_PREPARED_BYTES(n) bytes where both together have n entries. Room for
- * EMBANKERY_PREPARED_BYTES(2 * EMBANKERY_ENTRIES), 264,196 bytes, is always enough; so is room for
+ * EMBANKERY_PREPARED_BYTES(n) bytes where both together have n entries. Room for EMBANKERY_PREPARED_MAX
+ * bytes is always enough; so is room for
  * keys_len / EMBANKERY_IPV4_ENTRY_BYTES + md5_len / EMBANKERY_IPV4_ENTRY_BYTES entries.
  *
  * Gives 0 with the length written, or 10 to 17, 45, 37. Where it gives 0 it writes so many bytes at the

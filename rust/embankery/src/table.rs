@@ -168,7 +168,7 @@ pub(crate) fn entries(table: &[u8]) -> usize {
 /// shared between threads, and kept as bytes for the same version of the library.
 ///
 /// ```
-/// use embankery::{Connection, Entry, KeyTable, Md5Table, PreparedTables, Tables};
+/// use embankery::{Connection, Entry, KeyTable, PreparedTables, Tables};
 ///
 /// let peer = |last| Entry::ipv4().remote([10, 0, 0, last], 32).key(b"key").build();
 /// let peers = (0..=255).map(peer).collect::<Result<Vec<_>, _>>()?;
@@ -191,9 +191,17 @@ pub struct PreparedTables {
 }
 
 impl PreparedTables {
-    /// How many bytes the prepared form of so many entries has, of both tables together.
+    /// How many bytes the prepared form of so many entries has, of both tables together; `usize::MAX` where it would be
+    /// more, which no tables have.
+    ///
+    /// ```
+    /// use embankery::PreparedTables;
+    ///
+    /// assert_eq!(PreparedTables::length(2 * 1_024), 264_196);
+    /// assert_eq!(PreparedTables::length(usize::MAX), usize::MAX);
+    /// ```
     pub const fn length(entries: usize) -> usize {
-        4 + 129 * entries
+        entries.saturating_mul(129).saturating_add(4)
     }
 
     /// From the bytes of prepared tables, which `docs/BOUNDARY.md` has one by one. Refused with 44 if their length

@@ -50,7 +50,7 @@ const ROWS: &[(u8, &str, &str)] = &[
     ),
     (
         12,
-        "The table has more entries than a table may have.",
+        "The table has more than 1,024 entries; a recording's table, more than 64.",
         "Take away entries of keys that are no longer used, or join peers under one prefix.",
     ),
     (
