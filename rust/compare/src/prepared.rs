@@ -45,13 +45,13 @@ pub fn lend(random: &mut Prng, call: &mut Call, refused: bool) {
     let md5 = std::mem::take(&mut call.md5);
     call.form = form(random);
     call.table = bytes;
-    match random.below(10) {
+    match random.below(11) {
         0 => {}
         1 => write_otherwise(random, &mut call.table),
         2..=3 => double(random, &mut call.table),
         4..=5 => call.table = repeated(random, &call.table),
-        6 => call.table = grown(random, &call.table),
-        7 => call.table = any_bytes(random),
+        6..=7 => call.table = grown(random, &call.table),
+        8 => call.table = any_bytes(random),
         _ => {
             for _ in 0..random.pick(&[1, 1, 1, 2, 5]) {
                 damage(random, &mut call.table);
@@ -277,14 +277,16 @@ fn repeated(random: &mut Prng, table: &[u8]) -> Vec<u8> {
     repeated
 }
 
-/// With more entries, up to 1,024 in each part or about as many as the search looks at in one go (32), somewhere among those that are there: copies of these, of which
-/// most are for others.
+/// With more entries, somewhere among those that are there: copies of these, of which most are for others. In each part
+/// there are up to 1,024, or about 32, since the archive searches by blocks of so many.
 fn grown(random: &mut Prng, table: &[u8]) -> Vec<u8> {
-    let many = random.one_in(40);
+    let many = random.one_in(70);
+    // In half of them the new ones are for one address each, so that hardly any matches as an old one does.
+    let for_hosts = random.one_in(2);
     let mut part = |n: usize| {
         let counts: &[usize] = match many {
             true => &[0, 1_024, 1_024],
-            false => &[0, 0, 8, 31, 32, 33, 64],
+            false => &[0, 8, 31, 32, 33, 64, 160, 160],
         };
         let count = random.pick(counts).max(n);
         // Which of the old entries stands at each place.
@@ -314,7 +316,10 @@ fn grown(random: &mut Prng, table: &[u8]) -> Vec<u8> {
     put_counts(&mut grown, [keys_count, md5_count]);
     for (index, (source, kept)) in sources.into_iter().enumerate() {
         copy(table, (old, source), &mut grown, (entries, index));
-        if !kept && !random.one_in(20) {
+        if !kept && for_hosts {
+            grown[Field::RemotePrefix.of(entries, index)].fill(255);
+            grown[Field::Mark.of(entries, index).start] ^= 1 << random.below(8);
+        } else if !kept && !random.one_in(20) {
             // For another peer, if a bit of the address counts: its mark is another, or its last byte.
             let upper = Field::RemoteAddress.of(entries, index).start;
             let mark = Field::Mark.of(entries, index).start;
