@@ -615,7 +615,10 @@ fn finished(random: &mut Prng, mut call: Call, at: &At, aim: &Aim) -> Call {
         tables::fill(random, &mut keys, &mut md5);
         (call.table, call.md5) = (table(&keys), table(&md5));
     }
-    if call.function.takes_form() && (aim.has(44) || random.one_in(6)) {
+    // More often where it is asked whether any entry matches a bare SYN's pair, since few calls ask that.
+    let asks_any = aim.has(25) && call.function != Function::Judge;
+    let times = if asks_any { 2 } else { 6 };
+    if call.function.takes_form() && (aim.has(44) || random.one_in(times)) {
         prepared::lend(random, &mut call, aim.has(44));
     }
     if random.one_in(30) {
