@@ -349,10 +349,10 @@ impl StrangersSyn {
 
 pub fn hard() -> Outcome {
     let mut table = Table::new(
-        "The same where only the ports tell 1,024 entries apart, one peer and one ID; and a stranger's bare SYN, which\n\
-         no entry matches, of 40 bytes or with TCP-AO of 56: by judging 1,400 bytes under one entry, and by itself\n\
-         where there is one entry. *: the bytes of his address have the same sum as the peer's; by itself that is\n\
-         only reported.",
+        "The same where only the ports tell 1,024 entries apart, one peer and one ID; where 205 peers with five keys\n\
+         each have prefixes, /30 in four /24, or /112 in one /64; and a stranger's bare SYN, which no entry matches, of\n\
+         40 bytes or with TCP-AO of 56: by judging 1,400 bytes under one entry, and by itself where there is one\n\
+         entry. *: the bytes of his address have the same sum as the peer's; by itself that is only reported.",
         "call, entries",
         "one entry",
         ROUNDS,
@@ -364,6 +364,7 @@ pub fn hard() -> Outcome {
     );
     against_one(&mut table, REMOTE_PORTS, &[1_024]);
     against_one(&mut table, LOCAL_PORTS, &[1_024]);
+    against_one(&mut table, PREFIXES, &[1_024]);
     for (keys, stranger, limited) in [
         (FEW_IDS, ANY_STRANGER, true),
         (REMOTE_PORTS, ANY_STRANGER, true),
@@ -379,19 +380,18 @@ pub fn hard() -> Outcome {
 
 pub fn addresses() -> Outcome {
     let mut table = Table::new(
-        "The same where only the local address tells 1,024 entries apart, one peer and one ID; and 205 peers with five\n\
-         keys each that have prefixes: /30 in four /24, or /112 in one /64. The stranger's address is between theirs.",
+        "The same where only the local address tells 1,024 entries apart, one peer and one ID; and the stranger's bare\n\
+         SYN, by judging, where the peers have prefixes and his address is between theirs.",
         "call, entries",
         "one entry",
         ROUNDS,
         Limit {
-            rows: "1,024 prepared entries by one, local addresses and prefixes",
-            ratio: 2.0,
+            rows: "1,024 prepared entries by one, local addresses; a SYN among prefixes",
+            ratio: 3.5,
             wanted: false,
         },
     );
     against_one(&mut table, LOCAL_ADDRESSES, &[1_024]);
-    against_one(&mut table, PREFIXES, &[1_024]);
     for syn in StrangersSyn::all(PREFIXES, BETWEEN_PREFIXES) {
         syn.by_judging(&mut table);
     }
