@@ -7,7 +7,7 @@
 #include "embankery.h"
 
 enum { ENTRY = EMBANKERY_IPV4_ENTRY_BYTES, STATE = EMBANKERY_STATE_BYTES, ROOM = 64 };
-enum { SYN = 2, ACK = 16, PORT_A = 40000, PORT_B = 179 };
+enum { SYN = 2, ACK = 16, PORT_A = 40000, PORT_B = 179, BYTES = EMBANKERY_FORM_BYTES };
 
 static const uint8_t A[4] = {10, 0, 0, 1}, B[4] = {10, 0, 0, 2};
 
@@ -58,23 +58,25 @@ int main(void)
     make_table(table_b, B, A, 2, 1);
 
     /* A's SYN opens B's end, B's SYN+ACK opens A's. No peer goes by TCP MD5: that table is empty. */
-    expect(0, tcpao_open_active(table_a, ENTRY, NULL, 0, A, 4, B, 4, PORT_A, PORT_B, 1000, 1, a, STATE));
+    expect(0, tcpao_open_active(BYTES, table_a, ENTRY, NULL, 0, A, 4, B, 4, PORT_A, PORT_B, 1000, 1, a,
+                                STATE));
     length = make_segment(plain, PORT_A, PORT_B, 1000, SYN, "");
-    length = expect(0, tcpao_sign(table_a, ENTRY, NULL, 0, plain, length, wire, ROOM, a, STATE));
-    expect(0, tcpao_open_passive(table_b, ENTRY, NULL, 0, A, 4, B, 4, wire, length, 2000, 1, b, STATE));
+    length = expect(0, tcpao_sign(BYTES, table_a, ENTRY, NULL, 0, plain, length, wire, ROOM, a, STATE));
+    expect(0, tcpao_open_passive(BYTES, table_b, ENTRY, NULL, 0, A, 4, B, 4, wire, length, 2000, 1, b,
+                                 STATE));
     length = make_segment(plain, PORT_B, PORT_A, 2000, SYN | ACK, "");
-    length = expect(0, tcpao_sign(table_b, ENTRY, NULL, 0, plain, length, wire, ROOM, b, STATE));
-    expect(0, tcpao_judge(table_a, ENTRY, NULL, 0, B, 4, A, 4, wire, length, a, STATE));
+    length = expect(0, tcpao_sign(BYTES, table_b, ENTRY, NULL, 0, plain, length, wire, ROOM, b, STATE));
+    expect(0, tcpao_judge(BYTES, table_a, ENTRY, NULL, 0, B, 4, A, 4, wire, length, a, STATE));
 
     length = make_segment(plain, PORT_A, PORT_B, 1001, ACK, "hello");
-    length = expect(0, tcpao_sign(table_a, ENTRY, NULL, 0, plain, length, wire, ROOM, a, STATE));
+    length = expect(0, tcpao_sign(BYTES, table_a, ENTRY, NULL, 0, plain, length, wire, ROOM, a, STATE));
     printf("signed: %u bytes\n", (unsigned)length);
 
     printf("as signed: accepted with extension %u\n",
-           expect(0, tcpao_judge(table_b, ENTRY, NULL, 0, A, 4, B, 4, wire, length, b, STATE)));
+           expect(0, tcpao_judge(BYTES, table_b, ENTRY, NULL, 0, A, 4, B, 4, wire, length, b, STATE)));
 
     wire[36] ^= 1; /* the first byte of the data */
-    expect(40, tcpao_judge(table_b, ENTRY, NULL, 0, A, 4, B, 4, wire, length, b, STATE));
+    expect(40, tcpao_judge(BYTES, table_b, ENTRY, NULL, 0, A, 4, B, 4, wire, length, b, STATE));
     printf("damaged: dropped with 40\n");
     return 0;
 }

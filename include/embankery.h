@@ -9,9 +9,10 @@
  *   - a buffer lent for writing (a pointer without const) overlaps no other buffer of the call, so
  *     nothing is signed in place;
  *   - no other thread writes to a buffer of the call while it runs, or touches one lent for writing.
- * A call keeps no pointer, allocates nothing and has no state of its own, so calls on different
- * buffers may run at the same time. Nothing is claimed of how long a call takes: no call hides, by
- * its timing, what it is given.
+ * A call keeps no pointer, allocates nothing and has no state of its own, so calls may run at the same
+ * time where no buffer that one of them writes is a buffer of another; tables, prepared or not, are only
+ * read and may be shared. Nothing is claimed of how long a call takes: no call hides, by its timing, what
+ * it is given.
  *
  * A segment is the TCP header with its options and data, as on the wire, without an IP header. An
  * address is 4 bytes (IPv4) or 16 (IPv6), as on the wire. Ports and ISNs that are passed as numbers
@@ -40,7 +41,7 @@ extern "C" {
  *   A table is refused:
  *   10   the entry is cut off before its end
  *   11   the entry's kind is none of 4, 5 (IPv4), 6 and 7 (IPv6); in the MD5 table, neither 4 nor 6
- *   12   a 65th entry begins
+ *   12   a 1,025th entry begins
  *   13   the entry's flags or algorithm are not listed, or its MAC's length is not 4 to 16; in the
  *        MD5 table, an ID is not 0
  *   14   a low port is above its high port
@@ -48,6 +49,8 @@ extern "C" {
  *   16   the key's length is 0 or above 80, or its padding is not zero
  *   17   a socket pair exists that this entry and an earlier one both match, and they share SendID
  *        or RecvID
+ *   44   the prepared table's length is not that of its counts, a count is above 1,024, or a second
+ *        table stands beside it
  *   45   a socket pair exists that this entry of the MD5 table and one of the key table both match
  *
  *   The call is refused:
@@ -79,17 +82,17 @@ extern "C" {
  *   35   no matching entry has the outgoing SendID (opening, signing) or the RecvID to ask; by TCP
  *        MD5, none matches, or asking
  *   36   signing: the sequence number has no position, or a SYN's (bare or with ACK) is not our ISN
- *   37   signing: the output is too short
+ *   37   signing, preparing: the output is too short
  *
  * The value beside 0 is, of tcpao_judge, tcpao_judge_syn and tcpao_open_passive, the segment's sequence
  * number extension, by TCP MD5 always 0; of tcpao_sign the signed length; of tcpao_check_table how many
- * entries the key table has. Beside 10 to 17 and 45 it is the entry's index, from 0. Else it is 0. 177 is
- * EMBANKERY_STATE_BYTES.
+ * entries the key table has; of tcpao_prepare the length written. Beside 10 to 17 and 45 it is the
+ * entry's index, from 0. Else it is 0. 177 is EMBANKERY_STATE_BYTES.
  *
  * Where several apply, 18 is given before 19, then 10 to 17 of the key table, 10 to 17 of the MD5 table
- * and 45, and then the others in the order of this list, but 40 right behind 20, 46 and 47 right behind
- * 24, and 32 right behind 35. Of a table's entries the first that is refused counts; of one entry 12
- * comes first, then 11, 10, 13, 14, 15, 16 and 17.
+ * and 45, or 44 in their place, and then the others in the order of this list, but 40 right behind 20,
+ * 46 and 47 right behind 24, and 32 right behind 35. Of a table's entries the first that is refused
+ * counts; of one entry 12 comes first, then 11, 10, 13, 14, 15, 16 and 17.
  *
  * A call that is refused (10 and above) leaves every buffer as it was, but for one thing: drops 20 to 29,
  * 40, 46 and 47 by tcpao_judge on an open connection add one to that number's count. A passive opening
@@ -150,10 +153,34 @@ extern "C" {
  * It matches as an entry of the key table does. Since TCP MD5 has no key IDs, no two of its entries may
  * match one pair (17); and a pair goes one way or the other, so no entry of each may (45).
  *
- * Every call on a connection takes both tables, keys and md5, of which either may be empty, and checks
- * both anew, as tcpao_check_table does.
+ * Both tables, as bytes or prepared.
+ *
+ * Every call on a connection takes both tables, in the form that form says:
+ *
+ *   form 0           keys and md5 are the tables' own bytes, of which either may be empty. Every call
+ *                    checks both anew, as tcpao_check_table does: an entry that shares an ID with one
+ *                    before it is compared with all before it, and every MD5 entry with all before it
+ *                    and with every key entry, so that with many entries a call may spend nearly all
+ *                    its time on that
+ *   any other value  keys is a prepared table, which tcpao_prepare wrote once and which has both; md5 is
+ *                    empty (else 44)
+ *
+ * A call with a prepared table gives what it would give with the bytes that were prepared. Any bytes may
+ * come as one. Where their length is not that of their counts, or a count is above EMBANKERY_ENTRIES, the
+ * call is refused with 44, in the place of 10 to 17 and 45. Nothing else is tested: every stored entry
+ * reads as one that a table could hold, 17 and 45 are not tested again, and of several entries that fit
+ * the first is taken. So keep a prepared table as safe as the tables, and prepare it anew where these
+ * change: until then a call goes by the old one. keys_len is the length that tcpao_prepare gave, not the
+ * room of the buffer (else 44). A new one is written to another buffer while calls with the old one run.
+ * States go on with it: they hold IDs, no entries. Its bytes are documented in docs/BOUNDARY.md, "The
+ * prepared form"; a later version of the library may have another form, and no byte says which it is, so
+ * what was stored is prepared anew with a new library.
  */
-#define EMBANKERY_ENTRIES 64 /* of each table */
+#define EMBANKERY_FORM_BYTES 0
+#define EMBANKERY_FORM_PREPARED 1
+#define EMBANKERY_ENTRIES 1024 /* of each table */
+#define EMBANKERY_PREPARED_BYTES(entries) (4 + 129 * (size_t)(entries)) /* of both tables' entries */
+#define EMBANKERY_PREPARED_MAX EMBANKERY_PREPARED_BYTES(2 * EMBANKERY_ENTRIES) /* 264,196 */
 #define EMBANKERY_IPV4_ENTRY_BYTES 104 /* of kind 4; one more of kind 5 */
 #define EMBANKERY_IPV6_ENTRY_BYTES 128 /* of kind 6; one more of kind 7 */
 
@@ -209,36 +236,50 @@ extern "C" {
 #define EMBANKERY_SEGMENT_BYTES 65535
 
 /* Checks both tables. Gives 0 with the number of entries of the key table, or 10 to 17 or 45 with an
- * entry's index. Writes nothing.
+ * entry's index, or 44. Writes nothing.
  *
  * C needs: pointers good for their lengths.
  */
-uint64_t tcpao_check_table(const uint8_t *keys, size_t keys_len, const uint8_t *md5, size_t md5_len);
+uint64_t tcpao_check_table(uint8_t form, const uint8_t *keys, size_t keys_len,
+                           const uint8_t *md5, size_t md5_len);
+
+/* Prepares both tables, given as bytes: writes to out their prepared form, of
+ * EMBANKERY_PREPARED_BYTES(n) bytes where both together have n entries. Room for EMBANKERY_PREPARED_MAX
+ * bytes is always enough; so is room for
+ * keys_len / EMBANKERY_IPV4_ENTRY_BYTES + md5_len / EMBANKERY_IPV4_ENTRY_BYTES entries.
+ *
+ * Gives 0 with the length written, or 10 to 17, 45, 37. Where it gives 0 it writes so many bytes at the
+ * front of out, and what stands behind them stays; else out stays.
+ *
+ * C needs: pointers good for their lengths; out overlaps neither keys nor md5.
+ */
+uint64_t tcpao_prepare(const uint8_t *keys, size_t keys_len, const uint8_t *md5, size_t md5_len,
+                       uint8_t *out, size_t out_len);
 
 /* Opens actively by TCP-AO: writes the state of a connection whose SYN is yet to be signed and sent.
  * send_id names the entry of the key table whose key signs it; the entry must match the pair. The key
  * asked of the peer is that entry's RecvID.
  *
- * Gives 0, or 18 (of state_len only), 19, 10 to 17, 45, 35. Writes all of state where it gives 0; else
+ * Gives 0, or 18 (of state_len only), 19, 10 to 17, 45, 44, 35. Writes all of state where it gives 0; else
  * state stays: see the warning above.
  *
  * C needs: pointers good for their lengths; state overlaps neither keys, md5, local nor remote.
  */
-uint64_t tcpao_open_active(const uint8_t *keys, size_t keys_len, const uint8_t *md5, size_t md5_len,
-                           const uint8_t *local, size_t local_len,
+uint64_t tcpao_open_active(uint8_t form, const uint8_t *keys, size_t keys_len,
+                           const uint8_t *md5, size_t md5_len, const uint8_t *local, size_t local_len,
                            const uint8_t *remote, size_t remote_len, uint16_t local_port,
                            uint16_t remote_port, uint32_t isn, uint8_t send_id,
                            uint8_t *state, size_t state_len);
 
 /* Opens actively by TCP MD5: likewise, by the entry of the MD5 table that matches the pair.
  *
- * Gives 0, or 18 (of state_len only), 19, 10 to 17, 45, 35. Writes all of state where it gives 0; else
+ * Gives 0, or 18 (of state_len only), 19, 10 to 17, 45, 44, 35. Writes all of state where it gives 0; else
  * state stays: see the warning above.
  *
  * C needs: pointers good for their lengths; state overlaps neither keys, md5, local nor remote.
  */
-uint64_t tcpmd5_open_active(const uint8_t *keys, size_t keys_len, const uint8_t *md5, size_t md5_len,
-                            const uint8_t *local, size_t local_len,
+uint64_t tcpmd5_open_active(uint8_t form, const uint8_t *keys, size_t keys_len,
+                            const uint8_t *md5, size_t md5_len, const uint8_t *local, size_t local_len,
                             const uint8_t *remote, size_t remote_len, uint16_t local_port,
                             uint16_t remote_port, uint32_t isn, uint8_t *state, size_t state_len);
 
@@ -251,13 +292,13 @@ uint64_t tcpmd5_open_active(const uint8_t *keys, size_t keys_len, const uint8_t 
  * if any entry matches the pair, whatever setting is. Only where no entry matches the pair does setting
  * decide: 0 gives 1 (pass), any other value gives 26.
  *
- * Gives 0 with the extension, which is 0; or 1, 19, 10 to 17, 45, 20, 40, 21, 22, 24, 46, 47, 25 to 27,
+ * Gives 0 with the extension, which is 0; or 1, 19, 10 to 17, 45, 44, 20, 40, 21, 22, 24, 46, 47, 25 to 27,
  * 29. Writes nothing.
  *
  * C needs: pointers good for their lengths.
  */
-uint64_t tcpao_judge_syn(const uint8_t *keys, size_t keys_len, const uint8_t *md5, size_t md5_len,
-                         const uint8_t *source, size_t source_len,
+uint64_t tcpao_judge_syn(uint8_t form, const uint8_t *keys, size_t keys_len,
+                         const uint8_t *md5, size_t md5_len, const uint8_t *source, size_t source_len,
                          const uint8_t *destination, size_t destination_len,
                          const uint8_t *segment, size_t segment_len, uint8_t setting);
 
@@ -272,8 +313,8 @@ uint64_t tcpao_judge_syn(const uint8_t *keys, size_t keys_len, const uint8_t *md
  * C needs: pointers good for their lengths; state overlaps neither keys, md5, source, destination nor
  * segment.
  */
-uint64_t tcpao_open_passive(const uint8_t *keys, size_t keys_len, const uint8_t *md5, size_t md5_len,
-                            const uint8_t *source, size_t source_len,
+uint64_t tcpao_open_passive(uint8_t form, const uint8_t *keys, size_t keys_len,
+                            const uint8_t *md5, size_t md5_len, const uint8_t *source, size_t source_len,
                             const uint8_t *destination, size_t destination_len,
                             const uint8_t *segment, size_t segment_len, uint32_t isn, uint8_t setting,
                             uint8_t *state, size_t state_len);
@@ -282,7 +323,7 @@ uint64_t tcpao_open_passive(const uint8_t *keys, size_t keys_len, const uint8_t 
  * segment must be the SYN+ACK; once open it may be any that carries SYN and ACK, or no SYN.
  *
  * The checksum is tested over source and destination as given, also where they are not the connection's.
- * Gives 0 with the extension, or 18, 19, 10 to 17, 45, 20, 40, 21 to 24, then by TCP-AO 25 to 29 or by
+ * Gives 0 with the extension, or 18, 19, 10 to 17, 45, 44, 20, 40, 21 to 24, then by TCP-AO 25 to 29 or by
  * TCP MD5 46, 47, 26, 27, 29. It changes state so:
  *   - 0 while opening: sets the stage to open, the peer's ISN to the segment's number, both references
  *     to the ISNs, and all counts to 0;
@@ -296,8 +337,8 @@ uint64_t tcpao_open_passive(const uint8_t *keys, size_t keys_len, const uint8_t 
  * C needs: pointers good for their lengths; state overlaps neither keys, md5, source, destination nor
  * segment.
  */
-uint64_t tcpao_judge(const uint8_t *keys, size_t keys_len, const uint8_t *md5, size_t md5_len,
-                     const uint8_t *source, size_t source_len,
+uint64_t tcpao_judge(uint8_t form, const uint8_t *keys, size_t keys_len,
+                     const uint8_t *md5, size_t md5_len, const uint8_t *source, size_t source_len,
                      const uint8_t *destination, size_t destination_len,
                      const uint8_t *segment, size_t segment_len, uint8_t *state, size_t state_len);
 
@@ -308,28 +349,30 @@ uint64_t tcpao_judge(const uint8_t *keys, size_t keys_len, const uint8_t *md5, s
  * signed; once open a SYN+ACK whose number is our ISN, or a segment without SYN.
  *
  * out must have room for what is signed, EMBANKERY_ADDED_BYTES more than the segment being always enough,
- * else 37. Gives 0 with the signed length n, or 18, 10 to 17, 45, 30 to 37. Where it gives 0 it writes the
- * first n bytes of out, and what stands behind them stays; in state it changes only the reference of the
- * direction that we sign, to the larger of the old one and the segment's position, and by TCP MD5 once
+ * else 37. Gives 0 with the signed length n, or 18, 10 to 17, 45, 44, 30 to 37. Where it gives 0 it writes
+ * the first n bytes of out, and what stands behind them stays; in state it changes only the reference of
+ * the direction that we sign, to the larger of the old one and the segment's position, and by TCP MD5 once
  * open not even that. Else both stay.
  *
  * C needs: pointers good for their lengths; out overlaps neither keys, md5, segment nor state, and state
  * neither keys, md5 nor segment.
  */
-uint64_t tcpao_sign(const uint8_t *keys, size_t keys_len, const uint8_t *md5, size_t md5_len,
-                    const uint8_t *segment, size_t segment_len, uint8_t *out, size_t out_len,
-                    uint8_t *state, size_t state_len);
+uint64_t tcpao_sign(uint8_t form, const uint8_t *keys, size_t keys_len,
+                    const uint8_t *md5, size_t md5_len, const uint8_t *segment, size_t segment_len,
+                    uint8_t *out, size_t out_len, uint8_t *state, size_t state_len);
 
 /* Asks the peer for another key: sets the RecvID that signed segments carry as RNextKeyID from now on. An
  * entry that matches the pair must have it. It may be asked while opening, too. By TCP MD5 it is always
  * refused with 35.
  *
- * Gives 0, or 18, 10 to 17, 45, 35. Where it gives 0 it changes that one byte of state; else state stays.
+ * Gives 0, or 18, 10 to 17, 45, 44, 35. Where it gives 0 it changes that one byte of state; else state
+ * stays.
  *
  * C needs: pointers good for their lengths; state overlaps neither keys nor md5.
  */
-uint64_t tcpao_ask(const uint8_t *keys, size_t keys_len, const uint8_t *md5, size_t md5_len,
-                   uint8_t recv_id, uint8_t *state, size_t state_len);
+uint64_t tcpao_ask(uint8_t form, const uint8_t *keys, size_t keys_len,
+                   const uint8_t *md5, size_t md5_len, uint8_t recv_id,
+                   uint8_t *state, size_t state_len);
 
 /* The MAC library.
  *

@@ -4,6 +4,7 @@
 use Prim.Native.Nat.{ℕ}
 use mathlib.Core.Bool.{Bool, true, false, cond, not}
 use mathlib.Core.List.{List, []}
+use lib.ListN.{length}
 use lib.Dec.{eqb}
 use Rattle.rules.specs.declared.Verdict.{Verdict}
 use Rattle.rules.specs.declared.Verdict.the-variants.{Accept, Pass, Drop}
@@ -11,6 +12,7 @@ use Rattle.rules.specs.declared.Done.{Done}
 use Rattle.rules.specs.declared.Done.the-variants as D
 use Rattle.rules.specs.declared.State.{State}
 use Rattle.tables.specs.Tables.{Tables}
+use Rattle.tables.specs.Preparing.{prepareAnswer, prepareOutput}
 use Rattle.rules.specs.Answers.{Answer, answer, tableAnswer}
 use Rattle.rules.specs.Connection.{arrivalOf}
 use Rattle.rules.specs.Calls.{judged, judgedSyn, openedPassively, openedActively, openedActivelyMd5, asked, signed, output}
@@ -65,9 +67,12 @@ pub record Export : Type 0 where
   pub state : List ℕ
   pub out : List ℕ
 
--- as the contracts write it: a call that only answers, one with a state buffer, one with an output too
+-- as the contracts write it: a call that only answers, one with an output, one with a state buffer, one with both
 abbrev pub answers : ℕ → Export
 answers r = record { answer = r; state = []; out = [] }
+
+abbrev pub fills : ℕ → List ℕ → Export
+fills r out = record { answer = r; state = []; out = out }
 
 abbrev pub leaves : ℕ → List ℕ → Export
 leaves r state = record { answer = r; state = state; out = [] }
@@ -96,6 +101,9 @@ afterSigned b x out s = writes (answered b (ofSigned s)) (stateAfter b (s .state
 
 unfoldable pub checkTableExport : Tables → Export
 checkTableExport t = answers (word (tableAnswer (t .answer)))
+
+unfoldable pub prepareExport : (keys md5 out : List ℕ) → Export
+prepareExport k m out = fills (word (tableAnswer (prepareAnswer k m (length out)))) (prepareOutput k m out)
 
 unfoldable pub openActiveExport : Tables → (local remote : List ℕ) (localPort remotePort isn sendId : ℕ) (state : List ℕ) → Export
 openActiveExport t local remote localPort remotePort isn sendId b =

@@ -1,19 +1,21 @@
 -- Every call's number and value fit their bits, and the number tells what it should: the statements of Numbers.antt, proved. Assumes
 -- nothing.
 use Prim.Native.Nat.{ℕ, _^_, _%_, _≤_, _<_}
-use mathlib.Core.Path.{_≡_, refl, subst, subst⁻¹}
+use mathlib.Core.Path.{_≡_, refl, subst, subst⁻¹, _∙_}
 use mathlib.Core.Bool.{Bool, true, false, cond, not, _&&_, _||_}
 use mathlib.Core.List.{List}
 use native.Mathlib.Omega.{arith}
 use lib.ListN.{length}
 use lib.Dec.{eqb, ltb, leb}
-use borrow.Author.Tests.{ltb-true, leb-true, lt-ltb, ne-eqb}
+use borrow.Author.Tests.{ltb-true, leb-true, lt-ltb, ne-eqb, eqb-true}
 use Rattle.keys.specs.declared.entry.Pair.{Pair}
 use Rattle.keys.specs.MatchLaws.{and-true}
 use Rattle.tables.specs.declared.Index.{Index}
 use Rattle.tables.specs.declared.Admitted.{Admitted}
 use Rattle.tables.specs.declared.Admitted.the-variants.{Valid, Refused}
-use Rattle.tables.specs.Tables.{Tables, maxEntries, sendEntry, md5Entry, anyEntry}
+use Rattle.tables.specs.ValidLaws.{valid-count}
+use Rattle.tables.specs.Preparing.{preparedLength, prepareAnswer}
+use Rattle.tables.specs.Tables.{Tables, noIndex, admitted, maxEntries, sendEntry, md5Entry, anyEntry}
 use Rattle.rules.specs.declared.Outcome.{Outcome}
 use Rattle.rules.specs.declared.Outcome.the-variants.{Good, Passed, Bad}
 use Rattle.rules.specs.declared.Verdict.{Verdict}
@@ -44,13 +46,13 @@ use Rattle.boundary.specs.Word.{word, ofJudged, ofSigned, ofSettled}
 use Rattle.boundary.specs.WordLaws.{reads}
 use Rattle.boundary.specs.Exports.{answered, accepts, opens}
 use Rattle.boundary.specs.Numbers.{tableNumber, together, Fits, Verdicts, answerOf, signs, isDone, isPassed, Tells}
-use Rattle.boundary.specs.Numbers.{TableFits, JudgedFits, JudgedSynFits, OpenedFits, AskedFits, ActiveFits, ActiveMd5Fits, SignedFits}
-use Rattle.boundary.specs.Numbers.{AnsweredReads, NumberTells, NumberFits, WordTells, AnsweredTells, TableTells}
+use Rattle.boundary.specs.Numbers.{TableFits, PrepareFits, JudgedFits, JudgedSynFits, OpenedFits, AskedFits, ActiveFits, ActiveMd5Fits, SignedFits}
+use Rattle.boundary.specs.Numbers.{AnsweredReads, NumberTells, NumberFits, WordTells, AnsweredTells, TableTells, PrepareTells}
 
 -- The key table.
 
-table-number : (n : ℕ) → among n tableNumbers ≡ true → tableNumber n ≡ true
-table-number n e = among-every tableNumber n tableNumbers refl e
+table-number : (n : ℕ) → among n tableNumbers ≡ true → (eqb n 44 || tableNumber n) ≡ true
+table-number n e = among-every (λ (m : ℕ). eqb m 44 || tableNumber m) n tableNumbers refl e
 
 number-below : (n : ℕ) → among n tableNumbers ≡ true → n < 2 ^ 8
 number-below n e = ltb-true n (2 ^ 8) (among-every (λ (m : ℕ). ltb m (2 ^ 8)) n tableNumbers refl e)
@@ -72,6 +74,14 @@ both false b p q = p
 named : (n : ℕ) (i : Index) → tableNumber n ≡ true → together (refused n i) ≡ true
 named n i e = both (eqb n 0 || (eqb (i .entry) 0 || tableNumber n)) _ (either (eqb n 0) (eqb (i .entry) 0) _ e) (or-right (eqb (i .table) 0) _ e)
 
+-- beside 44 none does
+indexed : (n : ℕ) (i : Index) → among n tableNumbers ≡ true → (n ≡ 44 → i ≡ noIndex) → together (refused n i) ≡ true
+indexed n i e h = go (eqb n 44) refl (table-number n e)
+  where
+    go : (b : Bool) → eqb n 44 ≡ b → (eqb n 44 || tableNumber n) ≡ true → together (refused n i) ≡ true
+    go true q k = let z = eqb-true n 44 q in λ j. together (refused (z j) (h z j))
+    go false q k = named n i (rw q at k)
+
 loaded-fits : (o : Admitted) → Bounded maxEntries o → Fits (tableAnswer o)
 unfolding tableAnswer
 loaded-fits (Valid n) w = record { number = omega arith; table = omega arith; value = omega arith; together = refl }
@@ -80,11 +90,47 @@ loaded-fits (Refused n i) w =
       number = number-below n (w .0);
       table = omega (arith, w .1);
       value = omega (arith, w .2);
-      together = named n i (table-number n (w .0));
+      together = indexed n i (w .0) (w .3);
     }
 
 pub table-fits : TableFits
 table-fits t = loaded-fits (tables t .answer) (checked-within t)
+
+-- preparing gives the tables' refusal, 37, or a length that fits
+record Prepares (o : Admitted) : Type 0 where
+  fitting : Fits (tableAnswer o)
+  bounds : (n : ℕ) (i : Index) → o ≡ Refused n i → (10 ≤ n) × (n ≤ 45)
+
+prepares : (k m : List ℕ) (room : ℕ) → Prepares (prepareAnswer k m room)
+unfolding prepareAnswer tableAnswer
+prepares k m room = go (admitted k m) (leb (preparedLength k m) room) refl refl
+  where
+    b : Lent
+    b = record { form = 0; keys = k; md5 = m }
+
+    go : (o : Admitted) (c : Bool) → admitted k m ≡ o → leb (preparedLength k m) room ≡ c → Prepares (prepareAnswer k m room)
+    go (Refused n i) c p q =
+        let w : Bounded maxEntries (Refused n i) = rw p at (checked-within b) in
+        rw p (record { fitting = loaded-fits (Refused n i) w; bounds = λ j x e. table-bounds b j x (p ∙ e) })
+    go (Valid n) false p q =
+        rw (p, q)
+        (record {
+          fitting = record { number = omega arith; table = omega arith; value = omega arith; together = refl };
+          bounds = λ j x e. (let z : 37 ≡ j = cc in (omega arith, omega arith));
+        })
+    go (Valid n) true p q =
+        let c = valid-count 0 k m n p in
+        let x = c .0 in
+        let y = c .1 in
+        let z = c .2 in
+        rw (p, q)
+        (record {
+          fitting = record { number = omega arith; table = omega arith; value = omega (arith, x, y, z); together = refl };
+          bounds = λ j x e. (let z : _≡_ {A = ℕ} 0 1 = cc in absurd (omega arith));
+        })
+
+pub prepare-fits : PrepareFits
+prepare-fits k m room = prepares k m room .fitting
 
 -- What the tests of a call come to.
 
@@ -101,7 +147,7 @@ refusal-fits t = go (tables t .answer) (checked-within t)
     go (Refused n i) w =
         both (ltb n (2 ^ 8)) _ (lt-ltb n (2 ^ 8) (number-below n (w .0)))
         (both (ltb (i .table) (2 ^ 8)) _ (lt-ltb (i .table) (2 ^ 8) (omega (arith, w .1)))
-        (both (ltb (i .entry) (2 ^ 32)) _ (lt-ltb (i .entry) (2 ^ 32) (omega (arith, w .2))) (named n i (table-number n (w .0)))))
+        (both (ltb (i .entry) (2 ^ 32)) _ (lt-ltb (i .entry) (2 ^ 32) (omega (arith, w .2))) (indexed n i (w .0) (w .3))))
 
 refused-fits : (b : Bool) (n : ℕ) → fits (refuse n) ≡ true → fits (cond b (refuse n) Passed) ≡ true
 refused-fits true n e = e
@@ -300,3 +346,9 @@ pub table-tells : TableTells
 table-tells t =
     subst⁻¹ (λ (n : ℕ). Tells n (not (isRefused (tables t .answer))) false)
     (low-bits (tableAnswer (tables t .answer)) (table-fits t .number)) (loaded-tells (tables t .answer) (table-bounds t))
+
+pub prepare-tells : PrepareTells
+prepare-tells k m room =
+    let o = prepareAnswer k m room in
+    subst⁻¹ (λ (n : ℕ). Tells n (not (isRefused o)) false) (low-bits (tableAnswer o) (prepare-fits k m room .number))
+    (loaded-tells o (prepares k m room .bounds))

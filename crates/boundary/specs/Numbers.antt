@@ -8,6 +8,7 @@ use mathlib.Core.Bool.{Bool, true, false, cond, not, _&&_, _||_}
 use mathlib.Core.List.{List}
 use lib.Dec.{eqb, leb}
 use Rattle.tables.specs.declared.Index.{Index}
+use Rattle.tables.specs.Preparing.{prepareAnswer}
 use Rattle.rules.specs.declared.Verdict.{Verdict}
 use Rattle.rules.specs.declared.Signing.{Signing}
 use Rattle.rules.specs.declared.Signing.the-variants as S
@@ -40,6 +41,10 @@ pub record Fits (a : Answer) : Type 0 where
   pub table : a .table < 2 ^ 8
   pub value : a .value < 2 ^ 32
   pub together : together a ≡ true
+
+-- of `prepare` the length written
+abbrev pub PrepareFits : Type 0
+PrepareFits = (k m : List ℕ) (room : ℕ) → Fits (tableAnswer (prepareAnswer k m room))
 
 abbrev pub TableFits : Type 0
 TableFits = (lent : Lent) → Fits (tableAnswer (tables lent .answer))
@@ -140,7 +145,11 @@ abbrev pub AnsweredTells : Type 0
 AnsweredTells = (b : List ℕ) (c : Request)
     → Tells (answered b (answerOf c) % 2 ^ 8) (isState b && isDone c) (isState b && isPassed c)
 
--- and of `check_table`: 0 exactly where the table is not refused, and never 1
+-- and of `check_table` and `prepare`: 0 exactly where the tables are not refused, and never 1
 abbrev pub TableTells : Type 0
 TableTells = (lent : Lent)
     → Tells (word (tableAnswer (tables lent .answer)) % 2 ^ 8) (not (isRefused (tables lent .answer))) false
+
+abbrev pub PrepareTells : Type 0
+PrepareTells = (k m : List ℕ) (room : ℕ)
+    → Tells (word (tableAnswer (prepareAnswer k m room)) % 2 ^ 8) (not (isRefused (prepareAnswer k m room))) false

@@ -6,9 +6,12 @@ use Prim.Native.Nat.{ℕ}
 use mathlib.Core.Path.{_≡_}
 use mathlib.Core.Bool.{true, false, _&&_}
 use mathlib.Core.List.{List}
-use lib.ListN.{replicate}
+use lib.ListN.{length, replicate}
 use Rattle.octets.specs.Each.{Octets}
 use Rattle.tables.specs.Tables.{Tables}
+use Rattle.tables.specs.Preparing.{prepareAnswer}
+use Rattle.tables.specs.declared.Index.{Index}
+use Rattle.tables.specs.declared.Admitted.the-variants.{Refused}
 use Rattle.rules.specs.declared.Verdict.the-variants.{Pass, Drop}
 use Rattle.rules.specs.declared.Signing.the-variants as S
 use Rattle.rules.specs.declared.Done.the-variants as D
@@ -19,7 +22,8 @@ use Rattle.rules.specs.Lent.{Lent, tables}
 use Rattle.rules.specs.Refusals.{oneMore}
 use Rattle.states.specs.Layout.{isState, stateBytes, decodeOf}
 use Rattle.boundary.specs.Exports.{changed, stateWhere, strictly}
-use Rattle.boundary.specs.Exports.{openPassiveExport, openActiveExport, openActiveMd5Export, judgeExport, signExport, askExport}
+use Rattle.boundary.specs.Exports.{prepareExport, openPassiveExport, openActiveExport, openActiveMd5Export}
+use Rattle.boundary.specs.Exports.{judgeExport, signExport, askExport}
 
 -- a state buffer of another length: whatever the call below would do, no buffer changes
 abbrev pub OtherLength : Type 0
@@ -51,6 +55,10 @@ abbrev pub ActivelyMd5Refused : Type 0
 ActivelyMd5Refused = (t : Tables) (local remote : List ℕ) (localPort remotePort isn : ℕ) (b : List ℕ) (n : ℕ)
     → openedActivelyMd5 t local remote localPort remotePort isn .answer ≡ D.Refused n
     → openActiveMd5Export t local remote localPort remotePort isn b .state ≡ b
+
+-- Preparing that is refused.
+abbrev pub PrepareRefused : Type 0
+PrepareRefused = (k m out : List ℕ) (n : ℕ) (i : Index) → prepareAnswer k m (length out) ≡ Refused n i → prepareExport k m out .out ≡ out
 
 -- The calls on a connection, whose state is decodeOf b.
 

@@ -8,6 +8,7 @@ use native.Mathlib.Omega.{arith}
 use lib.ListN.{length, replicate}
 use borrow.Author.Tests.{eqb-true}
 use Rattle.octets.specs.Each.{Octets}
+use Rattle.tables.specs.Preparing.{prepareOutput}
 use Rattle.rules.specs.declared.State.{State}
 use Rattle.rules.specs.Connection.{arrivalOf, isOpen, isCounted, empty}
 use Rattle.rules.specs.Calls.{openedActively, openedActivelyMd5, asked, signed, output}
@@ -19,9 +20,9 @@ use Rattle.rules.specs.GivenNumberLaws.{judge-never-passes}
 use Rattle.states.specs.Layout.{isState, stateBytes, decodeOf, wordBytes, rows, joined, encodeOf}
 use Rattle.states.specs.LayoutLaws.{encode-decode}
 use Rattle.boundary.specs.Exports.{changed, stateAfter, settles, opens, stateWhere, strictly}
-use Rattle.boundary.specs.Exports.{openPassiveExport, openActiveExport, openActiveMd5Export, judgeExport, signExport, askExport}
+use Rattle.boundary.specs.Exports.{prepareExport, openPassiveExport, openActiveExport, openActiveMd5Export, judgeExport, signExport, askExport}
 use Rattle.boundary.specs.Unchanged.{OtherLength, passively, PassivelyRefused, PassivelyPassed, ActivelyRefused, ActivelyMd5Refused}
-use Rattle.boundary.specs.Unchanged.{judging, JudgeRefused, JudgePassesNone, SignRefused, AskRefused}
+use Rattle.boundary.specs.Unchanged.{PrepareRefused, judging, JudgeRefused, JudgePassesNone, SignRefused, AskRefused}
 
 pub other-length : OtherLength
 unfolding changed
@@ -79,6 +80,10 @@ alike b o q c m e = go (isState b) c refl refl
 
 kept : (b : List ℕ) → Octets b → (q : State) → q ≡ decodeOf b → stateAfter b q ≡ b
 kept b o q e = alike b o q false q e ∙ closed b q false refl
+
+pub prepare-refused : PrepareRefused
+unfolding prepareExport prepareOutput
+prepare-refused k m out n i e = rw e
 
 pub judge-refused : JudgeRefused
 unfolding judgeExport

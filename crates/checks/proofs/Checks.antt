@@ -18,7 +18,7 @@ use Rattle.keys.specs.declared.table.Found.{Found}
 use Rattle.tables.specs.declared.Admitted.{Admitted}
 use Rattle.tables.specs.declared.Admitted.the-variants.{Valid, Refused}
 use Rattle.tables.specs.Tables.{Tables, tablesOf, recvEntry, md5Entry}
-use Rattle.tables.specs.ValidLaws.{valid-bytes}
+use Rattle.tables.specs.ValidLaws.{taken-held}
 use Rattle.tables.specs.SearchLaws.{recv-proper, recv-nobody}
 use Rattle.rules.specs.declared.Connection.{Connection}
 use Rattle.rules.specs.declared.Place.{Place}
@@ -68,18 +68,18 @@ module _ (t : Tables) (a b s : List ℕ) where
   state-left l n = none-split (familyTests l) (inputTests t a b ++ intactTests (arrivalOf a b s)) n .1
 
 -- the entry for a KeyID: in tables that are not refused its MAC has at most 16 bytes, and where none is found, 0
-module _ (k m : List ℕ) (p : Pair) (id : ℕ) where
+module _ (form : ℕ) (k m : List ℕ) (p : Pair) (id : ℕ) where
   abbrev entryFor : Found
-  entryFor = recvEntry (tablesOf k m) p id
+  entryFor = recvEntry (tablesOf form k m) p id
 
-  pub entry-mac : isRefused (tablesOf k m .answer) ≡ false → entryFor .entry .secret .«mac_bytes» ≤ 16
+  pub entry-mac : isRefused (tablesOf form k m .answer) ≡ false → entryFor .entry .secret .«mac_bytes» ≤ 16
   unfolding nobody
-  entry-mac e = go (tablesOf k m .answer) (entryFor .there) refl refl e
+  entry-mac e = go (tablesOf form k m .answer) (entryFor .there) refl refl e
     where
-      go : (c : Admitted) (b : Bool) → tablesOf k m .answer ≡ c → entryFor .there ≡ b → isRefused c ≡ false → entryFor .entry .secret .«mac_bytes» ≤ 16
+      go : (c : Admitted) (b : Bool) → tablesOf form k m .answer ≡ c → entryFor .there ≡ b → isRefused c ≡ false → entryFor .entry .secret .«mac_bytes» ≤ 16
       go (Refused n i) b q h z = let y : _≡_ {A = ℕ} 0 1 = cc in absurd (omega arith)
-      go (Valid n) true q h z = recv-proper (valid-bytes k m n q) p id h .mac-high
-      go (Valid n) false q h z = rw (recv-nobody (tablesOf k m) p id h) (omega arith)
+      go (Valid n) true q h z = recv-proper (taken-held form k m n q) p id h .mac-high
+      go (Valid n) false q h z = rw (recv-nobody (tablesOf form k m) p id h) (omega arith)
 
 -- 25 to 28 by values that are equal to the definitions'
 pub begins-is : (s : List ℕ) {missing m unknown u : Outcome} {found e : Found} {g f : Flow} {place x : Place} → missing ≡ m → unknown ≡ u → found ≡ e → g ≡ f → place ≡ x → {b : Begun}

@@ -68,15 +68,23 @@ fn peer_isn(conn: Connection, number: u32) -> u32
 }
 
 // How the table is looked up: the entry that matches the pair and has the segment's KeyID as its RecvID.
-fn entry_for(keys: &[u8], md5: &[u8], pair: Pair, option: Occurrence, segment: &[u8]) -> Found
+fn entry_for(
+    form: u8,
+    keys: &[u8],
+    md5: &[u8],
+    pair: Pair,
+    option: Occurrence,
+    segment: &[u8],
+) -> Found
     requires { ⌜ (option ≡ ao (now segment)) × (wellSized (now segment) ≡ true) ⌝ }
-    ensures { λ r. ⌜ r ≡ recvEntry (tablesOf (now (keys .entry)) (now (md5 .entry))) pair (keyId (now (segment .entry))) ⌝ }
+    ensures { λ r. ⌜ r ≡ recvEntry (tablesOf form (now (keys .entry)) (now (md5 .entry))) pair (keyId (now (segment .entry))) ⌝ }
 {
-    tables::find_recv(keys, md5, pair, key_id(option, segment))
+    tables::find_recv(form, keys, md5, pair, key_id(option, segment))
 }
 
 // 25 to 28 with a state, on tables that are not refused, by TCP-AO.
 fn keyed(
+    form: u8,
     keys: &[u8],
     md5: &[u8],
     segment: &[u8],
@@ -84,14 +92,14 @@ fn keyed(
     conn: Connection,
     reference: u64,
 ) -> Begun
-    requires { ⌜ (isRefused (tablesOf (now keys) (now md5) .answer) ≡ false) × (wellSized (now segment) ≡ true)
+    requires { ⌜ (isRefused (tablesOf form (now keys) (now md5) .answer) ≡ false) × (wellSized (now segment) ≡ true)
         × (header ≡ headerOf (length (now segment)) (now segment)) ⌝ }
-    ensures { λ r. ⌜ Keyed (tablesOf (now (keys .entry)) (now (md5 .entry))) conn reference (now (segment .entry)) r ⌝ }
+    ensures { λ r. ⌜ Keyed (tablesOf form (now (keys .entry)) (now (md5 .entry))) conn reference (now (segment .entry)) r ⌝ }
 {
     let pair = conn.pair;
     let options = header.options;
     let option = carried(options);
-    let found = entry_for(keys, md5, pair, option, segment);
+    let found = entry_for(form, keys, md5, pair, option, segment);
     let number = header.sequence;
     let flow = arriving_flow(pair, peer_isn(conn, number), conn.isn);
     let place = place_on(conn, reference, number);
@@ -126,6 +134,7 @@ fn keyed_md5(found: Found, segment: &[u8], header: Header, flow: Flow) -> Begun
 
 // "A connection goes by the way it was opened and never accepts the other".
 fn keyed_by_way(
+    form: u8,
     keys: &[u8],
     md5: &[u8],
     segment: &[u8],
@@ -133,21 +142,22 @@ fn keyed_by_way(
     conn: Connection,
     reference: u64,
 ) -> Begun
-    requires { ⌜ (isRefused (tablesOf (now keys) (now md5) .answer) ≡ false) × (wellSized (now segment) ≡ true)
+    requires { ⌜ (isRefused (tablesOf form (now keys) (now md5) .answer) ≡ false) × (wellSized (now segment) ≡ true)
         × (header ≡ headerOf (length (now segment)) (now segment)) ⌝ }
-    ensures { λ r. ⌜ KeyedByWay (tablesOf (now (keys .entry)) (now (md5 .entry))) conn reference (now (segment .entry)) r ⌝ }
+    ensures { λ r. ⌜ KeyedByWay (tablesOf form (now (keys .entry)) (now (md5 .entry))) conn reference (now (segment .entry)) r ⌝ }
 {
     if !is_md5(conn) {
-        return keyed(keys, md5, segment, header, conn, reference);
+        return keyed(form, keys, md5, segment, header, conn, reference);
     }
     let pair = conn.pair;
-    let found = tables::find_md5(keys, md5, pair);
+    let found = tables::find_md5(form, keys, md5, pair);
     let flow = arriving_flow(pair, peer_isn(conn, header.sequence), conn.isn);
     keyed_md5(found, segment, header, flow)
 }
 
 // With a state, opening or open: every test but 29.
 pub fn begin(
+    form: u8,
     keys: &[u8],
     md5: &[u8],
     source: &[u8],
@@ -156,10 +166,10 @@ pub fn begin(
     conn: Connection,
     reference: u64,
 ) -> Begun
-    ensures { λ r. ⌜ Judges (tablesOf (now (keys .entry)) (now (md5 .entry))) conn reference
+    ensures { λ r. ⌜ Judges (tablesOf form (now (keys .entry)) (now (md5 .entry))) conn reference
         (arrivalOf (now (source .entry)) (now (destination .entry)) (now (segment .entry))) r ⌝ }
 {
-    let early = early_faults(keys, md5, source, destination, segment, conn);
+    let early = early_faults(form, keys, md5, source, destination, segment, conn);
     let Outcome::Good(_, _) = early else {
         return nothing(early);
     };
@@ -168,11 +178,12 @@ pub fn begin(
     let Outcome::Good(_, _) = formed else {
         return nothing(formed);
     };
-    keyed_by_way(keys, md5, segment, header, conn, reference)
+    keyed_by_way(form, keys, md5, segment, header, conn, reference)
 }
 
 // The whole of it.
 pub fn check(
+    form: u8,
     keys: &[u8],
     md5: &[u8],
     source: &[u8],
@@ -182,10 +193,19 @@ pub fn check(
     reference: u64,
 ) -> Outcome
     ensures { λ r. ⌜ r
-        ≡ checkOf (tablesOf (now (keys .entry)) (now (md5 .entry))) conn reference
+        ≡ checkOf (tablesOf form (now (keys .entry)) (now (md5 .entry))) conn reference
         (arrivalOf (now (source .entry)) (now (destination .entry)) (now (segment .entry))) ⌝ }
 {
-    let begun = begin(keys, md5, source, destination, segment, conn, reference);
+    let begun = begin(
+        form,
+        keys,
+        md5,
+        source,
+        destination,
+        segment,
+        conn,
+        reference,
+    );
     finished(begun, segment)
 }
 
@@ -232,6 +252,7 @@ fn own_place(number: u32) -> Place
 
 // 25 to 28 of a bare SYN without a state. "For a bare SYN .. the destination ISN is zero."
 fn keyed_syn(
+    form: u8,
     keys: &[u8],
     md5: &[u8],
     segment: &[u8],
@@ -239,18 +260,18 @@ fn keyed_syn(
     pair: Pair,
     strict: bool,
 ) -> Begun
-    requires { ⌜ (isRefused (tablesOf (now keys) (now md5) .answer) ≡ false) × (wellSized (now segment) ≡ true)
+    requires { ⌜ (isRefused (tablesOf form (now keys) (now md5) .answer) ≡ false) × (wellSized (now segment) ≡ true)
         × (header ≡ headerOf (length (now segment)) (now segment)) ⌝ }
-    ensures { λ r. ⌜ KeyedSyn (tablesOf (now (keys .entry)) (now (md5 .entry)))
+    ensures { λ r. ⌜ KeyedSyn (tablesOf form (now (keys .entry)) (now (md5 .entry)))
         pair strict (arrivingOn pair (sequenceOf (now (segment .entry))) 0)
         (now (segment .entry)) r ⌝ }
 {
     let options = header.options;
     let option = carried(options);
-    let found = entry_for(keys, md5, pair, option, segment);
+    let found = entry_for(form, keys, md5, pair, option, segment);
     let number = header.sequence;
     let flow = arriving_flow(pair, number, 0);
-    let matched = tables::any_match(keys, md5, pair);
+    let matched = tables::any_match(form, keys, md5, pair);
     by_key(
         syn_missing(matched),
         syn_unknown(matched, strict),
@@ -264,6 +285,7 @@ fn keyed_syn(
 
 // Ticket 9: "a bare SYN without one by the table that matches, else as before".
 fn keyed_syn_by_way(
+    form: u8,
     keys: &[u8],
     md5: &[u8],
     segment: &[u8],
@@ -271,14 +293,14 @@ fn keyed_syn_by_way(
     pair: Pair,
     strict: bool,
 ) -> Begun
-    requires { ⌜ (isRefused (tablesOf (now keys) (now md5) .answer) ≡ false) × (wellSized (now segment) ≡ true)
+    requires { ⌜ (isRefused (tablesOf form (now keys) (now md5) .answer) ≡ false) × (wellSized (now segment) ≡ true)
         × (header ≡ headerOf (length (now segment)) (now segment)) ⌝ }
-    ensures { λ r. ⌜ KeyedSynByWay (tablesOf (now (keys .entry)) (now (md5 .entry))) pair strict
+    ensures { λ r. ⌜ KeyedSynByWay (tablesOf form (now (keys .entry)) (now (md5 .entry))) pair strict
         (arrivingOn pair (sequenceOf (now (segment .entry))) 0) (now (segment .entry)) r ⌝ }
 {
-    let found = tables::find_md5(keys, md5, pair);
+    let found = tables::find_md5(form, keys, md5, pair);
     if !found.there {
-        return keyed_syn(keys, md5, segment, header, pair, strict);
+        return keyed_syn(form, keys, md5, segment, header, pair, strict);
     }
     let flow = arriving_flow(pair, header.sequence, 0);
     keyed_md5(found, segment, header, flow)
@@ -286,6 +308,7 @@ fn keyed_syn_by_way(
 
 // A bare SYN, without a state: every test but 29, with the way and the IDs of the entry that was found.
 pub fn begin_syn(
+    form: u8,
     keys: &[u8],
     md5: &[u8],
     source: &[u8],
@@ -293,10 +316,10 @@ pub fn begin_syn(
     segment: &[u8],
     strict: bool,
 ) -> Begun
-    ensures { λ r. ⌜ JudgesSyn (tablesOf (now (keys .entry)) (now (md5 .entry)))
+    ensures { λ r. ⌜ JudgesSyn (tablesOf form (now (keys .entry)) (now (md5 .entry)))
         (arrivalOf (now (source .entry)) (now (destination .entry)) (now (segment .entry))) strict r ⌝ }
 {
-    let early = early_syn_faults(keys, md5, source, destination, segment);
+    let early = early_syn_faults(form, keys, md5, source, destination, segment);
     let Outcome::Good(_, _) = early else {
         return nothing(early);
     };
@@ -306,11 +329,12 @@ pub fn begin_syn(
         return nothing(formed);
     };
     let pair = arrival_pair(source, destination, segment);
-    keyed_syn_by_way(keys, md5, segment, header, pair, strict)
+    keyed_syn_by_way(form, keys, md5, segment, header, pair, strict)
 }
 
 // The whole of it.
 pub fn check_syn(
+    form: u8,
     keys: &[u8],
     md5: &[u8],
     source: &[u8],
@@ -319,9 +343,9 @@ pub fn check_syn(
     strict: bool,
 ) -> Outcome
     ensures { λ r. ⌜ r
-        ≡ checkSyn (tablesOf (now (keys .entry)) (now (md5 .entry)))
+        ≡ checkSyn (tablesOf form (now (keys .entry)) (now (md5 .entry)))
         (arrivalOf (now (source .entry)) (now (destination .entry)) (now (segment .entry))) strict ⌝ }
 {
-    let begun = begin_syn(keys, md5, source, destination, segment, strict);
+    let begun = begin_syn(form, keys, md5, source, destination, segment, strict);
     finished(begun, segment)
 }

@@ -20,10 +20,10 @@ use wire::header::Header;
 use wire::options::Options;
 
 // 10 to 17 and 45, with the entry's table and index.
-pub fn table_faults(keys: &[u8], md5: &[u8]) -> Outcome
-    ensures { λ r. ⌜ r ≡ first (tableTests (tablesOf (now (keys .entry)) (now (md5 .entry)))) unrefused ⌝ }
+pub fn table_faults(form: u8, keys: &[u8], md5: &[u8]) -> Outcome
+    ensures { λ r. ⌜ r ≡ first (tableTests (tablesOf form (now (keys .entry)) (now (md5 .entry)))) unrefused ⌝ }
 {
-    match tables::check(keys, md5) {
+    match tables::check(form, keys, md5) {
         Admitted::Valid(_) => Outcome::Good(0, 0),
         Admitted::Refused(n, i) => Outcome::Bad(n, i),
     }
@@ -63,12 +63,12 @@ pub fn address_faults(a: &[u8], b: &[u8]) -> Outcome
 }
 
 // Without a state: 19, then the table's number.
-fn input_faults(keys: &[u8], md5: &[u8], a: &[u8], b: &[u8]) -> Outcome
-    ensures { λ r. ⌜ r ≡ first (inputTests (tablesOf (now (keys .entry)) (now (md5 .entry)))
+fn input_faults(form: u8, keys: &[u8], md5: &[u8], a: &[u8], b: &[u8]) -> Outcome
+    ensures { λ r. ⌜ r ≡ first (inputTests (tablesOf form (now (keys .entry)) (now (md5 .entry)))
         (now (a .entry)) (now (b .entry))) unrefused ⌝ }
 {
     let sizes = address_faults(a, b);
-    let loaded = table_faults(keys, md5);
+    let loaded = table_faults(form, keys, md5);
     let Outcome::Good(_, _) = sizes else {
         return sizes;
     };
@@ -77,20 +77,21 @@ fn input_faults(keys: &[u8], md5: &[u8], a: &[u8], b: &[u8]) -> Outcome
 
 // With a state: 18 before 19.
 fn state_faults(
+    form: u8,
     keys: &[u8],
     md5: &[u8],
     source: &[u8],
     destination: &[u8],
     conn: Connection,
 ) -> Outcome
-    ensures { λ r. ⌜ r ≡ first (stateTests (tablesOf (now (keys .entry)) (now (md5 .entry)))
+    ensures { λ r. ⌜ r ≡ first (stateTests (tablesOf form (now (keys .entry)) (now (md5 .entry)))
         (now (source .entry)) (now (destination .entry)) conn) unrefused ⌝ }
 {
     let family = family_faults(conn);
     let Outcome::Good(_, _) = family else {
         return family;
     };
-    input_faults(keys, md5, source, destination)
+    input_faults(form, keys, md5, source, destination)
 }
 
 // 22: "two TCP-AO, or TCP-AO and MD5 together"; Ticket 9: "Two kind 19 give 22".
@@ -234,6 +235,7 @@ fn arrival_faults(conn: Connection, source: &[u8], destination: &[u8], header: H
 
 // With a state, up to 40: the input, and the segment's size and sum.
 pub fn early_faults(
+    form: u8,
     keys: &[u8],
     md5: &[u8],
     source: &[u8],
@@ -242,10 +244,10 @@ pub fn early_faults(
     conn: Connection,
 ) -> Outcome
     ensures { λ r. ⌜ r
-        ≡ first (stateTests (tablesOf (now (keys .entry)) (now (md5 .entry))) (now (source .entry)) (now (destination .entry)) conn
+        ≡ first (stateTests (tablesOf form (now (keys .entry)) (now (md5 .entry))) (now (source .entry)) (now (destination .entry)) conn
         ++ intactTests (arrivalOf (now (source .entry)) (now (destination .entry)) (now (segment .entry)))) unrefused ⌝ }
 {
-    let state = state_faults(keys, md5, source, destination, conn);
+    let state = state_faults(form, keys, md5, source, destination, conn);
     let Outcome::Good(_, _) = state else {
         return state;
     };
@@ -267,6 +269,7 @@ pub fn formed_faults(conn: Connection, source: &[u8], destination: &[u8], header
 
 // The same without a state.
 pub fn early_syn_faults(
+    form: u8,
     keys: &[u8],
     md5: &[u8],
     source: &[u8],
@@ -274,10 +277,10 @@ pub fn early_syn_faults(
     segment: &[u8],
 ) -> Outcome
     ensures { λ r. ⌜ r
-        ≡ first (inputTests (tablesOf (now (keys .entry)) (now (md5 .entry))) (now (source .entry)) (now (destination .entry))
+        ≡ first (inputTests (tablesOf form (now (keys .entry)) (now (md5 .entry))) (now (source .entry)) (now (destination .entry))
         ++ intactTests (arrivalOf (now (source .entry)) (now (destination .entry)) (now (segment .entry)))) unrefused ⌝ }
 {
-    let input = input_faults(keys, md5, source, destination);
+    let input = input_faults(form, keys, md5, source, destination);
     let Outcome::Good(_, _) = input else {
         return input;
     };

@@ -14,11 +14,11 @@ use rules::Outcome;
 use states::writers::is_md5;
 
 // 10 to 17 and 45, then 35, where no entry answers.
-pub fn key_faults(keys: &[u8], md5: &[u8], there: bool) -> Outcome
-    ensures { λ r. ⌜ r ≡ first (tableTests (tablesOf (now (keys .entry)) (now (md5 .entry))) ++ (test (refuse 35)
+pub fn key_faults(form: u8, keys: &[u8], md5: &[u8], there: bool) -> Outcome
+    ensures { λ r. ⌜ r ≡ first (tableTests (tablesOf form (now (keys .entry)) (now (md5 .entry))) ++ (test (refuse 35)
         (not there) ∷ [])) unrefused ⌝ }
 {
-    let loaded = table_faults(keys, md5);
+    let loaded = table_faults(form, keys, md5);
     let Outcome::Good(_, _) = loaded else {
         return loaded;
     };
@@ -29,16 +29,16 @@ pub fn key_faults(keys: &[u8], md5: &[u8], there: bool) -> Outcome
 }
 
 // Which number: 18, 10 to 17 and 45, then 35, "no entry matching the pair has .. the RecvID to ask"; Ticket 9: by MD5 "always 35".
-pub fn ask_faults(keys: &[u8], md5: &[u8], recv_id: u8, conn: Connection) -> Outcome
-    ensures { λ r. ⌜ r ≡ first (askTests (tablesOf (now (keys .entry)) (now (md5 .entry))) «recv_id» conn) unrefused ⌝ }
+pub fn ask_faults(form: u8, keys: &[u8], md5: &[u8], recv_id: u8, conn: Connection) -> Outcome
+    ensures { λ r. ⌜ r ≡ first (askTests (tablesOf form (now (keys .entry)) (now (md5 .entry))) «recv_id» conn) unrefused ⌝ }
 {
     let family = family_faults(conn);
     let Outcome::Good(_, _) = family else {
         return family;
     };
     if is_md5(conn) {
-        return key_faults(keys, md5, false);
+        return key_faults(form, keys, md5, false);
     }
-    let found = tables::find_recv(keys, md5, conn.pair, recv_id);
-    key_faults(keys, md5, found.there)
+    let found = tables::find_recv(form, keys, md5, conn.pair, recv_id);
+    key_faults(form, keys, md5, found.there)
 }

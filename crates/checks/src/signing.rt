@@ -70,14 +70,14 @@ fn length_faults(segment: &[u8]) -> Outcome
 }
 
 // 18, the table and 30.
-pub fn input_faults(keys: &[u8], md5: &[u8], segment: &[u8], conn: Connection) -> Outcome
-    ensures { λ r. ⌜ r ≡ first (inputTests (tablesOf (now (keys .entry)) (now (md5 .entry))) (now (segment .entry)) conn) unrefused ⌝ }
+pub fn input_faults(form: u8, keys: &[u8], md5: &[u8], segment: &[u8], conn: Connection) -> Outcome
+    ensures { λ r. ⌜ r ≡ first (inputTests (tablesOf form (now (keys .entry)) (now (md5 .entry))) (now (segment .entry)) conn) unrefused ⌝ }
 {
     let family = family_faults(conn);
     let Outcome::Good(_, _) = family else {
         return family;
     };
-    let loaded = table_faults(keys, md5);
+    let loaded = table_faults(form, keys, md5);
     let Outcome::Good(_, _) = loaded else {
         return loaded;
     };

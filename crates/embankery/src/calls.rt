@@ -2,20 +2,29 @@
 // state". They are those of the crate `boundary`. Assumes nothing.
 ghost use mathlib.Core.Path.{_≡_};
 ghost use Rattle.tables.specs.Tables.{tablesOf};
-ghost use Rattle.boundary.specs.Exports.{answers, leaves, writes, checkTableExport, openActiveExport, openActiveMd5Export, judgeSynExport};
-ghost use Rattle.boundary.specs.Exports.{openPassiveExport, judgeExport, signExport, askExport};
+ghost use Rattle.boundary.specs.Exports.{answers, fills, leaves, writes, checkTableExport, prepareExport, openActiveExport};
+ghost use Rattle.boundary.specs.Exports.{openActiveMd5Export, judgeSynExport, openPassiveExport, judgeExport, signExport, askExport};
 
-// How many key entries, or 10 to 17 and 45 with the entry's table and index.
+// How many key entries, or 10 to 17 and 45 with the entry's table and index, or 44.
 #[no_mangle]
-pub extern "C" fn tcpao_check_table(keys: &[u8], md5: &[u8]) -> u64
-    ensures { λ r. ⌜ answers r ≡ checkTableExport (tablesOf (now (keys .entry)) (now (md5 .entry))) ⌝ }
+pub extern "C" fn tcpao_check_table(form: u8, keys: &[u8], md5: &[u8]) -> u64
+    ensures { λ r. ⌜ answers r ≡ checkTableExport (tablesOf form (now (keys .entry)) (now (md5 .entry))) ⌝ }
 {
-    boundary::calls::check_table(keys, md5)
+    boundary::calls::check_table(form, keys, md5)
+}
+
+// Prepares both tables: the length written, or their refusal, or 37. The output is written only where that is done.
+#[no_mangle]
+pub extern "C" fn tcpao_prepare(keys: &[u8], md5: &[u8], out: &mut [u8]) -> u64
+    ensures { λ r. ⌜ fills r (now (out .exit)) ≡ prepareExport (now (keys .entry)) (now (md5 .entry)) (now (out .entry)) ⌝ }
+{
+    boundary::calls::prepare(keys, md5, out)
 }
 
 // Opens actively; the state is written only where that is done.
 #[no_mangle]
 pub extern "C" fn tcpao_open_active(
+    form: u8,
     keys: &[u8],
     md5: &[u8],
     local: &[u8],
@@ -27,11 +36,12 @@ pub extern "C" fn tcpao_open_active(
     state: &mut [u8],
 ) -> u64
     ensures { λ r. ⌜ leaves r (now (state .exit))
-        ≡ openActiveExport (tablesOf (now (keys .entry)) (now (md5 .entry))) (now (local .entry)) (now (remote .entry)) «local_port»
+        ≡ openActiveExport (tablesOf form (now (keys .entry)) (now (md5 .entry))) (now (local .entry)) (now (remote .entry)) «local_port»
         «remote_port» isn «send_id»
         (now (state .entry)) ⌝ }
 {
     boundary::calls::open_active(
+        form,
         keys,
         md5,
         local,
@@ -47,6 +57,7 @@ pub extern "C" fn tcpao_open_active(
 // Opens actively by MD5; the state is written only where that is done.
 #[no_mangle]
 pub extern "C" fn tcpmd5_open_active(
+    form: u8,
     keys: &[u8],
     md5: &[u8],
     local: &[u8],
@@ -57,11 +68,12 @@ pub extern "C" fn tcpmd5_open_active(
     state: &mut [u8],
 ) -> u64
     ensures { λ r. ⌜ leaves r (now (state .exit))
-        ≡ openActiveMd5Export (tablesOf (now (keys .entry)) (now (md5 .entry))) (now (local .entry)) (now (remote .entry)) «local_port»
+        ≡ openActiveMd5Export (tablesOf form (now (keys .entry)) (now (md5 .entry))) (now (local .entry)) (now (remote .entry)) «local_port»
         «remote_port» isn
         (now (state .entry)) ⌝ }
 {
     boundary::calls::open_active_md5(
+        form,
         keys,
         md5,
         local,
@@ -76,6 +88,7 @@ pub extern "C" fn tcpmd5_open_active(
 // A bare SYN, without a state.
 #[no_mangle]
 pub extern "C" fn tcpao_judge_syn(
+    form: u8,
     keys: &[u8],
     md5: &[u8],
     source: &[u8],
@@ -84,15 +97,16 @@ pub extern "C" fn tcpao_judge_syn(
     setting: u8,
 ) -> u64
     ensures { λ r. ⌜ answers r
-        ≡ judgeSynExport (tablesOf (now (keys .entry)) (now (md5 .entry)))
+        ≡ judgeSynExport (tablesOf form (now (keys .entry)) (now (md5 .entry)))
         (now (source .entry)) (now (destination .entry)) (now (segment .entry)) setting ⌝ }
 {
-    boundary::calls::judge_syn(keys, md5, source, destination, segment, setting)
+    boundary::calls::judge_syn(form, keys, md5, source, destination, segment, setting)
 }
 
 // Judges the bare SYN again and, only on accept, opens. Writes the state that it opened, or the empty one where the SYN is only passed.
 #[no_mangle]
 pub extern "C" fn tcpao_open_passive(
+    form: u8,
     keys: &[u8],
     md5: &[u8],
     source: &[u8],
@@ -103,16 +117,27 @@ pub extern "C" fn tcpao_open_passive(
     state: &mut [u8],
 ) -> u64
     ensures { λ r. ⌜ leaves r (now (state .exit))
-        ≡ openPassiveExport (tablesOf (now (keys .entry)) (now (md5 .entry)))
+        ≡ openPassiveExport (tablesOf form (now (keys .entry)) (now (md5 .entry)))
         (now (source .entry)) (now (destination .entry)) (now (segment .entry)) isn setting
         (now (state .entry)) ⌝ }
 {
-    boundary::calls::open_passive(keys, md5, source, destination, segment, isn, setting, state)
+    boundary::calls::open_passive(
+        form,
+        keys,
+        md5,
+        source,
+        destination,
+        segment,
+        isn,
+        setting,
+        state,
+    )
 }
 
 // Judges an arriving segment on a connection, opening or open.
 #[no_mangle]
 pub extern "C" fn tcpao_judge(
+    form: u8,
     keys: &[u8],
     md5: &[u8],
     source: &[u8],
@@ -121,15 +146,16 @@ pub extern "C" fn tcpao_judge(
     state: &mut [u8],
 ) -> u64
     ensures { λ r. ⌜ leaves r (now (state .exit))
-        ≡ judgeExport (tablesOf (now (keys .entry)) (now (md5 .entry)))
+        ≡ judgeExport (tablesOf form (now (keys .entry)) (now (md5 .entry)))
         (now (source .entry)) (now (destination .entry)) (now (segment .entry)) (now (state .entry)) ⌝ }
 {
-    boundary::calls::judge(keys, md5, source, destination, segment, state)
+    boundary::calls::judge(form, keys, md5, source, destination, segment, state)
 }
 
 // Signs a segment into `out`; only the signed length's bytes of it are written.
 #[no_mangle]
 pub extern "C" fn tcpao_sign(
+    form: u8,
     keys: &[u8],
     md5: &[u8],
     segment: &[u8],
@@ -137,16 +163,17 @@ pub extern "C" fn tcpao_sign(
     state: &mut [u8],
 ) -> u64
     ensures { λ r. ⌜ writes r (now (state .exit)) (now (out .exit))
-        ≡ signExport (tablesOf (now (keys .entry)) (now (md5 .entry))) (now (segment .entry)) (now (out .entry)) (now (state .entry)) ⌝ }
+        ≡ signExport (tablesOf form (now (keys .entry)) (now (md5 .entry)))
+        (now (segment .entry)) (now (out .entry)) (now (state .entry)) ⌝ }
 {
-    boundary::calls::sign(keys, md5, segment, out, state)
+    boundary::calls::sign(form, keys, md5, segment, out, state)
 }
 
 // Sets the RecvID asked of the peer.
 #[no_mangle]
-pub extern "C" fn tcpao_ask(keys: &[u8], md5: &[u8], recv_id: u8, state: &mut [u8]) -> u64
-    ensures { λ r. ⌜ leaves r (now (state .exit)) ≡ askExport (tablesOf (now (keys .entry)) (now (md5 .entry)))
+pub extern "C" fn tcpao_ask(form: u8, keys: &[u8], md5: &[u8], recv_id: u8, state: &mut [u8]) -> u64
+    ensures { λ r. ⌜ leaves r (now (state .exit)) ≡ askExport (tablesOf form (now (keys .entry)) (now (md5 .entry)))
         «recv_id» (now (state .entry)) ⌝ }
 {
-    boundary::calls::ask(keys, md5, recv_id, state)
+    boundary::calls::ask(form, keys, md5, recv_id, state)
 }

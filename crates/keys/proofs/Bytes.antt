@@ -6,7 +6,7 @@ use mathlib.Core.List.{List, [], _∷_, _++_, append-nil}
 use native.Mathlib.Omega.{arith}
 use native.Mathlib.Nat.{sub-zero, zero-add, add-sub-cancel-left}
 use lib.ListN.{length, getD, take, drop, replicate, length-take, length-drop}
-use lib.Seq.{paste, take-length, take-all}
+use lib.Seq.{paste, take-length}
 use lib.Dec.{eqb}
 use borrow.Author.Tests.{eq-eqb, ne-eqb}
 use Rattle.wire.specs.Prefix.{agree}
@@ -14,6 +14,7 @@ use Rattle.wire.specs.PrefixLaws.{agree-take, agree-by}
 use Rattle.keys.specs.Algorithm.{macBytes}
 use Rattle.keys.specs.Entry.{knownKind, familyOf, extra, size, width, padded, sidesEnd, macLength}
 use Rattle.keys.specs.EntryLaws.{width-le, body-is, known-size}
+use Rattle.keys.specs.WalkLaws.{tail, tail-is}
 
 -- an address of the family has w bytes
 
@@ -82,13 +83,6 @@ laid-whole m at e x h q =
     let l = length-take m (drop at e) in
     let z : m - length (take m (drop at e)) ≡ 0 = omega arith in
     laid-part m at m e x q ∙ ap (λ (k : ℕ). take m (drop at e) ++ blank k) z ∙ append-nil (take m (drop at e))
-
--- the part of a list from `at` on, as the code cuts it
-abbrev pub tail : List ℕ → ℕ → List ℕ
-tail t at = take (length t - at) (drop at t)
-
-pub tail-is : (t : List ℕ) (at : ℕ) → tail t at ≡ drop at t
-tail-is t at = take-all (length t - at) (drop at t) (let l = length-drop at t in omega arith)
 
 zero-at : (m i : ℕ) → getD (blank m) i 0 ≡ 0
 zero-at zero i = refl

@@ -17,7 +17,8 @@ use Rattle.keys.specs.Entry.{familyOf, width, padded, sideOf, selectorOf
 use Rattle.keys.specs.Match.{fixed, meet, overlap}
 use Rattle.keys.specs.Table.{numberOf, zeros, sideTests}
 use Rattle.keys.specs.FaultLaws.{lacks, number-none, number-past, number-given}
-use Rattle.keys.proofs.Bytes.{tail, agree-padded}
+use Rattle.keys.specs.WalkLaws.{tail}
+use Rattle.keys.proofs.Bytes.{agree-padded}
 use Rattle.keys.specs.declared.entry.Side.{Side}
 use Rattle.keys.specs.declared.entry.Selector.{Selector}
 

@@ -6,19 +6,20 @@ use mathlib.Core.Path.{_≡_, refl, sym, ap, _∙_}
 use mathlib.Core.List.{List, [], _∷_, _++_}
 use native.Mathlib.Omega.{arith}
 use native.Mathlib.Nat.{sub-zero}
-use lib.ListN.{length, getD, take, drop, drop-of-length-le, length-drop, length-append}
+use lib.ListN.{length, getD, take, drop, length-drop, length-append}
 use lib.Seq.{take-nil, take-append-add, append-snoc}
 use lib.Dec.{leb, eqb}
 use borrow.Author.Tests.{eq-eqb, ne-eqb, le-leb, lt-leb}
 use Rattle.octets.specs.Tests.{Test, test}
-use Rattle.keys.specs.Entry.{knownKind, extra, body, size, idsOf, selectorOf, entryOf, Item, item, itemAt, sound, items, entries}
-use Rattle.keys.specs.EntryLaws.{kind-is, items-at, items-end, sound-inside, entries-next, entries-stop}
+use Rattle.keys.specs.Entry.{knownKind, extra, size, idsOf, selectorOf, entryOf, Item, item, itemAt, sound, items, entries}
+use Rattle.keys.specs.EntryLaws.{kind-is, items-at, items-end, sound-inside, entries-next}
 use Rattle.keys.specs.Match.{overlap, share, clash}
 use Rattle.keys.specs.Table.{numberOf, kindListed, entryTests, clashing, itemTests, loadTests, refusing, loadedFrom, loaded}
 use Rattle.keys.specs.Table.{nobody, found, anyOf, meets, meetsAny, placeOf}
 use Rattle.keys.specs.FoundLaws.{any-found}
 use Rattle.keys.specs.FaultLaws.{number-past, entry-lacks, listed-known, item-good}
-use Rattle.keys.proofs.Bytes.{tail, tail-is}
+pub use Rattle.keys.specs.WalkLaws.{tail-whole, sizeAt, size-past}
+use Rattle.keys.specs.WalkLaws.{tail, tail-is, entry-at, sound-there, size-sound, size-inside, entries-cut, entries-on, entries-over}
 use Rattle.keys.proofs.Tests.{given, passing}
 use Rattle.keys.specs.declared.entry.Ids.{Ids}
 use Rattle.keys.specs.declared.entry.Selector.{Selector}
@@ -31,14 +32,6 @@ use Rattle.keys.specs.declared.table.Found.{Found}
 use Rattle.keys.specs.declared.table.Meeting.{Meeting}
 
 -- what begins at `at`
-
-size-none : (b : Bool) (s n : ℕ) → n ≡ cond b (1 + s) 0 → n ≡ 0 → b ≡ false
-size-none true s n e z = absurd (omega arith)
-size-none false s n e z = refl
-
-size-some : (b : Bool) (s n : ℕ) → n ≡ cond b s 0 → (n ≡ 0 → ⊥) → b ≡ true
-size-some true s n e z = refl
-size-some false s n e z = absurd (z e)
 
 pub first-known : (kind : TableKind) (k : ℕ) (r : Bool) → r ≡ kindListed kind (item (k ∷ [])) → r ≡ true → knownKind k ≡ true
 unfolding item
@@ -58,40 +51,13 @@ module _ (t : List ℕ) (at : ℕ) where
   unfolding item
   whole-is n e h = λ i. leb ((e ∙ ap size (sym (kind-is t at))) i) (sym (length-drop at t) i)
 
-  -- how many bytes the entry has that is there
-  abbrev pub sizeAt : ℕ
-  sizeAt = cond (sound (itemAt t at)) (size (getD t at 0)) 0
-
-  pub size-past : length t ≤ at → 0 ≡ sizeAt
-  unfolding item knownKind
-  size-past h = rw (drop-of-length-le t h)
-
-  pub size-unknown : (r : Bool) → r ≡ knownKind (getD t at 0) → r ≡ false → 0 ≡ sizeAt
+  pub size-unknown : (r : Bool) → r ≡ knownKind (getD t at 0) → r ≡ false → 0 ≡ sizeAt t at
   size-unknown r e h = rw (known-is r false e h)
 
-  pub size-is : (r : Bool) (n : ℕ) (b : Bool) → r ≡ knownKind (getD t at 0) → r ≡ true → n ≡ size (getD t at 0) → at ≤ length t → leb n (length t - at) ≡ b → cond b n 0 ≡ sizeAt
+  pub size-is : (r : Bool) (n : ℕ) (b : Bool) → r ≡ knownKind (getD t at 0) → r ≡ true → n ≡ size (getD t at 0) → at ≤ length t → leb n (length t - at) ≡ b → cond b n 0 ≡ sizeAt t at
   size-is r n b e h q k z =
       let s : b ≡ sound (itemAt t at) = sym z ∙ whole-is n q k ∙ ap (λ (y : Bool). y && itemAt t at .whole) (sym (known-is r true e h)) in
       λ i. cond (s i) (q i) 0
-
-  module _ (n : ℕ) (ne : n ≡ sizeAt) where
-    pub sound-not : n ≡ 0 → sound (itemAt t at) ≡ false
-    sound-not z = size-none (sound (itemAt t at)) (body (getD t at 0)) n ne z
-
-    pub sound-there : (n ≡ 0 → ⊥) → sound (itemAt t at) ≡ true
-    sound-there z = size-some (sound (itemAt t at)) (size (getD t at 0)) n ne z
-
-    pub size-sound : sound (itemAt t at) ≡ true → n ≡ size (getD t at 0)
-    size-sound h = ne ∙ ap (λ (b : Bool). cond b (size (getD t at 0)) 0) h
-
-    pub size-inside : sound (itemAt t at) ≡ true → (1 ≤ n) × (at + n ≤ length t)
-    size-inside h = let e = size-sound h in let i = sound-inside t at h in (omega arith, omega arith)
-
-  pub tail-whole : at + size (getD t at 0) ≤ length t → size (getD (tail t at) 0 0) ≤ length (tail t at)
-  tail-whole h =
-      let k : size (getD (tail t at) 0 0) ≡ size (getD t at 0) = ap (λ (s : List ℕ). size (getD s 0 0)) (tail-is t at) ∙ ap size (kind-is t at) in
-      let l : length (tail t at) ≡ length t - at = ap length (tail-is t at) ∙ length-drop at t in
-      omega arith
 
   pub ids-at : (i : Ids) → i ≡ idsOf (tail t at) → i ≡ itemAt t at .entry .ids
   unfolding item entryOf
@@ -100,10 +66,6 @@ module _ (t : List ℕ) (at : ℕ) where
   pub selector-at : (s : Selector) → s ≡ selectorOf (getD (tail t at) 0 0) (tail t at) → s ≡ itemAt t at .entry .selector
   unfolding item entryOf
   selector-at s e = e ∙ ap (λ (x : List ℕ). selectorOf (getD x 0 0) x) (tail-is t at)
-
-  pub entry-at : (e : Entry) → e ≡ entryOf (tail t at) → e ≡ itemAt t at .entry
-  unfolding item
-  entry-at e q = q ∙ ap entryOf (tail-is t at)
 
 -- what a first test decided
 
@@ -138,7 +100,7 @@ module _ {t : List ℕ} {e : Entry} {i j at : ℕ} (w : Clashing t e i j at) (n 
   pub clashing-cut : n ≡ 0 → false ≡ clashing e (take i (entries t))
   unfolding clashing
   clashing-cut z =
-      sym (ap (λ (l : List Entry). clashing e (take (i - j) l)) (entries-stop t at (sound-not t at n ne z)) ∙ ap (clashing e) (take-nil (i - j))) ∙ w .rest
+      sym (ap (λ (l : List Entry). clashing e (take (i - j) l)) (entries-cut t at n ne z) ∙ ap (clashing e) (take-nil (i - j))) ∙ w .rest
 
   module _ (y : n ≡ 0 → ⊥) where
     pub clashing-inside : at + size (getD t at 0) ≤ length t
@@ -150,12 +112,10 @@ module _ {t : List ℕ} {e : Entry} {i j at : ℕ} (w : Clashing t e i j at) (n 
     turn : j < i → (clash (itemAt t at .entry) e || clashing e (take (i - (j + 1)) (entries (drop (at + n) t)))) ≡ clashing e (take i (entries t))
     unfolding clashing
     turn k =
-        let h = sound-there t at n ne y in
         let z : i - j ≡ suc (i - (j + 1)) = omega arith in
-        ap (λ (m : ℕ). clash (itemAt t at .entry) e || clashing e (take (i - (j + 1)) (entries (drop (at + m) t)))) (size-sound t at n ne h)
-        ∙ sym
-        (ap (λ (l : List Entry). clashing e (take (i - j) l)) (entries-next t at h)
-        ∙ ap (λ (m : ℕ). clashing e (take m (itemAt t at .entry ∷ entries (drop (at + size (getD t at 0)) t)))) z)
+        sym
+        (ap (λ (l : List Entry). clashing e (take (i - j) l)) (entries-on t at n ne (sound-there t at n ne y))
+        ∙ ap (λ (m : ℕ). clashing e (take m (itemAt t at .entry ∷ entries (drop (at + n) t)))) z)
         ∙ w .rest
 
     module _ (k : j < i) (r : Bool) (re : r ≡ (share (itemAt t at .entry .ids) (e .ids) && overlap (itemAt t at .entry .selector) (e .selector))) where
@@ -180,16 +140,16 @@ pub seek-start : (t : List ℕ) (test : Entry → Bool) → Seeking t test 0 0
 seek-start t test = record { counted = omega arith; within = omega arith; rest = refl }
 
 module _ {t : List ℕ} {test : Entry → Bool} {i at : ℕ} (w : Seeking t test i at) where
-  stopped : sound (itemAt t at) ≡ false → (r : Found) → r ≡ nobody → r ≡ found test 0 (entries t)
+  stopped : entries (drop at t) ≡ [] → (r : Found) → r ≡ nobody → r ≡ found test 0 (entries t)
   unfolding found
-  stopped s r q = q ∙ sym (ap (found test i) (entries-stop t at s)) ∙ w .rest
+  stopped s r q = q ∙ sym (ap (found test i) s) ∙ w .rest
 
   pub seek-over : length t ≤ at → (r : Found) → r ≡ nobody → r ≡ found test 0 (entries t)
-  seek-over k r q = stopped (sound-not t at 0 (size-past t at k) refl) r q
+  seek-over k r q = stopped (entries-over t at k) r q
 
   module _ (n : ℕ) (ne : n ≡ sizeAt t at) where
     pub seek-cut : n ≡ 0 → (r : Found) → r ≡ nobody → r ≡ found test 0 (entries t)
-    seek-cut z r q = stopped (sound-not t at n ne z) r q
+    seek-cut z r q = stopped (entries-cut t at n ne z) r q
 
     module _ (y : n ≡ 0 → ⊥) where
       pub seek-inside : at + size (getD t at 0) ≤ length t
@@ -200,11 +160,7 @@ module _ {t : List ℕ} {test : Entry → Bool} {i at : ℕ} (w : Seeking t test
 
       seek-turn : cond (test (itemAt t at .entry)) (record { there = true; index = i; entry = itemAt t at .entry }) (found test (i + 1) (entries (drop (at + n) t))) ≡ found test 0 (entries t)
       unfolding found
-      seek-turn =
-          let h = sound-there t at n ne y in
-          ap (λ (m : ℕ). cond (test (itemAt t at .entry)) (record { there = true; index = i; entry = itemAt t at .entry }) (found test (i + 1) (entries (drop (at + m) t)))) (size-sound t at n ne h)
-          ∙ sym (ap (found test i) (entries-next t at h))
-          ∙ w .rest
+      seek-turn = sym (ap (found test i) (entries-on t at n ne (sound-there t at n ne y))) ∙ w .rest
 
       module _ (r : Bool) (re : r ≡ test (itemAt t at .entry)) where
         pub seek-hit : r ≡ true → (e : Entry) → e ≡ entryOf (tail t at) → record { there = true; index = i; entry = e } ≡ found test 0 (entries t)
@@ -216,6 +172,40 @@ module _ {t : List ℕ} {test : Entry → Bool} {i at : ℕ} (w : Seeking t test
             let h = seek-step in
             let k = w .counted in
             record { counted = omega arith; within = h .1; rest = cond-miss (test (itemAt t at .entry)) _ _ _ (sym re ∙ g) seek-turn }
+
+-- the loop that counts
+
+-- i entries are passed, and what is left stands from `at` on
+pub record Counting (t : List ℕ) (i at : ℕ) : Type 0 where
+  pub counted : i ≤ at
+  pub within : at ≤ length t
+  pub rest : i + length (entries (drop at t)) ≡ length (entries t)
+
+pub count-start : (t : List ℕ) → Counting t 0 0
+count-start t = record { counted = omega arith; within = omega arith; rest = omega arith }
+
+module _ {t : List ℕ} {i at : ℕ} (w : Counting t i at) where
+  none-left : entries (drop at t) ≡ [] → i ≡ length (entries t)
+  none-left e = let l = ap length e in let r = w .rest in omega arith
+
+  pub count-over : length t ≤ at → i ≡ length (entries t)
+  count-over h = none-left (entries-over t at h)
+
+  module _ (n : ℕ) (ne : n ≡ sizeAt t at) where
+    pub count-cut : n ≡ 0 → i ≡ length (entries t)
+    count-cut z = none-left (entries-cut t at n ne z)
+
+    module _ (y : n ≡ 0 → ⊥) where
+      pub count-step : (1 ≤ n) × (at + n ≤ length t)
+      count-step = size-inside t at n ne (sound-there t at n ne y)
+
+      pub count-next : Counting t (i + 1) (at + n)
+      count-next =
+          let l = ap length (entries-on t at n ne (sound-there t at n ne y)) in
+          let r = w .rest in
+          let h = count-step in
+          let k = w .counted in
+          record { counted = omega arith; within = h .1; rest = omega arith }
 
 -- the two searches by another table's entries, with the loop of a search
 

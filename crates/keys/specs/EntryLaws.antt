@@ -113,24 +113,28 @@ module _ (t : List ℕ) (at : ℕ) where
 
 -- bytes
 
-take-octets : (n : ℕ) (s : List ℕ) → Octets s → Octets (take n s)
+pub take-octets : (n : ℕ) (s : List ℕ) → Octets s → Octets (take n s)
 take-octets zero s h i = omega arith
 take-octets (suc n) [] h i = omega arith
 take-octets (suc n) (x ∷ s) h zero = h 0
 take-octets (suc n) (x ∷ s) h (suc i) = take-octets n s (λ j. h (suc j)) i
 
-drop-octets : (n : ℕ) (s : List ℕ) → Octets s → Octets (drop n s)
+pub drop-octets : (n : ℕ) (s : List ℕ) → Octets s → Octets (drop n s)
 drop-octets n s h i = rw (getD-drop n s i 0) (h (n + i))
 
-zeros-octets : (n : ℕ) → Octets (replicate n 0)
+pub zeros-octets : (n : ℕ) → Octets (replicate n 0)
 zeros-octets zero i = omega arith
 zeros-octets (suc n) zero = omega arith
 zeros-octets (suc n) (suc i) = zeros-octets n i
 
-append-octets : (a b : List ℕ) → Octets a → Octets b → Octets (a ++ b)
+pub append-octets : (a b : List ℕ) → Octets a → Octets b → Octets (a ++ b)
 append-octets [] b ha hb i = hb i
 append-octets (x ∷ a) b ha hb zero = ha 0
 append-octets (x ∷ a) b ha hb (suc i) = append-octets a b (λ j. ha (suc j)) hb i
+
+pub cons-octets : (x : ℕ) (s : List ℕ) → x < 256 → Octets s → Octets (x ∷ s)
+cons-octets x s h o zero = h
+cons-octets x s h o (suc i) = o i
 
 -- every entry's fields
 
@@ -140,9 +144,12 @@ side-fields w ports at e k h =
     let a = take w (drop at e) in
     let x = h ports in
     let y = h (ports + 1) in
+    let u = h (ports + 2) in
+    let v = h (ports + 2 + 1) in
     let l = length-take w (drop at e) in
     record {
       low = omega arith;
+      high = omega arith;
       sixteen = simp (length-append, length-replicate) (omega arith);
       octets = append-octets a (replicate (16 - length a) 0) (take-octets w (drop at e) (drop-octets at e h)) (zeros-octets (16 - length a));
     }

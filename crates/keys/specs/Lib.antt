@@ -1,6 +1,7 @@
 pub mod Algorithm
 pub mod Entry
 pub mod EntryLaws
+pub mod WalkLaws
 pub mod Match
 pub mod MatchLaws
 pub mod Table

@@ -47,6 +47,7 @@ and-true false b e = let z : _≡_ {A = ℕ} 0 1 = cc in absurd (omega arith)
 -- what the fields of an entry are, whatever bytes it was read from
 pub record SideFields (s : Side) : Type 0 where
   pub low : s .low < 65536
+  pub high : s .high < 65536
   pub sixteen : length (s .address) ≡ 16
   pub octets : Octets (s .address)
 

@@ -202,7 +202,7 @@ fn secret_of(e: &[u8]) -> Secret
 }
 
 // The entry whose bytes begin with e's.
-pub(crate) fn entry_of(e: &[u8]) -> Entry
+pub fn entry_of(e: &[u8]) -> Entry
     requires { ⌜ size (getD (now e) 0 0) ≤ length (now e) ⌝ }
     ensures { λ r. ⌜ r ≡ entryOf (now (e .entry)) ⌝ }
 {

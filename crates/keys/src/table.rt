@@ -58,7 +58,7 @@ pub struct Meeting {
 }
 
 // How many bytes the entry at `at` has; 0 where none of a known kind begins there or it is not there whole.
-fn size_at(table: &[u8], at: usize) -> usize
+pub fn size_at(table: &[u8], at: usize) -> usize
     ensures { λ r. ⌜ r ≡ cond (sound (itemAt (now (table .entry)) at)) (size (getD (now (table .entry)) at 0)) 0 ⌝ }
 {
     if table.len() <= at {
@@ -211,7 +211,7 @@ fn answers_at(table: &[u8], at: usize, pair: Pair, by: By) -> bool
     crate::matching::matches(selector_of(&table[at..]), pair)
 }
 
-fn nothing() -> Found
+pub fn nothing() -> Found
     ensures { λ r. ⌜ r ≡ nobody ⌝ }
 {
     let a = [0u8; 16];
@@ -269,6 +269,23 @@ pub fn find(table: &[u8], pair: Pair, by: By) -> Found
         i += 1;
     }
     nothing()
+}
+
+// How many entries the bytes have, up to the first that is not whole or not of a known kind.
+pub fn count(table: &[u8]) -> usize
+    ensures { λ r. ⌜ r ≡ length (entries (now (table .entry))) ⌝ }
+{
+    let mut at: usize = 0;
+    let mut i: usize = 0;
+    while at < table.len() {
+        let n = size_at(table, at);
+        if n == 0 {
+            return i;
+        }
+        at = at + n;
+        i += 1;
+    }
+    i
 }
 
 // Whether some entry matches a pair that the selector matches too.

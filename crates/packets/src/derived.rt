@@ -4,6 +4,7 @@ use crate::ends::End;
 use crate::ends::entries;
 use crate::ends::table;
 use keys::entry::Pair;
+use tables::BYTES;
 use traffic::derive;
 use traffic::flow::Flow;
 
@@ -27,7 +28,7 @@ pub fn traffic_key(e: End, source_isn: u32, destination_isn: u32) -> [u8; 32] {
     let pair = e.pair;
     let t = table(e);
     let no_md5 = [0u8; 0];
-    let found = tables::find_recv(entries(&t, pair.family), &no_md5, pair, e.recv_id);
+    let found = tables::find_recv(BYTES, entries(&t, pair.family), &no_md5, pair, e.recv_id);
     let entry = found.entry;
     let secret = entry.secret;
     derive::traffic_key(secret, arriving(pair, source_isn, destination_isn))

@@ -8,6 +8,7 @@ use rules::Settled;
 use rules::Signed;
 use rules::State;
 use rules::SynJudged;
+use tables::BYTES;
 
 // RFC 9235, section 3: the master key, the KeyIDs of the two directions, and the server's port, BGP's.
 pub const KEY: [u8; 10] = *b"testvector";
@@ -159,6 +160,7 @@ pub fn judge_syn(e: End, segment: &[u8]) -> SynJudged {
     let t = table(e);
     let no_md5 = [0u8; 0];
     tcpao::judge::judge_syn(
+        BYTES,
         entries(&t, pair.family),
         &no_md5,
         address(&source, pair.family),
@@ -175,6 +177,7 @@ pub fn open_passive(e: End, segment: &[u8], isn: u32) -> Judged {
     let t = table(e);
     let no_md5 = [0u8; 0];
     tcpao::judge::open_passive(
+        BYTES,
         entries(&t, pair.family),
         &no_md5,
         address(&source, pair.family),
@@ -192,6 +195,7 @@ pub fn open_active(e: End, isn: u32) -> Settled {
     let t = table(e);
     let no_md5 = [0u8; 0];
     tcpao::open::open_active(
+        BYTES,
         entries(&t, pair.family),
         &no_md5,
         address(&local, pair.family),
@@ -210,6 +214,7 @@ pub fn judge(e: End, segment: &[u8], state: State) -> Judged {
     let t = table(e);
     let no_md5 = [0u8; 0];
     tcpao::judge::judge(
+        BYTES,
         entries(&t, pair.family),
         &no_md5,
         address(&source, pair.family),
@@ -223,5 +228,12 @@ pub fn sign(e: End, segment: &[u8], out: &mut [u8], state: State) -> Signed {
     let pair = e.pair;
     let t = table(e);
     let no_md5 = [0u8; 0];
-    tcpao::sign::sign(entries(&t, pair.family), &no_md5, segment, out, state)
+    tcpao::sign::sign(
+        BYTES,
+        entries(&t, pair.family),
+        &no_md5,
+        segment,
+        out,
+        state,
+    )
 }

@@ -8,3 +8,4 @@ pub mod Live
 pub mod LiveLaws
 pub mod TableLaws
 pub mod KeptLaws
+pub mod RunLaws

@@ -129,7 +129,7 @@ faulty stage r =
 
 -- the tables that a segment is judged by: the entries are those of the key table, and there is no MD5 table
 abbrev pub deskTables : List ℕ → Tables
-deskTables t = tablesOf t []
+deskTables t = tablesOf 0 t []
 
 -- document 02, Ticket 8: "Ticket 1's program stays at 64 entries"
 abbrev pub deskEntries : ℕ

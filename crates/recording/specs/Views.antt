@@ -2,13 +2,14 @@
 use Prim.Native.Nat.{ℕ, _+_, _-_, _%_, min}
 use mathlib.Core.Bool.{cond}
 use mathlib.Core.Path.{_≡_}
-use mathlib.Core.List.{List, _++_}
+use mathlib.Core.List.{List, [], _++_}
 use lib.ListN.{length, getD, take, drop}
 use Rattle.recording.specs.declared.line.Line.{Line}
 use Rattle.recording.specs.declared.line.Text.{Text}
 use Rattle.recording.specs.declared.desk.Desk as C
+use Rattle.recording.specs.declared.desk.Step.{Step}
 use Rattle.recording.specs.Lines.{lineText}
-use Rattle.recording.specs.Recording.{Desk, kindOf, recordBytes, isStopped}
+use Rattle.recording.specs.Recording.{Desk, kindOf, recordBytes, start, isStopped, absorb, finished}
 
 -- the bytes of a line
 abbrev pub textOf : Text → List ℕ
@@ -44,3 +45,19 @@ recordPart h s = min (recordBytes (kindOf (h ++ s)) - length h) (length s)
 -- how many bytes a call takes: up to the end of a record, or all that there are; all where the desk has stopped
 abbrev pub taken : Desk → List ℕ → ℕ
 taken d s = cond (isStopped d) (length s) (recordPart (d .held) s)
+
+-- The calls.
+
+-- `Desk::new`: nothing has been read, whatever the buffer is
+abbrev pub Fresh : C.Desk → Type 0
+Fresh c = (table : List ℕ) → deskView [] table c ≡ start
+
+-- `Desk::advance` on some bytes: those that it takes are absorbed, with as much of the table as the buffer holds
+pub record Advanced (c : C.Desk) (buffer bytes : List ℕ) (s : Step) (left : List ℕ) : Type 0 where
+  pub desk : Given c buffer (λ d. absorb (take (length buffer)) d (take (s .took) bytes)) (s .desk) (s .line) left
+  pub took : s .took ≡ taken (deskView [] buffer c) bytes
+  pub room : length left ≡ length buffer
+
+-- `Desk::finish`: the line that stands at the end
+abbrev pub Ended : C.Desk → Line → Type 0
+Ended c line = (printed table : List ℕ) → finished (deskView printed table c) ≡ printed ++ lineText line

@@ -2,17 +2,17 @@
 // specs/Recording, and specs/Views says which desk a struct is. Assumes nothing at the calls; the functions below them take records that
 // are there whole.
 ghost use mathlib.Core.Path.{_≡_};
-ghost use mathlib.Core.List.{List, [], _++_};
+ghost use mathlib.Core.List.{List};
 ghost use Prim.Native.Nat.{ℕ, _+_, _≤_, _<_, min};
 ghost use mathlib.Core.Bool.{false};
-ghost use lib.ListN.{length, take, drop};
-ghost use Rattle.recording.specs.Lines.{lineText};
+ghost use lib.ListN.{length, take};
 ghost use Rattle.rules.specs.Calls.{judged as judgedOf};
-ghost use Rattle.recording.specs.Recording.{start, recordBytes, kindOf, entryLength, usedLength, faulty as faultyOf};
+ghost use Rattle.recording.specs.Recording.{recordBytes, kindOf, entryLength, usedLength, faulty as faultyOf};
 ghost use Rattle.recording.specs.Recording.{stopped, entered, atOpening, openedBy, openOutcome, deskTables, arrivalFrom, judgedOn};
-ghost use Rattle.recording.specs.Recording.{withHeld, settled, looked, absorb, finished};
-ghost use Rattle.recording.specs.Views.{heldCount, deskView, Given, recordPart, taken};
+ghost use Rattle.recording.specs.Recording.{withHeld, settled, looked};
+ghost use Rattle.recording.specs.Views.{heldCount, Given, recordPart, Fresh, Advanced, Ended};
 ghost use Rattle.recording.specs.Held.{Holds};
+ghost use Rattle.recording.specs.Live.{enough};
 use crate::form::RECORD_BYTES;
 use crate::form::faulty;
 use crate::form::record_bytes;
@@ -23,6 +23,7 @@ use crate::opening::open_state;
 use rules::Judged;
 use rules::Outcome;
 use rules::State;
+use tables::BYTES;
 
 // How many bytes a buffer for the table must have: what 64 entries can have, and one more, by which a 65th is seen to begin. What a
 // longer buffer would hold besides changes no line.
@@ -69,12 +70,21 @@ fn judge_on(table: &[u8], segment: &[u8], state: State) -> Judged
     let remote = pair.remote;
     let w = keys::entry::width_of(pair.family);
     let no_md5 = [0u8; 0];
-    tcpao::judge::judge(table, &no_md5, &remote[..w], &local[..w], segment, state)
+    tcpao::judge::judge(
+        BYTES,
+        table,
+        &no_md5,
+        &remote[..w],
+        &local[..w],
+        segment,
+        state,
+    )
 }
 
 impl Desk {
     pub fn new() -> Self
-        ensures { λ r. ⌜ ((table : List ℕ) → deskView [] table r ≡ start) ⌝ }
+        ensures fresh { λ r. ⌜ Fresh r ⌝ }
+        ensures room { λ _. do ⌜ (← ⟦TABLE_BYTES⟧ .entry) ≡ enough ⌝ }
     {
         Desk {
             stage: 0,
@@ -265,10 +275,7 @@ impl Desk {
     // Takes bytes up to the end of a record, or all that there are, and gives the line to print, if there is one. A desk that has
     // stopped takes all.
     pub fn advance(self, table: &mut [u8], data: &[u8]) -> Step
-        ensures desk { λ r. ⌜ Given self (now (table .entry))
-            (λ d. absorb (take (length (now (table .entry)))) d (take (r .took) (now («data» .entry))))
-            (r .desk) (r .line) (now (table .exit)) ⌝ }
-        ensures took { λ r. ⌜ r .took ≡ taken (deskView [] (now (table .entry)) self) (now («data» .entry)) ⌝ }
+        ensures { λ r. ⌜ Advanced self (now (table .entry)) (now («data» .entry)) r (now (table .exit)) ⌝ }
     {
         let stage = self.stage;
         if 1 < stage {
@@ -287,7 +294,7 @@ impl Desk {
 
     // What stands at the end of the recording.
     pub fn finish(self) -> Line
-        ensures { λ r. ⌜ ((printed table : List ℕ) → finished (deskView printed table self) ≡ printed ++ lineText r) ⌝ }
+        ensures { λ r. ⌜ Ended self r ⌝ }
     {
         let stage = self.stage;
         if 1 < stage {

@@ -11,6 +11,7 @@ use keys::table::TableKind;
 use rules::NO_INDEX;
 use rules::Outcome;
 use rules::State;
+use tables::BYTES;
 use tables::Index;
 
 // "Ticket 1's program stays at 64 entries".
@@ -64,10 +65,10 @@ pub(crate) fn open_outcome(table: &[u8], bytes: &[u8]) -> Outcome
         return Outcome::Bad(n, Index { table: 0, entry: i });
     }
     let no_md5 = [0u8; 0];
-    if !tables::find_send(table, &no_md5, pair, bytes[2]).there {
+    if !tables::find_send(BYTES, table, &no_md5, pair, bytes[2]).there {
         return Outcome::Bad(35, NO_INDEX);
     }
-    if !tables::find_recv(table, &no_md5, pair, bytes[3]).there {
+    if !tables::find_recv(BYTES, table, &no_md5, pair, bytes[3]).there {
         return Outcome::Bad(35, NO_INDEX);
     }
     Outcome::Good(0, 0)

@@ -9,6 +9,7 @@ use crate::storage::word;
 use crate::verdicts::coded;
 use rules::Judged;
 use rules::State;
+use tables::BYTES;
 
 pub struct Ends {
     pub client: State,
@@ -39,7 +40,7 @@ fn signed(client: bool, wire: &mut [u8], no: u8, state: State) -> State {
     let no_md5 = [0u8; 0];
     let segment = segments::unsigned(state, no);
     let mut out = [0u8; 60];
-    let s = tcpao::sign::sign(&t, &no_md5, &segment, &mut out, state);
+    let s = tcpao::sign::sign(BYTES, &t, &no_md5, &segment, &mut out, state);
     lay(wire, segments::start(no), &out);
     s.state
 }
@@ -71,7 +72,7 @@ fn asked(ends: Ends) -> Ends {
     rows::asking();
     let t = key_tables::table(false);
     let no_md5 = [0u8; 0];
-    let s = tcpao::operator::ask(&t, &no_md5, key_tables::CLIENT_2, ends.server);
+    let s = tcpao::operator::ask(BYTES, &t, &no_md5, key_tables::CLIENT_2, ends.server);
     with_state(false, s.state, ends)
 }
 
@@ -81,7 +82,7 @@ pub fn judged(client: bool, segment: &[u8], state: State) -> Judged {
     let no_md5 = [0u8; 0];
     let source = key_tables::address(!client);
     let destination = key_tables::address(client);
-    tcpao::judge::judge(&t, &no_md5, &source, &destination, segment, state)
+    tcpao::judge::judge(BYTES, &t, &no_md5, &source, &destination, segment, state)
 }
 
 // Judges one arrival, keeps its verdict, and prints it in the first run.

@@ -6,6 +6,7 @@ use crate::rows;
 use crate::segments;
 use crate::verdicts::coded;
 use rules::State;
+use tables::BYTES;
 
 // Both ISNs lie just below the rollover.
 const CLIENT_ISN: u32 = 0xffffffc0;
@@ -18,6 +19,7 @@ fn active() -> State {
     let local = key_tables::address(true);
     let remote = key_tables::address(false);
     let opened = tcpao::open::open_active(
+        BYTES,
         &t,
         &no_md5,
         &local,
@@ -35,7 +37,7 @@ fn signed(client: bool, number: u32, flags: u8, state: State, out: &mut [u8; 36]
     let t = key_tables::table(client);
     let no_md5 = [0u8; 0];
     let segment = segments::header(state, number, flags);
-    let s = tcpao::sign::sign(&t, &no_md5, &segment, out, state);
+    let s = tcpao::sign::sign(BYTES, &t, &no_md5, &segment, out, state);
     s.state
 }
 
@@ -45,7 +47,7 @@ fn judge_syn(syn: &[u8; 36]) {
     let no_md5 = [0u8; 0];
     let source = key_tables::address(true);
     let destination = key_tables::address(false);
-    let c = tcpao::judge::judge_syn(&t, &no_md5, &source, &destination, syn, true);
+    let c = tcpao::judge::judge_syn(BYTES, &t, &no_md5, &source, &destination, syn, true);
     let v = c.verdict;
     rows::opening(true, b"SYN, no state yet    ", syn, coded(v), 0);
 }
@@ -55,7 +57,16 @@ fn passive(syn: &[u8; 36]) -> State {
     let no_md5 = [0u8; 0];
     let source = key_tables::address(true);
     let destination = key_tables::address(false);
-    let j = tcpao::judge::open_passive(&t, &no_md5, &source, &destination, syn, SERVER_ISN, true);
+    let j = tcpao::judge::open_passive(
+        BYTES,
+        &t,
+        &no_md5,
+        &source,
+        &destination,
+        syn,
+        SERVER_ISN,
+        true,
+    );
     let v = j.verdict;
     let state = j.state;
     rows::opening(true, b"SYN, opens           ", syn, coded(v), state.send_id);

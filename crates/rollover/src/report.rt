@@ -16,12 +16,13 @@ use crate::words::what;
 use rules::SLOTS;
 use rules::State;
 use tables::Admitted;
+use tables::BYTES;
 
 // How many entries a valid table has.
 fn entries(client: bool) {
     let t = key_tables::table(client);
     let no_md5 = [0u8; 0];
-    let answer = tcpao::operator::check_table(&t, &no_md5);
+    let answer = tcpao::operator::check_table(BYTES, &t, &no_md5);
     match answer {
         Admitted::Valid(n) => decimal(n as u64),
         Admitted::Refused(_, _) => text(b"no valid"),

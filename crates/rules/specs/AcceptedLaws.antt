@@ -309,6 +309,6 @@ pub true-good : (t : Tables) → ValidTables t → (l : Connection) → isMd5 l 
     → (reference : ℕ) (a : Arrival) (x r : ℕ) → TrueSegment t l a x r → Within reference x → check t l reference a ≡ Good x r
 true-good t valid l way allowed local remote reference a x r s near =
     open-accepted (s .peer) (s .typed)
-    (signed-by-ao (s .peer) (s .theirs) (s .ours) x (s .bytes) (s .signed) (valid-key valid (s .among)) (s .mirror .algorithm)) (s .theirs) x (s .bytes) (s .signed) l a (s .delivered) (s .other .pair) t valid (s .place)
+    (signed-by-ao (s .peer) (s .theirs) (s .ours) x (s .bytes) (s .signed) (valid-key (valid .held) (s .among)) (s .mirror .algorithm)) (s .theirs) x (s .bytes) (s .signed) l a (s .delivered) (s .other .pair) t valid (s .place)
     (s .ours) (s .among) (s .mirror) way allowed local remote (s .other) reference near
     ∙ ap (Good x) (s .asks)

@@ -105,13 +105,13 @@ signed-number t s out q =
     go Passed e = let z : _≡_ {A = ℕ} 0 1 = cc in absurd (omega arith)
     go (Bad n i) e = refl
 
--- The tables, lent as bytes: how many entries the key table has.
+-- The tables, lent in either form: how many entries the key table has.
 pub table-number : (b : Lent) → tableAnswer (tables b .answer) ≡ tableNumber (tables b)
 unfolding tableAnswer outcomeAnswer
 table-number b = go (tables b .answer) refl
   where
     go : (o : Admitted) → tables b .answer ≡ o → tableAnswer (tables b .answer) ≡ tableNumber (tables b)
-    go (Valid n) e = rw e (ap (answer 0) (valid-count (b .keys) (b .md5) n e .0))
+    go (Valid n) e = rw e (ap (answer 0) (valid-count (b .form) (b .keys) (b .md5) n e .0))
     go (Refused n i) e = rw e refl
 
 -- An option area: the number is given exactly where the test of 21 or 31 in Calls.antt, `malformed`, applies, and else the count that the

@@ -64,7 +64,7 @@ unfoldable pub doneAnswer : Done → Index → Answer
 doneAnswer D.Done i = answer 0 0
 doneAnswer (D.Refused n) i = refused n i
 
--- the tables: how many entries the key table has, or "10 to 17 .. with the entry's index", or 45
+-- the tables: how many entries the key table has, or "10 to 17 .. with the entry's index", or 45, or 44
 unfoldable pub tableAnswer : Admitted → Answer
 tableAnswer (Valid n) = answer 0 n
 tableAnswer (Refused n i) = refused n i

@@ -54,7 +54,7 @@ abbrev pub addressTests : List ℕ → List ℕ → List (Test Outcome)
 addressTests a b = test (refuse 19) (not (sized a b)) ∷ []
 
 -- 10 to 17 with the entry's index, of the key table, then of the MD5 table; Ticket 9: "refused with 45 at the first such MD5 entry, behind
--- the key table's and then the MD5 table's refusals and before 20"
+-- the key table's and then the MD5 table's refusals and before 20"; Ticket 8: 44 "in the place of 10 to 16, without an index"
 abbrev pub isRefused : Admitted → Bool
 isRefused (Valid n) = false
 isRefused (Refused n i) = true

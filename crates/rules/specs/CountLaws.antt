@@ -136,6 +136,10 @@ pub slot-47 : slot 47 ≡ At 12
 unfolding slot
 slot-47 = refl
 
+pub slot-44 : slot 44 ≡ Nowhere
+unfolding slot
+slot-44 = refl
+
 pub slot-45 : slot 45 ≡ Nowhere
 unfolding slot
 slot-45 = refl

@@ -10,7 +10,7 @@ use Rattle.rules.specs.declared.Connection.{Connection}
 use Rattle.rules.specs.declared.State.{State}
 use Rattle.tables.specs.declared.Admitted.the-variants.{Valid}
 use Rattle.tables.specs.Tables.{Tables}
-use Rattle.tables.specs.Valid.{ValidTables}
+use Rattle.tables.specs.Valid.{Apart, ValidTables}
 use Rattle.rules.specs.Connection.{Arrival, isOpen, isMd5, sized, extensionOf, stop, available}
 use Rattle.rules.specs.Calls.{judged}
 use Rattle.rules.specs.Lent.{Lent, tables}
@@ -122,7 +122,8 @@ after t q l = judgeAll t q (map arrival l) .state
 
 -- What the demand is given: "an open connection and a fixed valid key table", a state that 18 allows, and "The true positions lie less
 -- than 2^31 from each other and from the starting reference." Ticket 9: "the MD5 table given beside the key table is not refused (10 to 17,
--- 45), and in demand 3 it is fixed too. Demand 3 .. not asked for MD5 lines, the connections opened by MD5"
+-- 45), and in demand 3 it is fixed too. Demand 3 .. not asked for MD5 lines, the connections opened by MD5". Ticket 8: "take neither a
+-- clashing table nor one refused with 44"
 pub record Given (t : Tables) (q : State) (l : List (Arriving t (q .conn))) : Type 0 where
   pub valid : ValidTables t
   pub typed : Typed q
@@ -152,7 +153,8 @@ pub record Demand3 (t : Tables) (q : State) (l : List (Arriving t (q .conn))) : 
 abbrev pub Demand3Holds : Type 0
 Demand3Holds = (t : Tables) (q : State) (l : List (Arriving t (q .conn))) → Given t q l → Demand3 t q l
 
--- of bytes that are not refused, the same
+-- of lent tables, in either form, that are not refused and to which neither 17 nor 45 would apply, the same
 abbrev pub Demand3Lent : Type 0
-Demand3Lent = (b : Lent) (n : ℕ) (q : State) (l : List (Arriving (tables b) (q .conn))) → tables b .answer ≡ Valid n → Typed q
+Demand3Lent = (b : Lent) (n : ℕ) (q : State) (l : List (Arriving (tables b) (q .conn))) → tables b .answer ≡ Valid n
+    → Apart (tables b) → Typed q
     → Allowed (q .conn) → isOpen (q .conn) ≡ true → isMd5 (q .conn) ≡ false → Close (q .seen ∷ positions l) → Demand3 (tables b) q l

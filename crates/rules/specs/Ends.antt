@@ -17,7 +17,7 @@ use Rattle.keys.specs.Match.{matches}
 use Rattle.keys.specs.Mirror.{Mirror}
 use Rattle.tables.specs.declared.Admitted.the-variants.{Valid}
 use Rattle.tables.specs.Tables.{Tables, recvEntry}
-use Rattle.tables.specs.Valid.{ValidTables}
+use Rattle.tables.specs.Valid.{Apart, ValidTables}
 use Rattle.rules.specs.declared.Place.the-variants.{At}
 use Rattle.rules.specs.declared.Connection.{Connection}
 use Rattle.rules.specs.declared.State.{State}
@@ -102,9 +102,14 @@ pub record SignedAt (q : State) (e : Entry) (x : ℕ) (bytes : List ℕ) : Type 
   pub under : outgoing (tables lent) q .entry ≡ e
   pub position : placeOn (q .conn) (q .sent) (sequence unsigned) ≡ At x
 
--- Of bytes, valid is what is not refused: so of lent tables the demands ask no more than their answer.
+-- Of bytes, valid is what is not refused: so of tables lent as bytes the demands ask no more than their answer.
 abbrev pub LentValid : Type 0
-LentValid = (b : Lent) (n : ℕ) → tables b .answer ≡ Valid n → ValidTables (tables b)
+LentValid = (b : Lent) (n : ℕ) → b .form ≡ 0 → tables b .answer ≡ Valid n → ValidTables (tables b)
+
+-- Ticket 8: "The clash is not tested again; .. demands 2 and 3 .. take neither a clashing table nor one refused with 44." So of either form
+-- they ask the answer, and that neither 17 nor 45 would apply.
+abbrev pub LentApart : Type 0
+LentApart = (b : Lent) (n : ℕ) → tables b .answer ≡ Valid n → Apart (tables b) → ValidTables (tables b)
 
 -- "it holds the mirrored key in a valid table": of the other end's entry e, on the connection whose pair this end holds as p and that end
 -- as q. Ticket 9: "the MD5 table given beside the key table is not refused (10 to 17, 45)"

@@ -3,6 +3,7 @@ use Prim.Native.Nat.{ℕ, zero, suc, _+_, _≤_}
 use mathlib.Core.Path.{_≡_, refl, ap, sym, _∙_}
 use mathlib.Core.Bool.{Bool, true, false, cond, not, _&&_, _||_}
 use mathlib.Core.List.{List, [], _∷_, _++_}
+use mathlib.Core.Logic.{_⊎_, inl, inr}
 use native.Mathlib.Omega.{arith}
 use lib.ListN.{length}
 use lib.Dec.{eqb, ltb, leb}
@@ -18,12 +19,13 @@ use Rattle.keys.specs.Entry.{Item, items, entries}
 use Rattle.keys.specs.Table as K
 use Rattle.keys.specs.FaultLaws.{number-none}
 use Rattle.keys.specs.FoundLaws.{found-there}
-use Rattle.keys.specs.LoadLaws.{valid-formed}
+use Rattle.keys.specs.LoadLaws.{valid-formed, refused-low}
 use Rattle.keys.specs.MatchLaws.{and-true}
 use Rattle.keys.specs.PlaceLaws.{at-below}
 use Rattle.tables.specs.declared.Admitted.{Admitted}
 use Rattle.tables.specs.declared.Admitted.the-variants.{Valid, Refused}
-use Rattle.tables.specs.Tables.{Tables, maxEntries, crossing, besides, admitted, sendEntry, anyEntry, md5Entry}
+use Rattle.tables.specs.Tables.{Tables, noIndex, maxEntries, crossing, besides, admitted, tablesOf, sendEntry, anyEntry, md5Entry}
+use Rattle.tables.specs.ValidLaws.{prepared-answer}
 use Rattle.rules.specs.declared.Outcome.{Outcome}
 use Rattle.rules.specs.declared.Outcome.the-variants.{Good, Passed, Bad}
 use Rattle.rules.specs.declared.Connection.{Connection}
@@ -113,32 +115,46 @@ module _ (kind : TableKind) (limit : ℕ) where
   unfolding K.loaded
   loads-within t = from-within (items 0 t) 0 [] (omega arith)
 
--- what the tables give: at most 64 entries, or 10 to 17 or 45 with an index up to 64
-pub checked-within : CheckedWithin
+-- what the tables give: at most 1,024 entries, or 10 to 17 or 45 with an index up to 1,024, or 44
+bytes-within : (k m : List ℕ) → Bounded maxEntries (admitted k m)
 unfolding admitted besides
-checked-within b = go (K.loaded Keys maxEntries k) (K.loaded Md5 maxEntries m) (x .there) refl refl refl
+bytes-within k m = go (K.loaded Keys maxEntries k) (K.loaded Md5 maxEntries m) (x .there) refl refl refl
   where
-    k : List ℕ
-    k = b .keys
-
-    m : List ℕ
-    m = b .md5
-
     x : Found
     x = crossing (entries k) (entries m)
 
     go : (o p : Loaded) (c : Bool) → K.loaded Keys maxEntries k ≡ o → K.loaded Md5 maxEntries m ≡ p → x .there ≡ c
-        → Bounded maxEntries (tables b .answer)
-    go (LoadedRefused n i) p c e f q = let w = rw e at (loads-within Keys maxEntries k) in rw e (w .0, omega arith, w .1)
+        → Bounded maxEntries (admitted k m)
+    go (LoadedRefused n i) p c e f q =
+        let w = rw e at (loads-within Keys maxEntries k) in
+        let l = refused-low Keys maxEntries n i k e in
+        rw e (w .0, omega arith, w .1, λ z. absurd (omega (arith, l, z)))
     go (LoadedValid n) (LoadedRefused j i) c e f q =
-        let w = rw f at (loads-within Md5 maxEntries m) in rw (e, f) (w .0, omega arith, w .1)
+        let w = rw f at (loads-within Md5 maxEntries m) in
+        let l = refused-low Md5 maxEntries j i m f in
+        rw (e, f) (w .0, omega arith, w .1, λ z. absurd (omega (arith, l, z)))
     go (LoadedValid n) (LoadedValid j) true e f q =
         let h = found-there (K.meetsAny (entries k)) (entries m) 0 q in
         let z : x .index ≡ 0 + h .0 = ap (λ (y : Found). y .index) (h .4) in
         let w = at-below (h .2) in
         let v = valid-formed Md5 maxEntries j m f .0 .few in
-        rw (e, f, q) (refl, omega arith, omega (arith, z, w, v))
+        rw (e, f, q) (refl, omega arith, omega (arith, z, w, v), λ y. absurd (omega (arith, y)))
     go (LoadedValid n) (LoadedValid j) false e f q = rw (e, f, q) (rw e at (loads-within Keys maxEntries k))
+
+prepared-within : (form : ℕ) (k m : List ℕ) → (form ≡ 0 → ⊥) → Bounded maxEntries (tablesOf form k m .answer)
+prepared-within form k m z = go (prepared-answer form k m z)
+  where
+    go : (tablesOf form k m .answer ≡ Refused 44 noIndex) ⊎ ((n : ℕ) × (tablesOf form k m .answer ≡ Valid n) × (n ≤ maxEntries))
+        → Bounded maxEntries (tablesOf form k m .answer)
+    go (inl e) = rw e (refl, omega arith, omega arith, λ z. refl)
+    go (inr (n, e, h)) = rw e h
+
+pub checked-within : CheckedWithin
+checked-within b = go (eqb (b .form) 0) refl
+  where
+    go : (c : Bool) → eqb (b .form) 0 ≡ c → Bounded maxEntries (tables b .answer)
+    go true q = rw q (bytes-within (b .keys) (b .md5))
+    go false q = prepared-within (b .form) (b .keys) (b .md5) (eqb-false (b .form) 0 q)
 
 -- What the tests of a call come to.
 
@@ -164,7 +180,7 @@ first-only pass l (t ∷ ts) o e p = go (only pass l (t .gives)) (t .applies) re
     go true false q r ih = rw r (ih (rw q at e) p)
     go false false q r ih = rw r (ih (rw (q, r) at e) p)
 
--- the tables' test: 10 to 17, 45 where it applies
+-- the tables' test: 10 to 17, 44, 45 where it applies
 table-only : (pass : Bool) (l : List ℕ) (b : Lent) → every (λ (n : ℕ). among n l) tableNumbers ≡ true
     → (only pass l (refusal (tables b .answer)) || not (isRefused (tables b .answer))) ≡ true
 table-only pass l b e = go (tables b .answer) (checked-within b)

@@ -10,7 +10,7 @@ use Rattle.keys.specs.declared.table.Found.{Found}
 use Rattle.tables.specs.declared.Index.{Index}
 use Rattle.tables.specs.declared.Admitted.{Admitted}
 use Rattle.tables.specs.declared.Admitted.the-variants.{Valid, Refused}
-use Rattle.tables.specs.Tables.{Tables, maxEntries}
+use Rattle.tables.specs.Tables.{Tables, noIndex, maxEntries}
 use Rattle.rules.specs.declared.Outcome.the-variants.{Passed}
 use Rattle.rules.specs.declared.Verdict.{Verdict}
 use Rattle.rules.specs.declared.Verdict.the-variants.{Accept, Pass, Drop}
@@ -31,9 +31,9 @@ among n (m ∷ l) = eqb n m || among n l
 
 -- The numbers of each call.
 
--- the tables': 10 to 17, and Ticket 9's 45
+-- the tables': 10 to 17, Ticket 8's 44 and Ticket 9's 45
 abbrev pub tableNumbers : List ℕ
-tableNumbers = 10 ∷ 11 ∷ 12 ∷ 13 ∷ 14 ∷ 15 ∷ 16 ∷ 17 ∷ 45 ∷ []
+tableNumbers = 10 ∷ 11 ∷ 12 ∷ 13 ∷ 14 ∷ 15 ∷ 16 ∷ 17 ∷ 44 ∷ 45 ∷ []
 
 abbrev pub judgeNumbers : List ℕ
 judgeNumbers = 18 ∷ 19 ∷ (tableNumbers ++ (20 ∷ 21 ∷ 22 ∷ 23 ∷ 24 ∷ 25 ∷ 26 ∷ 27 ∷ 28 ∷ 29 ∷ 40 ∷ []))
@@ -68,10 +68,10 @@ numbersOf (openPassively b a isn strict) = cond (synIsMd5 (tables b) (arrivalPai
 numbersOf (openActively b local remote localPort remotePort isn sendId) = openNumbers
 numbersOf (openActivelyMd5 b local remote localPort remotePort isn) = openNumbers
 
--- the tables' counts and indices stay at or below the limit, the tables are two, and their numbers are these
+-- the tables' counts and indices stay at or below the limit, the tables are two, and their numbers are these, 44 "without an index"
 abbrev pub Bounded : ℕ → Admitted → Type 0
 Bounded limit (Valid n) = n ≤ limit
-Bounded limit (Refused n i) = (among n tableNumbers ≡ true) × (i .table ≤ 1) × (i .entry ≤ limit)
+Bounded limit (Refused n i) = (among n tableNumbers ≡ true) × (i .table ≤ 1) × (i .entry ≤ limit) × (n ≡ 44 → i ≡ noIndex)
 
 abbrev pub isPass : Verdict → Bool
 isPass (Accept e) = false
@@ -88,7 +88,7 @@ RefusedAmong = (c : Request) (n : ℕ) → reply c ≡ D.Refused n → among n (
 abbrev pub RefusedBounds : Type 0
 RefusedBounds = (c : Request) (n : ℕ) → reply c ≡ D.Refused n → (10 ≤ n) × (n ≤ 47)
 
--- what the tables give: at most 64 entries, or 10 to 17 or 45 with an index up to 64 in one of two tables
+-- what the tables give: at most 1,024 entries, or 10 to 17 or 45 with an index up to 1,024 in one of two tables, or 44
 abbrev pub CheckedWithin : Type 0
 CheckedWithin = (b : Lent) → Bounded maxEntries (tables b .answer)
 

@@ -1,7 +1,7 @@
 -- The demands are not empty: one connection across a rollover, with three true arrivals, under entries of two kinds and through address
 -- translation, and one of the other sort, of which demand 3 holds; a bare SYN that demand 2 accepts, by TCP-AO and by MD5; by MD5 also the
--- SYN+ACK that answers it, and a segment once open; and a bare SYN whose KeyID is unknown. As statements, with the MAC and the digest
--- shut: they are whatever they are. InhabitedLaws proves them.
+-- SYN+ACK that answers it, and a segment once open; tables that are prepared; and a bare SYN whose KeyID is unknown. As statements, with
+-- the MAC and the digest shut: they are whatever they are. InhabitedLaws proves them.
 use Prim.Native.Nat.{ℕ}
 use mathlib.Core.Path.{_≡_}
 use mathlib.Core.Bool.{true, false}
@@ -12,6 +12,8 @@ use Rattle.keys.specs.declared.entry.Entry.{Entry}
 use Rattle.keys.specs.declared.entry.Pair.{Pair}
 use Rattle.keys.specs.Entry.{entryOf}
 use Rattle.tables.specs.Tables.{Tables, noIndex, tablesOf, anyEntry}
+use Rattle.tables.specs.Preparing.{preparedOf}
+use Rattle.tables.specs.declared.Admitted.the-variants.{Valid}
 use Rattle.rules.specs.declared.Verdict.the-variants.{Accept, Pass, Drop}
 use Rattle.rules.specs.declared.State.{State}
 use Rattle.rules.specs.Connection.{Arrival, arrivalPair, isOpen, isMd5, slots, opened, withCounted}
@@ -22,6 +24,7 @@ use Rattle.rules.specs.Demand2.{sent, rewritten}
 use Rattle.rules.specs.Demand2Md5.{OtherEndMd5}
 use Rattle.rules.specs.Demand3.{Within, Arriving, real, other, Given, Demand3}
 use Rattle.rules.specs.Passes.{UnknownKey}
+use Rattle.rules.specs.Prepared.{PreparedFrom}
 
 -- an entry of kind 4 with its flags, for every IPv4 pair, HMAC-SHA-1, the key 01 02
 abbrev pub entry4 : ℕ → ℕ → ℕ → List ℕ
@@ -47,13 +50,13 @@ md5Entry6 = (6 ∷ 0 ∷ 19 ∷ 0 ∷ 0 ∷ 0 ∷ 0 ∷ 255 ∷ 255 ∷ 0 ∷ 0 
 -- our end's tables, and the other end's. The last key entry hides the other end's side from the MAC: our remote side (4), its local side
 -- (2). The MD5 table beside them matches other pairs.
 abbrev pub ourBytes : Lent
-ourBytes = record { keys = entry4 1 61 84 ++ (entry5 71 94 ++ entry4 5 51 74); md5 = md5Entry6 }
+ourBytes = record { form = 0; keys = entry4 1 61 84 ++ (entry5 71 94 ++ entry4 5 51 74); md5 = md5Entry6 }
 
 abbrev pub ourTable : Tables
 ourTable = tables ourBytes
 
 abbrev pub theirTable : Lent
-theirTable = record { keys = entry4 1 84 61 ++ (entry5 94 71 ++ entry4 3 74 51); md5 = md5Entry6 }
+theirTable = record { form = 0; keys = entry4 1 84 61 ++ (entry5 94 71 ++ entry4 3 74 51); md5 = md5Entry6 }
 
 abbrev pub theirEntry : Entry
 theirEntry = entryOf (entry4 1 84 61)
@@ -205,7 +208,7 @@ pub record BareSynNotEmpty : Type 0 where
 -- The same by MD5: both ends have an MD5 table, the key table beside it is empty.
 
 abbrev pub md5Table : Lent
-md5Table = record { keys = []; md5 = md5Entry4 }
+md5Table = record { form = 0; keys = []; md5 = md5Entry4 }
 
 abbrev pub md5Opener : State
 md5Opener = openerBy 1 0 0
@@ -264,6 +267,15 @@ pub record OpenMd5NotEmpty : Type 0 where
   pub accepted : judged (tables md5Table) (fromThem openBytesMd5) md5Passive
       ≡ record { verdict = Accept 0; index = noIndex; state = withCounted md5Passive }
 
+-- Ticket 8: our tables, prepared. They are taken, with three key entries, and by what Prepared.antt says they give what the bytes give.
+
+abbrev pub ourPrepared : Lent
+ourPrepared = record { form = 1; keys = preparedOf (ourBytes .keys) (ourBytes .md5); md5 = [] }
+
+pub record PreparedNotEmpty : Type 0 where
+  pub from : PreparedFrom ourBytes ourPrepared
+  pub taken : tables ourPrepared .answer ≡ Valid 3
+
 -- A bare SYN with the KeyID 85, where our entries have the RecvIDs 84, 94 and 74.
 
 abbrev pub unknownSyn : Arrival
@@ -274,7 +286,7 @@ unknownSyn =
 
 -- our entries match the pair: 26, though the setting says pass. With empty tables the setting decides.
 abbrev pub noTable : Tables
-noTable = tablesOf [] []
+noTable = tablesOf 0 [] []
 
 pub record UnknownKeyNotEmpty : Type 0 where
   pub with-entry : UnknownKey ourTable unknownSyn

@@ -1,10 +1,13 @@
 -- The statements of Inhabited.antt, proved: what is given there holds by computing, with the MAC and the digest shut.
 use Prim.Native.Nat.{ℕ, zero, suc, _+_, _<_, _≤_}
 use mathlib.Core.Path.{_≡_, refl, ap, sym, _∙_, subst⁻¹}
-use mathlib.Core.Bool.{true, false}
+use mathlib.Core.Bool.{Bool, true, false, _&&_}
 use mathlib.Core.List.{List, [], _∷_}
 use native.Mathlib.Omega.{arith}
 use lib.ListN.{length, take, drop, replicate}
+use lib.Dec.{ltb}
+use borrow.Author.Tests.{ltb-true}
+use Rattle.keys.specs.MatchLaws.{and-true}
 use lib.Seq.{take-at}
 use Rattle.octets.specs.Each.{Each, Octets}
 use Rattle.wire.specs.Header.{sequence, syn}
@@ -50,6 +53,10 @@ use Rattle.rules.specs.Inhabited.{hiddenPair, fromThem, ourState, theirs
 use Rattle.rules.specs.Inhabited.{Arrivals, all, Demand3NotEmpty, opener, synSegment, synBytes, BareSynNotEmpty, md5Entry4, md5Table}
 use Rattle.rules.specs.Inhabited.{md5Passive, synAckSegment, synAckBytes, OpenedMd5NotEmpty, md5Theirs, openBytesMd5, OpenMd5NotEmpty}
 use Rattle.rules.specs.Inhabited.{md5Opener, synBytesMd5, BareSynMd5NotEmpty, unknownSyn, noTable, UnknownKeyNotEmpty}
+use Rattle.tables.specs.declared.Admitted.the-variants.{Valid}
+use Rattle.rules.specs.Inhabited.{ourPrepared, PreparedNotEmpty}
+use Rattle.rules.specs.Prepared.{PreparedFrom}
+use Rattle.rules.specs.PreparedLaws.{prepared-means}
 use Rattle.rules.specs.Passes.{UnknownKey}
 use Rattle.rules.specs.PassLaws.{matched-dropped, setting-decides}
 
@@ -623,4 +630,40 @@ unknown-key-not-empty =
       without = without;
       none = unmatching;
       passed = setting-decides .judged noTable unknownSyn false without unmatching;
+    }
+
+-- Our tables, prepared.
+
+abbrev below : List ℕ → Bool
+below [] = true
+below (x ∷ s) = ltb x 256 && below s
+
+octets-by : (s : List ℕ) → below s ≡ true → Octets s
+octets-by [] e i = omega arith
+octets-by (x ∷ s) e zero = ltb-true x 256 (and-true (ltb x 256) (below s) e .0)
+octets-by (x ∷ s) e (suc i) = octets-by s (and-true (ltb x 256) (below s) e .1) i
+
+three : tables ourBytes .answer ≡ Valid 3
+unfolding agree clearTo macBytes knownKind familyOf extra body width sideOf selectorOf macLength idsOf secretOf entryOf item items entriesOf
+    holds matches meet overlap share clash numberOf clashing loadedFrom loaded found nobody answers anyOf meetsAny besides admitted
+three = refl
+
+prepared-from : PreparedFrom ourBytes ourPrepared
+prepared-from =
+    record {
+      bytes-form = refl;
+      keys-octets = octets-by (ourBytes .keys) refl;
+      md5-octets = octets-by (ourBytes .md5) refl;
+      count = 3;
+      valid = three;
+      prepared-form = λ e. omega arith;
+      written = refl;
+      alone = refl;
+    }
+
+pub prepared-not-empty : PreparedNotEmpty
+prepared-not-empty =
+    record {
+      from = prepared-from;
+      taken = ap (λ (t : Tables). t .answer) (prepared-means ourBytes ourPrepared prepared-from) ∙ three;
     }

@@ -24,6 +24,7 @@ pub mod Sentences
 pub mod Md5Sentences
 pub mod Examples
 pub mod ClearBits
+pub mod Prepared
 pub mod Inhabited
 pub mod GroupLaws
 pub mod PositionLaws
@@ -33,6 +34,7 @@ pub mod ChecksumLaws
 pub mod JudgeLaws
 pub mod CountLaws
 pub mod LentLaws
+pub mod PreparedLaws
 pub mod InsertedLaws
 pub mod DigestLaws
 pub mod RoundTripLaws

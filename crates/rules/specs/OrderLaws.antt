@@ -26,7 +26,7 @@ use Rattle.rules.specs.Ends.{Allowed, TrueSegment, Verifies}
 use Rattle.rules.specs.Demand3.{judgeAll, Arriving, real, other, arrival, positions, requested, trues, others, AllFit, largest, those}
 use Rattle.rules.specs.Demand3.{lastOr, Within, Close, NoStop, Alike, after, Given, Demand3, Demand3Holds, Demand3Lent}
 use Rattle.rules.specs.Lent.{tables}
-use Rattle.rules.specs.LentLaws.{lent-valid}
+use Rattle.rules.specs.LentLaws.{lent-apart}
 use Rattle.rules.specs.History.{accepts, countedDrops}
 use Rattle.rules.specs.JudgeLaws.{other-bad}
 use Rattle.rules.specs.AcceptedLaws.{true-good}
@@ -253,6 +253,6 @@ pub demand3 : Demand3Holds
 demand3 = holds
 
 pub demand3-lent : Demand3Lent
-demand3-lent b n q l e typed allowed opens way close =
+demand3-lent b n q l e apart typed allowed opens way close =
     demand3 (tables b) q l
-    (record { valid = lent-valid b n e; typed = typed; allowed = allowed; is-open = opens; way = way; close = close })
+    (record { valid = lent-apart b n e apart; typed = typed; allowed = allowed; is-open = opens; way = way; close = close })

@@ -33,13 +33,14 @@ use Rattle.rules.specs.Calls.{askTests, asked, outgoing, checkSign, afte
 use Rattle.rules.specs.PositionLaws.{place-md5}
 use Rattle.rules.specs.JudgeLaws.{none-of}
 use Rattle.rules.specs.SigningLaws.{signs-good, signed-good}
-use Rattle.rules.specs.CountLaws.{slot-is, slot-40, slot-45, slot-46, slot-47, slot-none}
+use Rattle.rules.specs.CountLaws.{slot-is, slot-40, slot-44, slot-45, slot-46, slot-47, slot-none}
 use Rattle.rules.specs.GroupLaws.{Clear, key-ao, unknown-passes}
 use Rattle.rules.specs.KeptLaws.{good-is}
 use Rattle.rules.specs.GivenNumberLaws.{ask-not-passed, open-not-passed}
 use Rattle.rules.specs.References.{countUp, SignedOpen, SignedOpenMd5, SignedOpening, OpensActively, OpensActivelyMd5, OpensPassively}
 use Rattle.rules.specs.References.{OpensPassivelyMd5, SynAckOpens, SynAckOpensMd5, AcceptedOpen, AcceptedOpenMd5, droppedTo, DropCounted}
-use Rattle.rules.specs.References.{Drop40Counted, Drop46Counted, Drop47Counted, DropUncounted, Drop45Uncounted, DropOpening}
+use Rattle.rules.specs.References.{Drop40Counted, Drop46Counted, Drop47Counted, DropUncounted, Drop44Uncounted}
+use Rattle.rules.specs.References.{Drop45Uncounted, DropOpening}
 use Rattle.rules.specs.References.{SigningRefused, Asks, AskingRefused}
 
 -- a place that is there
@@ -286,6 +287,9 @@ uncounted t a q n place v = go (isOpen (q .conn)) refl
 pub drop-uncounted : DropUncounted
 drop-uncounted t a q n h v =
     uncounted t a q n (slot-none n (inl h) (λ e. omega arith) (λ e. omega arith) (λ e. omega arith)) v
+
+pub drop-44-uncounted : Drop44Uncounted
+drop-44-uncounted t a q v = uncounted t a q 44 slot-44 v
 
 pub drop-45-uncounted : Drop45Uncounted
 drop-45-uncounted t a q v = uncounted t a q 45 slot-45 v

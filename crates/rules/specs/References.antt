@@ -216,11 +216,16 @@ Drop46Counted = CountedAt 46 11
 abbrev pub Drop47Counted : Type 0
 Drop47Counted = CountedAt 47 12
 
--- "A refusal leaves outputs and state alike": a drop below 20, 45 (of those above 29 only 40, 45, 46 and 47 are given: RefusedAmong of
--- GivenNumbers.antt), and every drop while opening
+-- "A refusal leaves outputs and state alike": a drop below 20, 44 and 45 (of those above 29 judging gives only 40 and 44 to 47:
+-- RefusedAmong of GivenNumbers.antt), and every drop while opening
 abbrev pub DropUncounted : Type 0
 DropUncounted = (t : Tables) (a : Arrival) (q : State) (n : ℕ) → n < 20 → judged t a q .verdict ≡ Drop n → judged t a q .state ≡ q
 
+-- Ticket 8: a prepared table that is refused
+abbrev pub Drop44Uncounted : Type 0
+Drop44Uncounted = (t : Tables) (a : Arrival) (q : State) → judged t a q .verdict ≡ Drop 44 → judged t a q .state ≡ q
+
+-- Ticket 9: tables that both match some pair
 abbrev pub Drop45Uncounted : Type 0
 Drop45Uncounted = (t : Tables) (a : Arrival) (q : State) → judged t a q .verdict ≡ Drop 45 → judged t a q .state ≡ q
 

@@ -56,7 +56,7 @@ bad n = Bad n (record { table = 0; entry = 0 })
 abbrev pub row : ℕ → List Bool → NumberRow
 row n l = record { gives = bad n; tests = l }
 
--- the row of 10 to 17 and, Ticket 9, of 45, with the entry's table and index
+-- the row of 10 to 17 and, Ticket 9, of 45, with the entry's table and index; Ticket 8: or of 44
 abbrev pub entriesRow : Tables → NumberRow
 entriesRow t = record { gives = refusal (t .answer); tests = isRefused (t .answer) ∷ [] }
 

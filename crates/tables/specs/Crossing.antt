@@ -48,18 +48,18 @@ RefusedCrossed = (k m : List ℕ) (x : Index) → Octets k → Octets m → admi
 abbrev pub CrossedRefused : Type 0
 CrossedRefused = (k m : List ℕ) (i : ℕ) → Octets k → Octets m → CrossedAt k m i → admitted k m ≡ Refused 45 (md5Index i)
 
--- The order, with the numerals: a table has at most 64 entries; the key table is table 0, the MD5 table 1.
+-- The order, with the numerals: a table has at most 1,024 entries; the key table is table 0, the MD5 table 1.
 
 -- the key table's refusal comes first, whatever the MD5 table is
 abbrev pub KeysRefused : Type 0
-KeysRefused = (k m : List ℕ) (n i : ℕ) → loaded Keys 64 k ≡ LoadedRefused n i → admitted k m ≡ Refused n (record { table = 0; entry = i })
+KeysRefused = (k m : List ℕ) (n i : ℕ) → loaded Keys 1024 k ≡ LoadedRefused n i → admitted k m ≡ Refused n (record { table = 0; entry = i })
 
 -- then the MD5 table's
 abbrev pub Md5Refused : Type 0
-Md5Refused = (k m : List ℕ) (c n i : ℕ) → loaded Keys 64 k ≡ LoadedValid c → loaded Md5 64 m ≡ LoadedRefused n i
+Md5Refused = (k m : List ℕ) (c n i : ℕ) → loaded Keys 1024 k ≡ LoadedValid c → loaded Md5 1024 m ≡ LoadedRefused n i
     → admitted k m ≡ Refused n (record { table = 1; entry = i })
 
 -- and nothing but 45 behind: two valid tables of which no MD5 entry is crossed are taken, with the number of key entries
 abbrev pub BothTaken : Type 0
-BothTaken = (k m : List ℕ) (c d : ℕ) → Octets k → Octets m → loaded Keys 64 k ≡ LoadedValid c → loaded Md5 64 m ≡ LoadedValid d
+BothTaken = (k m : List ℕ) (c d : ℕ) → Octets k → Octets m → loaded Keys 1024 k ≡ LoadedValid c → loaded Md5 1024 m ≡ LoadedValid d
     → ((j : ℕ) (f : Entry) → At (entries m) j f → Crossed k f → ⊥) → admitted k m ≡ Valid c

@@ -1,7 +1,13 @@
 pub mod Tables
+pub mod Preparing
 pub mod Valid
+pub mod Same
 pub mod Search
 pub mod Crossing
+pub mod Limit
 pub mod ValidLaws
+pub mod ApartLaws
+pub mod SameLaws
 pub mod SearchLaws
 pub mod CrossingLaws
+pub mod LimitLaws

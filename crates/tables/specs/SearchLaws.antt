@@ -1,14 +1,14 @@
 -- What a search of valid tables finds, and what it says that one finds something or nothing.
-use Prim.Native.Nat.{ℕ, _+_}
+use Prim.Native.Nat.{ℕ, _+_, _<_}
 use mathlib.Core.Bool.{Bool, true, false}
-use mathlib.Core.Path.{_≡_, refl, sym, _∙_, subst}
+use mathlib.Core.Path.{_≡_, refl, sym, ap, _∙_, subst}
 use mathlib.Core.List.{List}
 use mathlib.Core.Logic.{_⊎_, inl, inr}
 use native.Mathlib.Omega.{arith}
 use lib.Dec.{ltb}
 use borrow.Author.Tests.{eq-eqb, eqb-true, ltb-true, ltb-false}
 use Rattle.keys.specs.FormedLaws.{KeyProper, Md5Proper}
-use Rattle.keys.specs.FoundLaws.{found-only, found-there, found-none, found-nobody, any-there, answers-parts, answers-of}
+use Rattle.keys.specs.FoundLaws.{found-first, found-only, found-there, found-none, found-nobody, any-there, answers-parts, answers-of}
 use Rattle.keys.specs.FoundLaws.{any-of as any-passing}
 use Rattle.keys.specs.Match.{matches, clash}
 use Rattle.keys.specs.MatchLaws.{clash-of, overlap-found}
@@ -21,9 +21,10 @@ use Rattle.keys.specs.declared.table.By.{By}
 use Rattle.keys.specs.declared.table.By.the-variants.{Any, Send, Recv}
 use Rattle.keys.specs.declared.table.Found.{Found}
 use Rattle.tables.specs.Tables.{Tables, sendEntry, recvEntry, anyEntry, md5Entry}
-pub use Rattle.tables.specs.Search.{hit, Named}
-use Rattle.tables.specs.Search.{AnswerUnique, SendFound, RecvFound, Md5Found, Uncrossed}
-use Rattle.tables.specs.Valid.{NoClash, Digest16, ValidTables}
+pub use Rattle.tables.specs.Search.{hit, Named, Holder}
+use Rattle.tables.specs.Search.{AnswerUnique, SendFound, RecvFound, Md5Found, SendFirst, RecvFirst, Md5First, Uncrossed}
+use Rattle.tables.specs.Search.{SendHolder, RecvHolder, Md5Holder, SendNone, RecvNone, Md5None, AnyHolder, AnyOf}
+use Rattle.tables.specs.Valid.{NoClash, Digest16, Held, ValidTables}
 use Rattle.tables.specs.ValidLaws.{valid-key, valid-md5, valid-digest}
 
 -- at most one entry answers
@@ -50,12 +51,12 @@ both-clash by p e f n h k =
 
 pub answer-unique : AnswerUnique
 answer-unique t by p i j e f v n a b h k =
-    one-place (t .keys) (v .apart) i j e f a b (both-clash by p e f n h k) (both-clash by p f e n k h)
+    one-place (t .keys) (v .apart .keys) i j e f a b (both-clash by p e f n h k) (both-clash by p f e n k h)
 
 -- both IDs of MD5 entries are 0
 md5-clash : {t : Tables} {i j : ℕ} {e f : Entry} (v : ValidTables t) (p : Pair) → At (t .md5s) i e → At (t .md5s) j f
     → matches (e .selector) p ≡ true → matches (f .selector) p ≡ true → clash e f ≡ true
-md5-clash {e = e} {f = f} v p a b h k = clash-of e f p h k (inl (valid-md5 v a .send ∙ sym (valid-md5 v b .send)))
+md5-clash {e = e} {f = f} v p a b h k = clash-of e f p h k (inl (valid-md5 (v .held) a .send ∙ sym (valid-md5 (v .held) b .send)))
 
 -- so a search finds the entry that answers
 
@@ -74,13 +75,35 @@ md5-found t p i e v a m =
     found-only (answers Any p) a (answers-of Any p e refl m)
     (λ j f b k.
     let n = answers-parts Any p f k .1 in
-    one-place (t .md5s) (v .md5-apart) j i f e b a (md5-clash v p b a n m) (md5-clash v p a b m n))
+    one-place (t .md5s) (v .apart .md5s) j i f e b a (md5-clash v p b a n m) (md5-clash v p a b m n))
+
+-- the first that answers, in any tables
+
+first-of : (l : List Entry) (by : By) (p : Pair) {i : ℕ} {e : Entry} → At l i e → answers by p e ≡ true
+    → ((j : ℕ) (f : Entry) → At l j f → j < i → answers by p f ≡ true → ⊥) → found (answers by p) 0 l ≡ hit i e
+first-of l by p {i} {e} a h n =
+    found-first (answers by p) 0 a h (λ j f b k. none f (n j f b k) (answers by p f) refl)
+    ∙ ap (λ (m : ℕ). hit m e) (let z : 0 + i ≡ i = omega arith in z)
+  where
+    none : (f : Entry) → (answers by p f ≡ true → ⊥) → (b : Bool) → answers by p f ≡ b → answers by p f ≡ false
+    none f n true q = absurd (n q)
+    none f n false q = q
+
+pub send-first : SendFirst
+send-first t p id i e a m s n =
+    first-of (t .keys) (Send id) p a (answers-of (Send id) p e (eq-eqb (e .ids .send) id s) m)
+    (λ j f b k h. let r = answers-parts (Send id) p f h in n j f b k (r .1) (eqb-true (f .ids .send) id (r .0)))
+
+pub recv-first : RecvFirst
+recv-first t p id i e a m s n =
+    first-of (t .keys) (Recv id) p a (answers-of (Recv id) p e (eq-eqb (e .ids .recv) id s) m)
+    (λ j f b k h. let r = answers-parts (Recv id) p f h in n j f b k (r .1) (eqb-true (f .ids .recv) id (r .0)))
+
+pub md5-first : Md5First
+md5-first t p i e a m n =
+    first-of (t .md5s) Any p a (answers-of Any p e refl m) (λ j f b k h. n j f b k (answers-parts Any p f h .1))
 
 -- what a search finds, in any tables
-
-pub record Holder (l : List Entry) (p : Pair) (r : Found) : Type 0 where
-  pub place : At l (r .index) (r .entry)
-  pub matched : matches (r .entry .selector) p ≡ true
 
 found-holder : (l : List Entry) (by : By) (p : Pair) → found (answers by p) 0 l .there ≡ true
     → Holder l p (found (answers by p) 0 l) × (hasId by (found (answers by p) 0 l .entry .ids) ≡ true)
@@ -91,36 +114,31 @@ found-holder l by p h =
     subst (λ (x : Found). Holder l p x × (hasId by (x .entry .ids) ≡ true)) (sym (r .4))
     (record { place = subst (λ (n : ℕ). At l n (r .1)) z (r .2); matched = a .1 }, a .0)
 
+pub send-holder : SendHolder
+send-holder t p id h = let r = found-holder (t .keys) (Send id) p h in (r .0, eqb-true _ _ (r .1))
+
+pub recv-holder : RecvHolder
+recv-holder t p id h = let r = found-holder (t .keys) (Recv id) p h in (r .0, eqb-true _ _ (r .1))
+
+pub md5-holder : Md5Holder
+md5-holder t p h = found-holder (t .md5s) Any p h .0
+
+-- nothing found: no entry of the table answers
+
+none-of : (l : List Entry) (by : By) (p : Pair) {i : ℕ} {e : Entry} → found (answers by p) 0 l .there ≡ false → At l i e
+    → answers by p e ≡ true → ⊥
+none-of l by p h a y = let z : _≡_ {A = ℕ} 0 1 = cc (found-none (answers by p) 0 h a, y) in omega arith
+
+pub send-none : SendNone
+send-none t p id i e h a m s = none-of (t .keys) (Send id) p h a (answers-of (Send id) p e (eq-eqb (e .ids .send) id s) m)
+
+pub recv-none : RecvNone
+recv-none t p id i e h a m s = none-of (t .keys) (Recv id) p h a (answers-of (Recv id) p e (eq-eqb (e .ids .recv) id s) m)
+
+pub md5-none : Md5None
+md5-none t p i e h a m = none-of (t .md5s) Any p h a (answers-of Any p e refl m)
+
 module _ (t : Tables) (p : Pair) where
-  pub send-holder : (id : ℕ) → sendEntry t p id .there ≡ true
-      → Holder (t .keys) p (sendEntry t p id) × (sendEntry t p id .entry .ids .send ≡ id)
-  send-holder id h = let r = found-holder (t .keys) (Send id) p h in (r .0, eqb-true _ _ (r .1))
-
-  pub recv-holder : (id : ℕ) → recvEntry t p id .there ≡ true
-      → Holder (t .keys) p (recvEntry t p id) × (recvEntry t p id .entry .ids .recv ≡ id)
-  recv-holder id h = let r = found-holder (t .keys) (Recv id) p h in (r .0, eqb-true _ _ (r .1))
-
-  pub md5-holder : md5Entry t p .there ≡ true → Holder (t .md5s) p (md5Entry t p)
-  md5-holder h = found-holder (t .md5s) Any p h .0
-
-  -- nothing found: no entry of the table matches the pair and has the ID
-  pub send-none : (id : ℕ) {i : ℕ} {e : Entry} → sendEntry t p id .there ≡ false → At (t .keys) i e → matches (e .selector) p ≡ true
-      → e .ids .send ≡ id → ⊥
-  send-none id {i} {e} h a m s =
-      let y = answers-of (Send id) p e (eq-eqb (e .ids .send) id s) m in
-      let z : _≡_ {A = ℕ} 0 1 = cc (found-none (answers (Send id) p) 0 h a, y) in
-      omega arith
-
-  pub recv-none : (id : ℕ) {i : ℕ} {e : Entry} → recvEntry t p id .there ≡ false → At (t .keys) i e → matches (e .selector) p ≡ true
-      → e .ids .recv ≡ id → ⊥
-  recv-none id {i} {e} h a m s =
-      let y = answers-of (Recv id) p e (eq-eqb (e .ids .recv) id s) m in
-      let z : _≡_ {A = ℕ} 0 1 = cc (found-none (answers (Recv id) p) 0 h a, y) in
-      omega arith
-
-  pub md5-none : {i : ℕ} {e : Entry} → md5Entry t p .there ≡ false → At (t .md5s) i e → matches (e .selector) p ≡ true → ⊥
-  md5-none {i} {e} h a m = let z : _≡_ {A = ℕ} 0 1 = cc (found-none (answers Any p) 0 h a, answers-of Any p e refl m) in omega arith
-
   pub send-nobody : (id : ℕ) → sendEntry t p id .there ≡ false → sendEntry t p id ≡ nobody
   send-nobody id h = found-nobody (answers (Send id) p) (t .keys) 0 h
 
@@ -130,12 +148,13 @@ module _ (t : Tables) (p : Pair) where
   pub md5-nobody : md5Entry t p .there ≡ false → md5Entry t p ≡ nobody
   md5-nobody h = found-nobody (answers Any p) (t .md5s) 0 h
 
-  -- an entry that matches the pair is there to be matched
-  pub any-of : {i : ℕ} {e : Entry} → At (t .keys) i e → matches (e .selector) p ≡ true → anyEntry t p ≡ true
-  any-of {i} {e} a m = any-passing (answers Any p) a (answers-of Any p e refl m)
+-- an entry that matches the pair is there to be matched
 
-  pub any-holder : anyEntry t p ≡ true → (i : ℕ) × (e : Entry) × At (t .keys) i e × (matches (e .selector) p ≡ true)
-  any-holder h = let r = any-there (answers Any p) (t .keys) h in (r .0, r .1, r .2, answers-parts Any p (r .1) (r .3) .1)
+pub any-of : AnyOf
+any-of t p i e a m = any-passing (answers Any p) a (answers-of Any p e refl m)
+
+pub any-holder : AnyHolder
+any-holder t p h = let r = any-there (answers Any p) (t .keys) h in (r .0, r .1, r .2, answers-parts Any p (r .1) (r .3) .1)
 
 -- the two tables of valid tables share no pair
 
@@ -148,12 +167,12 @@ uncrossed t p i e v a m = go (md5Entry t p .there) refl
         let h = md5-holder t p q in
         let f = md5Entry t p .entry in
         let o = overlap-found (e .selector) (f .selector) p m (h .matched) in
-        let z : _≡_ {A = ℕ} 0 1 = cc (v .uncrossed i (md5Entry t p .index) e f a (h .place), o) in
+        let z : _≡_ {A = ℕ} 0 1 = cc (v .apart .uncrossed i (md5Entry t p .index) e f a (h .place), o) in
         absurd (omega arith)
 
--- what is found in valid tables
+-- what is found among entries that valid bytes could hold
 
-module _ {t : Tables} (v : ValidTables t) (p : Pair) where
+module _ {t : Tables} (v : Held t) (p : Pair) where
   pub send-proper : (id : ℕ) → sendEntry t p id .there ≡ true → KeyProper (sendEntry t p id .entry)
   send-proper id h = valid-key v (send-holder t p id h .0 .place)
 

@@ -1,8 +1,11 @@
 -- What the calls take of tables, and what they ask of them: document 01, "Key table (house bytes)" and "Numbers given back"; document 02,
--- Ticket 9. All that a call knows of its tables is a value of `Tables`; today it comes from the bytes of both (`tablesOf`).
+-- Tickets 8 and 9. All that a call knows of its tables is a value of `Tables`: `tablesOf` says what the two lent buffers mean, in either
+-- form.
 use Prim.Native.Nat.{ℕ}
-use mathlib.Core.Bool.{Bool, cond}
+use mathlib.Core.Bool.{Bool, cond, _&&_}
 use mathlib.Core.List.{List}
+use lib.ListN.{length}
+use lib.Dec.{eqb}
 use Rattle.keys.specs.Entry.{entries}
 use Rattle.keys.specs.Table.{loaded, found, anyOf, answers, meetsAny}
 use Rattle.keys.specs.declared.entry.Entry.{Entry}
@@ -12,6 +15,8 @@ use Rattle.keys.specs.declared.table.By.the-variants.{Any, Send, Recv}
 use Rattle.keys.specs.declared.table.Found.{Found}
 use Rattle.keys.specs.declared.table.Loaded.{Loaded}
 use Rattle.keys.specs.declared.table.Loaded.the-variants.{Valid as LoadedValid, Refused as LoadedRefused}
+use Rattle.prepared.specs.Prepared.{keyCount, fits, keyPart, md5Part}
+pub use Rattle.prepared.specs.Prepared.{maxEntries}
 use Rattle.tables.specs.declared.Index.{Index}
 use Rattle.tables.specs.declared.Admitted.{Admitted}
 use Rattle.tables.specs.declared.Admitted.the-variants.{Valid, Refused}
@@ -21,10 +26,6 @@ pub record Tables : Type 0 where
   pub answer : Admitted
   pub keys : List Entry
   pub md5s : List Entry
-
--- "At most 64 entries; none is allowed.", in either table
-abbrev pub maxEntries : ℕ
-maxEntries = 64
 
 -- where a number names no entry
 abbrev pub noIndex : Index
@@ -58,8 +59,21 @@ unfoldable pub admitted : List ℕ → List ℕ → Admitted
 admitted k m = afterTable keyIndex (loaded Keys maxEntries k) (besides k m)
 
 -- what the bytes of a key table and of an MD5 table mean
-abbrev pub tablesOf : List ℕ → List ℕ → Tables
-tablesOf k m = record { answer = admitted k m; keys = entries k; md5s = entries m }
+abbrev pub bytesTables : List ℕ → List ℕ → Tables
+bytesTables k m = record { answer = admitted k m; keys = entries k; md5s = entries m }
+
+-- "A prepared table with a count or an entry that valid bytes could not hold is refused with 44, .. without an index"; so is one beside
+-- which a second buffer is lent that is not empty, since that would not be looked at
+unfoldable pub preparedAnswer : List ℕ → List ℕ → Admitted
+preparedAnswer b m = cond (fits b && eqb (length m) 0) (Valid (keyCount b)) (Refused 44 noIndex)
+
+-- what a prepared table means, and any bytes beside it
+unfoldable pub preparedTables : List ℕ → List ℕ → Tables
+preparedTables b m = record { answer = preparedAnswer b m; keys = keyPart b; md5s = md5Part b }
+
+-- what the two buffers mean that are lent in a form: 0 their tables' own bytes, any other value a prepared table
+abbrev pub tablesOf : ℕ → List ℕ → List ℕ → Tables
+tablesOf form k m = cond (eqb form 0) (bytesTables k m) (preparedTables k m)
 
 -- the key entry that matches the pair and has the ID
 abbrev pub sendEntry : Tables → Pair → ℕ → Found

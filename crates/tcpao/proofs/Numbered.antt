@@ -55,6 +55,6 @@ pub opened-md5-numbered : (t : Tables) (local remote : List ℕ) (lp rp isn : �
     → (r ≡ openedActivelyMd5 t local remote lp rp isn) × (ofSettled r ≡ openedMd5Number t local remote lp rp)
 opened-md5-numbered t local remote lp rp isn e = (e, ap ofSettled e ∙ law.opened-md5-number t local remote lp rp isn)
 
-pub table-numbered : (k m : List ℕ) {r : Admitted} → r ≡ tablesOf k m .answer
-    → (r ≡ tablesOf k m .answer) × (tableAnswer r ≡ tableNumber (tablesOf k m))
-table-numbered k m e = (e, ap tableAnswer e ∙ law.table-number (record { keys = k; md5 = m }))
+pub table-numbered : (form : ℕ) (k m : List ℕ) {r : Admitted} → r ≡ tablesOf form k m .answer
+    → (r ≡ tablesOf form k m .answer) × (tableAnswer r ≡ tableNumber (tablesOf form k m))
+table-numbered form k m e = (e, ap tableAnswer e ∙ law.table-number (record { form = form; keys = k; md5 = m }))

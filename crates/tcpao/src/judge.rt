@@ -54,13 +54,13 @@ fn index_of(o: Outcome) -> Index
 }
 
 // "if RNextKeyID differs from the outgoing SendID, and an entry matching the pair has that SendID, it becomes the outgoing key (7.5.2.e)"
-fn next_key(keys: &[u8], md5: &[u8], pair: Pair, rnext: u8, current: u8) -> u8
-    ensures { λ r. ⌜ r ≡ nextKey (tablesOf (now (keys .entry)) (now (md5 .entry))) pair rnext current ⌝ }
+fn next_key(form: u8, keys: &[u8], md5: &[u8], pair: Pair, rnext: u8, current: u8) -> u8
+    ensures { λ r. ⌜ r ≡ nextKey (tablesOf form (now (keys .entry)) (now (md5 .entry))) pair rnext current ⌝ }
 {
     if rnext == current {
         return current;
     }
-    let found = tables::find_send(keys, md5, pair, rnext);
+    let found = tables::find_send(form, keys, md5, pair, rnext);
     if found.there {
         return rnext;
     }
@@ -68,14 +68,14 @@ fn next_key(keys: &[u8], md5: &[u8], pair: Pair, rnext: u8, current: u8) -> u8
 }
 
 // The outgoing key after an acceptance: the key rule is TCP-AO's, and an MD5 connection's ID stays.
-fn next_on(keys: &[u8], md5: &[u8], q: State, rnext: u8) -> u8
-    ensures { λ r. ⌜ r ≡ nextOn (tablesOf (now (keys .entry)) (now (md5 .entry))) q rnext ⌝ }
+fn next_on(form: u8, keys: &[u8], md5: &[u8], q: State, rnext: u8) -> u8
+    ensures { λ r. ⌜ r ≡ nextOn (tablesOf form (now (keys .entry)) (now (md5 .entry))) q rnext ⌝ }
 {
     let conn = q.conn;
     if is_md5(conn) {
         return q.send_id;
     }
-    next_key(keys, md5, conn.pair, rnext, q.send_id)
+    next_key(form, keys, md5, conn.pair, rnext, q.send_id)
 }
 
 // An acceptance once open: it is counted and, by TCP-AO, moves the reference.
@@ -90,14 +90,14 @@ fn accepted_on(q: State, x: u64, key: u8) -> State
 }
 
 // An accepted segment at position x, whose number is `number`: it opens, the way as it is, or is accepted once open.
-fn accepted(keys: &[u8], md5: &[u8], q: State, x: u64, rnext: u8, number: u32) -> State
+fn accepted(form: u8, keys: &[u8], md5: &[u8], q: State, x: u64, rnext: u8, number: u32) -> State
     requires { ⌜ (isOpen (q .conn) ≡ false → x ≡ number) ⌝ }
-    ensures { λ r. ⌜ r ≡ afterJudging (tablesOf (now (keys .entry)) (now (md5 .entry))) q (Outcome.Good x rnext) ⌝ }
+    ensures { λ r. ⌜ r ≡ afterJudging (tablesOf form (now (keys .entry)) (now (md5 .entry))) q (Outcome.Good x rnext) ⌝ }
 {
     let conn = q.conn;
     let pair = conn.pair;
     let ask = q.ask_id;
-    let key = next_on(keys, md5, q, rnext);
+    let key = next_on(form, keys, md5, q, rnext);
     if is_open(conn) {
         return accepted_on(q, x, key);
     }
@@ -115,12 +115,12 @@ fn dropped(n: u8, q: State) -> State
     q
 }
 
-fn after_judging(keys: &[u8], md5: &[u8], q: State, number: u32, o: Outcome) -> State
+fn after_judging(form: u8, keys: &[u8], md5: &[u8], q: State, number: u32, o: Outcome) -> State
     requires { ⌜ AtNumber (q .conn) number o ⌝ }
-    ensures { λ r. ⌜ r ≡ afterJudging (tablesOf (now (keys .entry)) (now (md5 .entry))) q o ⌝ }
+    ensures { λ r. ⌜ r ≡ afterJudging (tablesOf form (now (keys .entry)) (now (md5 .entry))) q o ⌝ }
 {
     match o {
-        Outcome::Good(x, rnext) => accepted(keys, md5, q, x, rnext, number),
+        Outcome::Good(x, rnext) => accepted(form, keys, md5, q, x, rnext, number),
         Outcome::Passed => q,
         Outcome::Bad(n, _) => dropped(n, q),
     }
@@ -128,6 +128,7 @@ fn after_judging(keys: &[u8], md5: &[u8], q: State, number: u32, o: Outcome) -> 
 
 // Judges an arriving segment with a state, opening or open.
 pub fn judge(
+    form: u8,
     keys: &[u8],
     md5: &[u8],
     source: &[u8],
@@ -136,17 +137,26 @@ pub fn judge(
     state: State,
 ) -> Judged
     ensures answer { λ r. ⌜ r
-        ≡ judged (tablesOf (now (keys .entry)) (now (md5 .entry)))
+        ≡ judged (tablesOf form (now (keys .entry)) (now (md5 .entry)))
         (arrivalOf (now (source .entry)) (now (destination .entry)) (now (segment .entry))) state ⌝ }
     ensures number { λ r. ⌜ verdictAnswer (r .verdict) (r .index)
-        ≡ judgedNumber (tablesOf (now (keys .entry)) (now (md5 .entry)))
+        ≡ judgedNumber (tablesOf form (now (keys .entry)) (now (md5 .entry)))
         (arrivalOf (now (source .entry)) (now (destination .entry)) (now (segment .entry))) state ⌝ }
 {
     let conn = state.conn;
-    let o = check(keys, md5, source, destination, segment, conn, state.seen);
+    let o = check(
+        form,
+        keys,
+        md5,
+        source,
+        destination,
+        segment,
+        conn,
+        state.seen,
+    );
     let verdict = verdict_of(o);
     let index = index_of(o);
-    let next = after_judging(keys, md5, state, sequence(segment), o);
+    let next = after_judging(form, keys, md5, state, sequence(segment), o);
     Judged {
         verdict,
         index,
@@ -157,6 +167,7 @@ pub fn judge(
 // "a bare SYN is judged without a state". Where an entry matches the pair an unknown KeyID gets 26; where none does, `strict` decides: 26
 // or pass.
 pub fn judge_syn(
+    form: u8,
     keys: &[u8],
     md5: &[u8],
     source: &[u8],
@@ -165,13 +176,13 @@ pub fn judge_syn(
     strict: bool,
 ) -> SynJudged
     ensures answer { λ r. ⌜ r
-        ≡ judgedSyn (tablesOf (now (keys .entry)) (now (md5 .entry)))
+        ≡ judgedSyn (tablesOf form (now (keys .entry)) (now (md5 .entry)))
         (arrivalOf (now (source .entry)) (now (destination .entry)) (now (segment .entry))) strict ⌝ }
     ensures number { λ r. ⌜ verdictAnswer (r .verdict) (r .index)
-        ≡ synNumber (tablesOf (now (keys .entry)) (now (md5 .entry)))
+        ≡ synNumber (tablesOf form (now (keys .entry)) (now (md5 .entry)))
         (arrivalOf (now (source .entry)) (now (destination .entry)) (now (segment .entry))) strict ⌝ }
 {
-    let o = check_syn(keys, md5, source, destination, segment, strict);
+    let o = check_syn(form, keys, md5, source, destination, segment, strict);
     let verdict = verdict_of(o);
     let index = index_of(o);
     SynJudged { verdict, index }
@@ -179,6 +190,7 @@ pub fn judge_syn(
 
 // "only on accept, opens with the entry found, then applies the key rule": its way and IDs, which judging found.
 fn opened_by(
+    form: u8,
     keys: &[u8],
     md5: &[u8],
     source: &[u8],
@@ -189,9 +201,9 @@ fn opened_by(
     ids: Ids,
     o: Outcome,
 ) -> State
-    requires { ⌜ TakenBy (tablesOf (now keys) (now md5)) (arrivalOf (now source) (now destination) (now segment)) way ids o ⌝ }
+    requires { ⌜ TakenBy (tablesOf form (now keys) (now md5)) (arrivalOf (now source) (now destination) (now segment)) way ids o ⌝ }
     ensures { λ r. ⌜ r
-        ≡ openedFrom (tablesOf (now (keys .entry)) (now (md5 .entry)))
+        ≡ openedFrom (tablesOf form (now (keys .entry)) (now (md5 .entry)))
         (arrivalOf (now (source .entry)) (now (destination .entry)) (now (segment .entry))) isn o ⌝ }
 {
     let Outcome::Good(_, rnext) = o else {
@@ -201,12 +213,13 @@ fn opened_by(
     if way == 1 {
         return opened(1, pair, isn, sequence(segment), 0, 0);
     }
-    let key = next_key(keys, md5, pair, rnext, ids.send);
+    let key = next_key(form, keys, md5, pair, rnext, ids.send);
     opened(0, pair, isn, sequence(segment), key, ids.recv)
 }
 
 // "A second call takes the same SYN and our ISN, judges it again and, only on accept, opens".
 pub fn open_passive(
+    form: u8,
     keys: &[u8],
     md5: &[u8],
     source: &[u8],
@@ -216,19 +229,30 @@ pub fn open_passive(
     strict: bool,
 ) -> Judged
     ensures answer { λ r. ⌜ r
-        ≡ openedPassively (tablesOf (now (keys .entry)) (now (md5 .entry)))
+        ≡ openedPassively (tablesOf form (now (keys .entry)) (now (md5 .entry)))
         (arrivalOf (now (source .entry)) (now (destination .entry)) (now (segment .entry))) isn strict ⌝ }
     ensures number { λ r. ⌜ verdictAnswer (r .verdict) (r .index)
-        ≡ synNumber (tablesOf (now (keys .entry)) (now (md5 .entry)))
+        ≡ synNumber (tablesOf form (now (keys .entry)) (now (md5 .entry)))
         (arrivalOf (now (source .entry)) (now (destination .entry)) (now (segment .entry))) strict ⌝ }
 {
-    let begun = begin_syn(keys, md5, source, destination, segment, strict);
+    let begun = begin_syn(form, keys, md5, source, destination, segment, strict);
     let way = begun.way;
     let ids = begun.ids;
     let o = finished(begun, segment);
     let verdict = verdict_of(o);
     let index = index_of(o);
-    let state = opened_by(keys, md5, source, destination, segment, isn, way, ids, o);
+    let state = opened_by(
+        form,
+        keys,
+        md5,
+        source,
+        destination,
+        segment,
+        isn,
+        way,
+        ids,
+        o,
+    );
     Judged {
         verdict,
         index,

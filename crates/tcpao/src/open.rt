@@ -40,6 +40,7 @@ pub(crate) fn settled_by(outcome: Outcome, old: State, new: State) -> Settled
 
 // "It gives the outgoing key and, by RecvID, the key asked of the peer." An opening refused returns the empty state.
 pub fn open_active(
+    form: u8,
     keys: &[u8],
     md5: &[u8],
     local: &[u8],
@@ -50,10 +51,10 @@ pub fn open_active(
     send_id: u8,
 ) -> Settled
     ensures answer { λ r. ⌜ r
-        ≡ openedActively (tablesOf (now (keys .entry)) (now (md5 .entry))) (now (local .entry)) (now (remote .entry)) «local_port»
+        ≡ openedActively (tablesOf form (now (keys .entry)) (now (md5 .entry))) (now (local .entry)) (now (remote .entry)) «local_port»
         «remote_port» isn «send_id» ⌝ }
     ensures number { λ r. ⌜ doneAnswer (r .answer) (r .index)
-        ≡ openedNumber (tablesOf (now (keys .entry)) (now (md5 .entry))) (now (local .entry)) (now (remote .entry)) «local_port»
+        ≡ openedNumber (tablesOf form (now (keys .entry)) (now (md5 .entry))) (now (local .entry)) (now (remote .entry)) «local_port»
         «remote_port» «send_id» ⌝ }
 {
     let none = empty();
@@ -62,8 +63,8 @@ pub fn open_active(
         return settled_by(sizes, none, none);
     };
     let pair = pair_of(local, remote, local_port, remote_port);
-    let found = tables::find_send(keys, md5, pair, send_id);
-    let keyed = key_faults(keys, md5, found.there);
+    let found = tables::find_send(form, keys, md5, pair, send_id);
+    let keyed = key_faults(form, keys, md5, found.there);
     settled_by(
         keyed,
         none,
@@ -73,6 +74,7 @@ pub fn open_active(
 
 // Ticket 9: an active opening by MD5 names no SendID, and its IDs are 0.
 pub fn open_active_md5(
+    form: u8,
     keys: &[u8],
     md5: &[u8],
     local: &[u8],
@@ -82,10 +84,10 @@ pub fn open_active_md5(
     isn: u32,
 ) -> Settled
     ensures answer { λ r. ⌜ r
-        ≡ openedActivelyMd5 (tablesOf (now (keys .entry)) (now (md5 .entry))) (now (local .entry)) (now (remote .entry)) «local_port»
+        ≡ openedActivelyMd5 (tablesOf form (now (keys .entry)) (now (md5 .entry))) (now (local .entry)) (now (remote .entry)) «local_port»
         «remote_port» isn ⌝ }
     ensures number { λ r. ⌜ doneAnswer (r .answer) (r .index)
-        ≡ openedMd5Number (tablesOf (now (keys .entry)) (now (md5 .entry))) (now (local .entry)) (now (remote .entry)) «local_port»
+        ≡ openedMd5Number (tablesOf form (now (keys .entry)) (now (md5 .entry))) (now (local .entry)) (now (remote .entry)) «local_port»
         «remote_port» ⌝ }
 {
     let none = empty();
@@ -94,7 +96,7 @@ pub fn open_active_md5(
         return settled_by(sizes, none, none);
     };
     let pair = pair_of(local, remote, local_port, remote_port);
-    let found = tables::find_md5(keys, md5, pair);
-    let keyed = key_faults(keys, md5, found.there);
+    let found = tables::find_md5(form, keys, md5, pair);
+    let keyed = key_faults(form, keys, md5, found.there);
     settled_by(keyed, none, opening(1, pair, isn, 0, 0))
 }

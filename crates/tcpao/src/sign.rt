@@ -30,27 +30,34 @@ use tables::Index;
 use wire::header::header_of;
 
 // The entry signed under: the outgoing key's; by MD5 the one that matches the pair.
-fn outgoing(keys: &[u8], md5: &[u8], state: State) -> Found
-    ensures { λ r. ⌜ r ≡ outgoingOf (tablesOf (now (keys .entry)) (now (md5 .entry))) state ⌝ }
+fn outgoing(form: u8, keys: &[u8], md5: &[u8], state: State) -> Found
+    ensures { λ r. ⌜ r ≡ outgoingOf (tablesOf form (now (keys .entry)) (now (md5 .entry))) state ⌝ }
 {
     let conn = state.conn;
     if is_md5(conn) {
-        return tables::find_md5(keys, md5, conn.pair);
+        return tables::find_md5(form, keys, md5, conn.pair);
     }
-    tables::find_send(keys, md5, conn.pair, state.send_id)
+    tables::find_send(form, keys, md5, conn.pair, state.send_id)
 }
 
 // All that needs no data: every number, and what waits for the data. `room` is the output's length.
-pub fn begin(keys: &[u8], md5: &[u8], segment: &[u8], room: usize, state: State) -> SignBegun
-    ensures { λ r. ⌜ SignBegins (tablesOf (now (keys .entry)) (now (md5 .entry))) (now (segment .entry)) room state r ⌝ }
+pub fn begin(
+    form: u8,
+    keys: &[u8],
+    md5: &[u8],
+    segment: &[u8],
+    room: usize,
+    state: State,
+) -> SignBegun
+    ensures { λ r. ⌜ SignBegins (tablesOf form (now (keys .entry)) (now (md5 .entry))) (now (segment .entry)) room state r ⌝ }
 {
     let conn = state.conn;
-    let input = input_faults(keys, md5, segment, conn);
+    let input = input_faults(form, keys, md5, segment, conn);
     let Outcome::Good(_, _) = input else {
         return nothing(input);
     };
     let header = header_of(segment, segment.len());
-    let found = outgoing(keys, md5, state);
+    let found = outgoing(form, keys, md5, state);
     let entry = found.entry;
     let secret = entry.secret;
     let added = added_on(conn, secret.mac_bytes);
@@ -107,14 +114,22 @@ fn refused(n: u8, i: Index, state: State) -> Signed
 }
 
 // The answer with the new state, and every byte of the output.
-pub fn sign(keys: &[u8], md5: &[u8], segment: &[u8], out: &mut [u8], state: State) -> Signed
-    ensures answer { λ r. ⌜ r ≡ signed (tablesOf (now (keys .entry)) (now (md5 .entry))) (now (segment .entry)) (now (out .entry)) state ⌝ }
-    ensures storage { λ _. ⌜ now (out .exit) ≡ output (tablesOf (now (keys .entry)) (now (md5 .entry)))
+pub fn sign(
+    form: u8,
+    keys: &[u8],
+    md5: &[u8],
+    segment: &[u8],
+    out: &mut [u8],
+    state: State,
+) -> Signed
+    ensures answer { λ r. ⌜ r
+        ≡ signed (tablesOf form (now (keys .entry)) (now (md5 .entry))) (now (segment .entry)) (now (out .entry)) state ⌝ }
+    ensures storage { λ _. ⌜ now (out .exit) ≡ output (tablesOf form (now (keys .entry)) (now (md5 .entry)))
         (now (segment .entry)) (now (out .entry)) state ⌝ }
     ensures number { λ r. ⌜ signingAnswer (r .answer) (r .index)
-        ≡ signedNumber (tablesOf (now (keys .entry)) (now (md5 .entry))) (now (segment .entry)) (now (out .entry)) state ⌝ }
+        ≡ signedNumber (tablesOf form (now (keys .entry)) (now (md5 .entry))) (now (segment .entry)) (now (out .entry)) state ⌝ }
 {
-    let begun = begin(keys, md5, segment, out.len(), state);
+    let begun = begin(form, keys, md5, segment, out.len(), state);
     let outcome = begun.outcome;
     let added = begun.added;
     match outcome {

@@ -6,7 +6,7 @@ use kit::{End, Entry, Pair, Segment, Side, State};
 
 pub const KEY: [u8; 16] = *b"sixteen key byte";
 const PORTS: [u16; 2] = [50_000, 179];
-const ISNS: [u32; 2] = [0x1234_5678, 0x9abc_def0];
+pub const ISNS: [u32; 2] = [0x1234_5678, 0x9abc_def0];
 const ADDRESSES: [[u8; 4]; 2] = [[10, 11, 12, 13], [172, 27, 28, 29]];
 
 /// An entry by `KEY`, for anybody who speaks IPv4.
@@ -85,18 +85,23 @@ pub fn open(here: usize, algorithm: u8, keys: Keys) -> End {
     let entries: Vec<Entry> = (0..keys.entries())
         .map(|i| keys.entry(here, algorithm, i))
         .collect();
+    opened(pair, &entries, [ISNS[here], ISNS[there]])
+}
+
+/// One end of an open connection, by the archive. The last entry is in use; our ISN comes first.
+pub fn opened(pair: Pair, entries: &[Entry], [ours, theirs]: [u32; 2]) -> End {
     let used = &entries[entries.len() - 1];
     let state = State {
         stage: 1,
         outgoing_send_id: used.send_id,
         asked_recv_id: used.recv_id,
-        our_isn: ISNS[here],
-        peer_isn: ISNS[there],
-        signing_reference: u64::from(ISNS[here]),
-        arriving_reference: u64::from(ISNS[there]),
+        our_isn: ours,
+        peer_isn: theirs,
+        signing_reference: u64::from(ours),
+        arriving_reference: u64::from(theirs),
         ..State::of_pair(&pair)
     };
-    let mut end = End::new(ARCHIVE, pair, kit::entry::table(&entries));
+    let mut end = End::new(ARCHIVE, pair, kit::entry::table(entries));
     end.set(state);
     end
 }

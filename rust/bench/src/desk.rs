@@ -18,17 +18,17 @@ const ALLOWED: u64 = 8 << 20;
 const AT_ONCE: usize = 100;
 
 /// A recording: its table and opening, and a segment that comes again and again.
-struct Line {
+struct Recorded {
     end: End,
     front: Vec<u8>,
     segment: Vec<u8>,
 }
 
-impl Line {
-    fn new(algorithm: u8, keys: Keys, n: usize) -> Line {
+impl Recorded {
+    fn new(algorithm: u8, keys: Keys, n: usize) -> Recorded {
         let [mut from, end] = [0, 1].map(|here| open(here, algorithm, keys));
         let entries = recording::table(end.table.chunks(recording::ENTRY_ROOM));
-        Line {
+        Recorded {
             front: [entries, recording::opening(&end.state())].concat(),
             segment: from.try_sign(&segment(n)).unwrap(),
             end,
@@ -121,9 +121,9 @@ pub fn against_judging() -> Option<Outcome> {
         ),
         ("64 bytes, HMAC-SHA-1", 1, Keys::One, 64, false),
     ] {
-        let line = Line::new(algorithm, keys, n);
-        let mut alone = Line::new(algorithm, keys, n);
-        let ours = &mut || line.at_desk(&program, SEGMENTS).time;
+        let recorded = Recorded::new(algorithm, keys, n);
+        let mut alone = Recorded::new(algorithm, keys, n);
+        let ours = &mut || recorded.at_desk(&program, SEGMENTS).time;
         table.measured(label, limited, ours, &mut || alone.judge(SEGMENTS));
     }
     memory(&program);
@@ -132,9 +132,9 @@ pub fn against_judging() -> Option<Outcome> {
 
 /// A long recording, in bounded memory.
 fn memory(program: &Path) {
-    let line = Line::new(1, Keys::One, 1_400);
+    let recorded = Recorded::new(1, Keys::One, 1_400);
     let times = LONG / (AT_ONCE * recording::RECORDS[2]) * AT_ONCE;
-    let memory = line.at_desk(program, times).memory;
+    let memory = recorded.at_desk(program, times).memory;
     println!(
         "\nA recording of {times} segments, {} MiB: at most {} KiB of memory.",
         LONG >> 20,

@@ -9,6 +9,7 @@ use kit::{calls_of, Boundary};
 /// The calls of the archive.
 pub const ARCHIVE: Boundary = Boundary {
     check_table: raw::check_table,
+    prepare: raw::prepare,
     open_active: raw::open_active,
     open_active_md5: raw::open_active_md5,
     judge_syn: raw::judge_syn,

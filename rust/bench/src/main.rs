@@ -5,6 +5,7 @@ mod calls;
 mod connection;
 mod desk;
 mod messages;
+mod prepared;
 mod tables;
 mod timing;
 
@@ -33,6 +34,12 @@ fn main() -> ExitCode {
         calls::md5_against_digest(),
         tables::against_hmac(),
         tables::against_reference(),
+        prepared::few_ids(),
+        prepared::different_ids(),
+        prepared::hard(),
+        prepared::addresses(),
+        prepared::against_bytes(),
+        prepared::preparing(),
     ];
     outcomes.extend(desk::against_judging());
     if timing::summary(&outcomes) {

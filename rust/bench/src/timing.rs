@@ -64,7 +64,8 @@ impl Table {
         }
     }
 
-    /// Times both, `count` calls to a round, and prints the row. `limited`: the limit is for it.
+    /// Times both, `count` calls to a round, and prints the row. `limited`: the limit is for it. Gives the
+    /// minimum of each.
     pub fn row(
         &mut self,
         label: &str,
@@ -72,9 +73,9 @@ impl Table {
         count: usize,
         ours: &mut dyn FnMut(),
         other: &mut dyn FnMut(),
-    ) {
+    ) -> [f64; 2] {
         let ours = &mut || round(count, ours);
-        self.measured(label, limited, ours, &mut || round(count, other));
+        self.measured(label, limited, ours, &mut || round(count, other))
     }
 
     /// The same, where both say themselves what a call of one round took.
@@ -84,7 +85,7 @@ impl Table {
         limited: bool,
         ours: &mut dyn FnMut() -> f64,
         other: &mut dyn FnMut() -> f64,
-    ) {
+    ) -> [f64; 2] {
         let (mut a, mut b) = (Vec::new(), Vec::new());
         for _ in 0..self.rounds {
             a.push(ours());
@@ -106,6 +107,7 @@ impl Table {
             ratios[1],
             if over { "  over" } else { "" }
         );
+        [a.minimum, b.minimum]
     }
 
     /// What came of the limit.

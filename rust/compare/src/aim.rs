@@ -2,6 +2,7 @@
 //! order of the numbers is tried. What is aimed at is only a hint; the two sides say what it gives.
 
 use crate::numbers::possible;
+use crate::prepared;
 use crate::prng::Prng;
 use crate::segments::{self, any_header};
 use crate::states::{distance, number};
@@ -20,6 +21,7 @@ impl Aim {
 
     pub fn at(random: &mut Prng, function: Function) -> Aim {
         let count = random.pick(&[0, 0, 0, 1, 1, 2, 2, 2, 3, 4]);
+        // The tables' own refusals, and 44 in their place, are aimed at by one number each.
         let numbers: Vec<u8> = possible(function)
             .iter()
             .copied()
@@ -95,6 +97,20 @@ fn some_id(random: &mut Prng, keys: &[Entry]) -> u8 {
 
 pub fn check_table(random: &mut Prng, at: &At, aim: &Aim) -> Call {
     finished(random, at.call(Function::CheckTable), at, aim)
+}
+
+/// Into a buffer that is just long enough, longer or, for 37, shorter.
+pub fn prepare(random: &mut Prng, at: &At, aim: &Aim) -> Call {
+    let mut call = finished(random, at.call(Function::Prepare), at, aim);
+    let length = prepared::of(&call).map_or(1_000, |table| table.len());
+    let room = if aim.has(37) {
+        let any = random.below(length);
+        random.pick(&[0, 3, length - 1, length - 1, any])
+    } else {
+        length + random.pick(&[0, 0, 1, 129])
+    };
+    call.out = random.bytes(room);
+    call
 }
 
 pub fn open_active(random: &mut Prng, at: &At, pair: &Pair, isn: u32, aim: &Aim) -> Call {
@@ -465,7 +481,9 @@ pub fn sign(random: &mut Prng, at: &At, aim: &Aim) -> Call {
         let wrong = random.pick(&[ACK, SYN | ACK, 0]);
         let flags = if aim.has(34) { wrong } else { SYN };
         let other = random.pick(&[1, u32::MAX, 1 << 31]);
-        let step = if aim.has(36) { other } else { 0 };
+        // Few SYNs are signed by MD5, so that it is aimed at more often there.
+        let wrong_number = aim.has(36) || by_md5 && random.one_in(20);
+        let step = if wrong_number { other } else { 0 };
         (state.our_isn.wrapping_add(step), flags)
     };
 
@@ -497,7 +515,7 @@ pub fn sign(random: &mut Prng, at: &At, aim: &Aim) -> Call {
             area.resize(free + random.pick(&[4, 4 + 4 * more]), 1);
         } else {
             // The result is too long, often by less than what pads TCP-AO or MD5.
-            data.resize(most + random.pick(&[1, 1, 2, 3, 16]), 7);
+            data.resize(most + random.pick(&[1, 1, 1, 2, 3, 16]), 7);
         }
     }
     let mut segment = Segment {
@@ -550,8 +568,8 @@ fn balance_signed(segment: &mut [u8], state: &State, at: &At) {
     let bytes = state.bytes();
     let state = reference::State::from_bytes(&bytes).unwrap();
     let (keys, md5) = (&table(at.keys)[..], &table(at.md5)[..]);
-    let Ok(signed) = reference::calls::sign(&Lent { keys, md5 }, segment, usize::MAX, &state)
-    else {
+    let tables = Lent::of_bytes(keys, md5);
+    let Ok(signed) = reference::calls::sign(&tables, segment, usize::MAX, &state) else {
         return;
     };
     let checksum = u16::from_be_bytes([signed.segment[16], signed.segment[17]]);
@@ -592,6 +610,16 @@ fn finished(random: &mut Prng, mut call: Call, at: &At, aim: &Aim) -> Call {
     }
     if aim.has(110) {
         call.md5 = tables::spoilt_md5(random, &md5);
+    }
+    if random.one_in(500) {
+        tables::fill(random, &mut keys, &mut md5);
+        (call.table, call.md5) = (table(&keys), table(&md5));
+    }
+    // More often where it is asked whether any entry matches a bare SYN's pair, since few calls ask that.
+    let asks_any = aim.has(25) && call.function != Function::Judge;
+    let times = if asks_any { 2 } else { 6 };
+    if call.function.takes_form() && (aim.has(44) || random.one_in(times)) {
+        prepared::lend(random, &mut call, aim.has(44));
     }
     if random.one_in(30) {
         disturb(random, &mut call);

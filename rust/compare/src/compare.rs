@@ -1,4 +1,5 @@
-//! Makes each call on the archive and on the reference and holds the outcomes against each other.
+//! Makes each call on the archive and on the reference and holds the outcomes against each other; and, where
+//! its tables are bytes that are not refused, the same call with them prepared.
 //!
 //! The reference may be tried several times in one run: as it is, or with one fault planted each.
 //! One that has differed is tried no further. Up to its first difference each has seen
@@ -7,6 +8,7 @@
 use crate::against::Against;
 use crate::archive::by_archive;
 use crate::counts::Counts;
+use crate::prepared;
 use crate::prng::Prng;
 use crate::report;
 use crate::translation::Translation;
@@ -23,7 +25,10 @@ pub struct Tried {
     pub difference: Option<Difference>,
 }
 
+/// Two outcomes that should be the same: the archive's and the reference's or, of `forms`, the archive's with
+/// prepared tables and with their bytes.
 pub struct Difference {
+    pub forms: bool,
     pub seed: u64,
     /// The call's index in the run, from 0.
     pub index: u64,
@@ -38,11 +43,15 @@ pub struct Run {
     pub calls: u64,
     pub counts: Counts,
     pub tried: Vec<Tried>,
+    /// Where the archive first gave something else with prepared tables than with their bytes.
+    pub forms: Option<Difference>,
     /// The last of all calls.
     pub last: Option<(Call, Outcome)>,
     /// Whether each call is named before it is made, in case it does not return.
     pub trace: bool,
     limit: u64,
+    /// How tables are prepared.
+    random: Prng,
 }
 
 impl Run {
@@ -57,9 +66,11 @@ impl Run {
             calls: 0,
             counts: Counts::default(),
             tried: tried.collect(),
+            forms: None,
             last: None,
             trace: false,
             limit,
+            random: Prng::new(!seed),
         }
     }
 
@@ -80,16 +91,15 @@ impl Run {
 
     /// The difference that was found first.
     pub fn difference(&self) -> Option<&Difference> {
-        let found = self
-            .tried
-            .iter()
-            .filter_map(|tried| tried.difference.as_ref());
-        found.min_by_key(|difference| difference.index)
+        let tried = self.tried.iter();
+        let found = tried.filter_map(|tried| tried.difference.as_ref());
+        found
+            .chain(&self.forms)
+            .min_by_key(|difference| difference.index)
     }
-}
 
-impl Caller for Run {
-    fn call_over(&mut self, call: &Call, way: Option<Translation>) -> Result<Outcome, Stop> {
+    /// Makes a call on the archive and on what it is compared with.
+    fn compared(&mut self, call: &Call, way: Option<Translation>) -> Result<Outcome, Stop> {
         if self.calls == self.limit {
             return Err(Stop);
         }
@@ -110,6 +120,7 @@ impl Caller for Run {
             let reference = tried.against.make(call);
             if reference != archive {
                 tried.difference = Some(Difference {
+                    forms: false,
                     seed: self.seed,
                     index,
                     call: call.clone(),
@@ -122,5 +133,30 @@ impl Caller for Run {
             return Err(Stop);
         }
         Ok(archive)
+    }
+}
+
+impl Caller for Run {
+    fn call_over(&mut self, call: &Call, way: Option<Translation>) -> Result<Outcome, Stop> {
+        let by_bytes = self.compared(call, way)?;
+        // What is refused cannot be prepared; asking for it once more would take long.
+        let refused = matches!(by_bytes.number(), 10..=17 | 45);
+        let again = (!refused).then(|| prepared::same_prepared(&mut self.random, call));
+        if let Some(again) = again.flatten() {
+            let prepared = self.compared(&again, way)?;
+            if prepared == by_bytes {
+                self.counts.add_same_prepared(call.function);
+            } else if self.forms.is_none() {
+                self.forms = Some(Difference {
+                    forms: true,
+                    seed: self.seed,
+                    index: self.calls - 1,
+                    call: again,
+                    archive: prepared,
+                    reference: by_bytes.clone(),
+                });
+            }
+        }
+        Ok(by_bytes)
     }
 }

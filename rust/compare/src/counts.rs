@@ -4,12 +4,14 @@ use crate::md5::ByMd5;
 use crate::numbers::{named, possible, ALL, OF_MD5};
 use crate::translation::{Rewritten, Translation};
 use crate::unknown::{Matched, Unknown};
+use kit::prepared::{mark, Field, Field::*};
 use kit::segment::summed;
-use kit::Function::{Ask, Judge, JudgeSyn, OpenPassive, Sign};
+use kit::Function::{Ask, Judge, JudgeSyn, OpenActive, OpenPassive, Sign};
 use kit::{Call, Function, Outcome};
+use reference::md5_table::{Lent, Tables};
 use reference::segment::{read_options, AoOption, Header};
 use reference::state::{State, COUNTED};
-use reference::table::{self, by_recv_id, by_send_id, Algorithm, Entry, Pair};
+use reference::table::{by_recv_id, by_send_id, Algorithm, Entry, Pair};
 
 /// How often each number and each situation must be met.
 pub const LEAST: u64 = 100;
@@ -17,6 +19,8 @@ pub const LEAST: u64 = 100;
 pub struct Counts {
     numbers: [[u64; ALL.len() + 1]; Function::ALL.len()],
     situations: [u64; SITUATIONS.len()],
+    /// How often each call gave with prepared tables what it gave with their bytes.
+    same_prepared: [u64; Function::ALL.len()],
 }
 
 impl Default for Counts {
@@ -24,6 +28,7 @@ impl Default for Counts {
         Counts {
             numbers: [[0; ALL.len() + 1]; Function::ALL.len()],
             situations: [0; SITUATIONS.len()],
+            same_prepared: [0; Function::ALL.len()],
         }
     }
 }
@@ -34,6 +39,8 @@ struct Seen<'a> {
     outcome: &'a Outcome,
     /// The state before it; without one, an empty one.
     before: State,
+    /// The tables, in whichever form, if the call did not refuse them.
+    tables: Option<Tables<'a>>,
     /// Of a segment that was accepted on a connection.
     accepted: Option<Accepted>,
     /// Of a bare SYN with TCP-AO whose KeyID has no entry for its pair.
@@ -55,21 +62,25 @@ struct Over {
 }
 
 impl Over {
-    fn of(call: &Call, way: Option<Translation>, outcome: &Outcome) -> Option<Over> {
+    fn of(
+        call: &Call,
+        way: Option<Translation>,
+        outcome: &Outcome,
+        keys: &[Entry],
+    ) -> Option<Over> {
         let way = way.filter(|way| *way != Translation::NOTHING)?;
         if !matches!(outcome.number(), 0 | 29) {
             return None;
         }
         let header = Header::read(&call.segment)?;
         let ao = read_options(&call.segment, &header)?.ao?;
-        let entries = table::read(&call.table).ok()?;
         let pair = Pair {
             local: &call.destination,
             remote: &call.source,
             local_port: header.destination_port,
             remote_port: header.source_port,
         };
-        let entry = by_recv_id(&entries, &pair, ao.key_id)?;
+        let entry = by_recv_id(keys, &pair, ao.key_id)?;
         Some(Over {
             way,
             family: if call.source.len() == 4 { 4 } else { 6 },
@@ -91,6 +102,8 @@ struct Accepted {
     covers_options: bool,
     key_changed: bool,
     asks: Asked,
+    /// Whether a later entry that matches the pair has the same RecvID.
+    others: bool,
 }
 
 /// The checksum of a segment that was dropped with 40.
@@ -117,7 +130,7 @@ enum Asked {
 
 type Situation = (&'static str, fn(&Seen) -> bool);
 
-const SITUATIONS: [Situation; 236] = [
+const SITUATIONS: [Situation; 275] = [
     ("accepted at the reference: repeated", |seen| {
         seen.open(|a, reference| a.position == reference)
     }),
@@ -285,9 +298,7 @@ const SITUATIONS: [Situation; 236] = [
     ("accepted or signed, 65,519 bytes or more", |seen| {
         seen.outcome.number() == 0 && seen.call.segment.len() >= 65_519
     }),
-    ("a table of 64 entries, not refused", |seen| {
-        !(10..=19).contains(&seen.outcome.number()) && entries(&seen.call.table) == 64
-    }),
+    ("64 entries, not refused", |seen| seen.keys().len() == 64),
     (
         "judge_syn, unknown KeyID, setting pass, matched by exact ranges",
         |seen| seen.unknown(JudgeSyn, true, Matched::Exactly),
@@ -744,7 +755,7 @@ const SITUATIONS: [Situation; 236] = [
     ("ask, 35 by MD5 of a RecvID that the pair has", |seen| {
         seen.md5(Ask, 35, |_| seen.state_entry(seen.call.byte, |_| true))
     }),
-    ("a table of 64 MD5 entries, not refused", |seen| {
+    ("64 MD5 entries, not refused", |seen| {
         seen.by_md5.entries == 64
     }),
     ("45 at entry 0", |seen| {
@@ -772,7 +783,196 @@ const SITUATIONS: [Situation; 236] = [
     ("tables of two families that would overlap in one", |seen| {
         seen.by_md5.other_family
     }),
+    ("12 at entry 1,024", |seen| {
+        let word = (1_024 << 32) | 12;
+        seen.outcome.word == word && seen.call.form == 0
+    }),
+    ("12 at MD5 entry 1,024", |seen| {
+        let word = (1_024 << 32) | (1 << 8) | 12;
+        seen.outcome.word == word && seen.call.form == 0
+    }),
+    ("17 at entry 900 or later", |seen| {
+        seen.outcome.number() == 17 && seen.outcome.value() >= 900
+    }),
+    ("45, a table of 1,024 entries", |seen| {
+        let most = 1_024 * 104;
+        seen.outcome.number() == 45 && seen.call.table.len().max(seen.call.md5.len()) >= most
+    }),
+    ("1,024 entries as bytes, not refused", |seen| {
+        seen.sizes(false, |keys, _| keys == 1_024)
+    }),
+    ("1,024 MD5 entries as bytes, not refused", |seen| {
+        seen.sizes(false, |_, md5| md5 == 1_024)
+    }),
+    ("1,024 entries, prepared", |seen| {
+        seen.sizes(true, |keys, _| keys == 1_024)
+    }),
+    ("1,024 MD5 entries, prepared", |seen| {
+        seen.sizes(true, |_, md5| md5 == 1_024)
+    }),
+    ("1,024 entries and as many MD5 entries, prepared", |seen| {
+        seen.sizes(true, |keys, md5| keys == 1_024 && md5 == 1_024)
+    }),
+    ("no entries, prepared", |seen| {
+        seen.sizes(true, |keys, md5| keys + md5 == 0)
+    }),
+    ("prepared by form 1", |seen| seen.call.form == 1),
+    ("prepared by form 2", |seen| seen.call.form == 2),
+    ("prepared by form 128", |seen| seen.call.form == 128),
+    ("prepared by form 255", |seen| seen.call.form == 255),
+    ("44 by a second buffer alone", |seen| {
+        seen.forty_four(|call| !call.md5.is_empty() && fits(&call.table))
+    }),
+    ("44 by one byte too few", |seen| {
+        seen.forty_four(|call| size(&call.table) == Some(call.table.len() + 1))
+    }),
+    ("44 by one byte too many", |seen| {
+        seen.forty_four(|call| size(&call.table).is_some_and(|n| n + 1 == call.table.len()))
+    }),
+    ("44 by fewer than four bytes", |seen| {
+        seen.forty_four(|call| call.table.len() < 4)
+    }),
+    ("44 by a count of 1,025, the length right", |seen| {
+        seen.forty_four(|call| size(&call.table) == Some(call.table.len()) && !fits(&call.table))
+    }),
+    ("44 beside a segment of a bad length", |seen| {
+        let judged = seen.call.function == Judge;
+        judged && seen.forty_four(|call| Header::read(&call.segment).is_none())
+    }),
+    ("18 beside a table that is not prepared", |seen| {
+        seen.outcome.number() == 18 && seen.call.form != 0 && !fits(&seen.call.table)
+    }),
+    ("19 beside a table that is not prepared", |seen| {
+        seen.outcome.number() == 19 && seen.call.form != 0 && !fits(&seen.call.table)
+    }),
+    ("prepared, two keys clash", |seen| {
+        seen.stored(|tables| tables.keys.len() < 30 && clashing(&tables.keys))
+    }),
+    ("prepared, a key and an MD5 entry match a pair", |seen| {
+        seen.stored(|tables| tables.keys.len() < 30 && both_ways(tables))
+    }),
+    ("accepted, prepared, by the first of two", |seen| {
+        seen.call.form != 0 && seen.accepts(|a| a.others)
+    }),
+    ("opened, prepared, by the first of two SendIDs", |seen| {
+        let (call, id) = (seen.call, seen.call.byte);
+        let opened = call.function == OpenActive && seen.outcome.number() == 0;
+        let pair = Pair {
+            local: &call.source,
+            remote: &call.destination,
+            local_port: call.local_port,
+            remote_port: call.remote_port,
+        };
+        opened && {
+            let such = |key: &&Entry| key.send_id == id;
+            differ(&seen.stored_for(&pair, such), |key| key.recv_id)
+        }
+    }),
+    ("signed, prepared, by the first of two SendIDs", |seen| {
+        let id = seen.before.outgoing_send_id;
+        let such = |key: &&Entry| key.send_id == id;
+        let pair = seen.before.pair().filter(|_| seen.signed());
+        pair.is_some_and(|pair| differ(&seen.stored_for(&pair, such), |key| key.key))
+    }),
+    ("asked, prepared, by the first of two RecvIDs", |seen| {
+        let asked = seen.call.function == Ask && seen.outcome.number() == 0;
+        let such = |key: &&Entry| key.recv_id == seen.call.byte;
+        let pair = seen.before.pair().filter(|_| asked);
+        pair.is_some_and(|pair| seen.stored_for(&pair, such).len() > 1)
+    }),
+    ("accepted by MD5, prepared, by the first of two", |seen| {
+        seen.md5(Judge, 0, |_| seen.two_md5())
+    }),
+    ("signed by MD5, prepared, by the first of two", |seen| {
+        seen.md5(Sign, 0, |_| seen.two_md5())
+    }),
+    ("accepted, prepared, bytes behind IPv4's third", |seen| {
+        let behind = |stored: &Stored| {
+            stored.field(Family) == [4] && stored.field(RemoteAddress)[3..] != [0; 12]
+        };
+        seen.judged_by(0, |entries| entries.iter().all(behind))
+    }),
+    (
+        "accepted, prepared, by another mark than the peer's",
+        |seen| {
+            let mark = mark(&seen.call.source);
+            let other = |stored: &Stored| stored.field(Mark) != [mark];
+            seen.judged_by(0, |entries| entries.iter().all(other))
+        },
+    ),
+    ("accepted, prepared, by one of two of its mark", |seen| {
+        let mark = mark(&seen.call.source);
+        let such = |stored: &&Stored| stored.field(Mark) == [mark];
+        seen.judged_by(0, |entries| entries.iter().filter(such).count() > 1)
+    }),
+    ("26, prepared, beside the peer's mark", |seen| {
+        let mark = mark(&seen.call.source);
+        let such = |stored: &Stored| stored.field(Mark) == [mark];
+        seen.judged_by(26, |entries| entries.iter().any(such))
+    }),
+    ("accepted by MD5, prepared", |seen| {
+        seen.call.form != 0 && seen.md5(Judge, 0, |_| true)
+    }),
+    ("signed by MD5, prepared", |seen| {
+        seen.call.form != 0 && seen.md5(Sign, 0, |_| true)
+    }),
+    ("signed, prepared", |seen| {
+        seen.call.form != 0 && seen.signed()
+    }),
+    ("37, one byte of a prepared table too few", |seen| {
+        seen.call.function == Function::Prepare && seen.outcome.number() == 37 && {
+            let table = crate::prepared::of(seen.call);
+            table.is_some_and(|table| table.len() == seen.call.out.len() + 1)
+        }
+    }),
+    ("prepared, and bytes left behind", |seen| {
+        let done = seen.call.function == Function::Prepare && seen.outcome.number() == 0;
+        done && seen.call.out.len() > seen.outcome.value() as usize
+    }),
 ];
+
+/// How many bytes the counts of a prepared table ask for.
+fn size(table: &[u8]) -> Option<usize> {
+    let enough = table.len() >= kit::prepared::COUNTS;
+    enough.then(|| kit::prepared::length(kit::prepared::counts(table).iter().sum()))
+}
+
+/// Whether it is one.
+fn fits(table: &[u8]) -> bool {
+    size(table) == Some(table.len()) && kit::prepared::counts(table).iter().all(|n| *n <= 1_024)
+}
+
+/// An entry of a prepared table: the table, how many there are, and which it is.
+struct Stored<'t>(&'t [u8], usize, usize);
+
+impl<'t> Stored<'t> {
+    fn all(table: &'t [u8]) -> Vec<Stored<'t>> {
+        let entries = kit::prepared::counts(table).iter().sum();
+        let stored = |index| Stored(table, entries, index);
+        (0..entries).map(stored).collect()
+    }
+
+    fn field(&self, field: Field) -> &'t [u8] {
+        &self.0[field.of(self.1, self.2)]
+    }
+}
+
+/// Whether two of these differ in this, so that it is seen which one is taken.
+fn differ<T, U: PartialEq>(entries: &[T], by: impl Fn(&T) -> U) -> bool {
+    entries.windows(2).any(|two| by(&two[0]) != by(&two[1]))
+}
+
+/// Whether two of these clash.
+fn clashing(keys: &[Entry]) -> bool {
+    let earlier = |at: usize| keys[..at].iter().any(|key| key.clashes(&keys[at]));
+    (0..keys.len()).any(earlier)
+}
+
+/// Whether a pair exists that an entry of each table matches.
+fn both_ways(tables: &Tables) -> bool {
+    let key = |md5| tables.keys.iter().any(|key| crate::md5::overlap(key, md5));
+    tables.md5.iter().any(key)
+}
 
 /// Whether something was translated on both sides.
 fn both_sides(over: &Over) -> bool {
@@ -813,15 +1013,72 @@ impl<'a> Seen<'a> {
     fn new(call: &'a Call, way: Option<Translation>, outcome: &'a Outcome) -> Seen<'a> {
         let before = State::from_bytes(&call.state).unwrap_or(State::EMPTY);
         let accepts = call.function == Function::Judge && outcome.number() == 0;
+        let lent = Lent {
+            form: call.form,
+            keys: &call.table,
+            md5: &call.md5,
+        };
+        // Where the call came to looking at the tables, and they were not refused.
+        let refused = matches!(outcome.number(), 10..=19 | 44 | 45);
+        let tables = (!refused).then(|| lent.read().ok()).flatten();
+        let keys = tables.as_ref().map_or(&[][..], |tables| &tables.keys);
+        let accepted = || accepted(call, outcome, &before, keys);
         Seen {
             call,
             outcome,
             before,
-            accepted: accepts.then(|| accepted(call, outcome, &before)).flatten(),
-            unknown: Unknown::of(call, outcome),
-            rewritten: Over::of(call, way, outcome),
-            by_md5: ByMd5::of(call, outcome),
+            accepted: accepts.then(accepted).flatten(),
+            unknown: Unknown::of(call, outcome, keys),
+            rewritten: Over::of(call, way, outcome, keys),
+            by_md5: ByMd5::of(call, outcome, tables.as_ref()),
+            tables,
         }
+    }
+
+    /// The entries of the key table, if neither table is refused.
+    fn keys(&self) -> &[Entry<'a>] {
+        self.tables.as_ref().map_or(&[], |tables| &tables.keys)
+    }
+
+    /// Whether neither table is refused, and they have so many entries, as bytes or prepared.
+    fn sizes(&self, prepared: bool, which: impl Fn(usize, usize) -> bool) -> bool {
+        let so = |tables: &Tables| which(tables.keys.len(), tables.md5.len());
+        (self.call.form != 0) == prepared && self.tables.as_ref().is_some_and(so)
+    }
+
+    /// Whether this call was refused with 44, its tables so.
+    fn forty_four(&self, which: impl Fn(&Call) -> bool) -> bool {
+        self.outcome.number() == 44 && which(self.call)
+    }
+
+    /// Whether the tables are prepared and not refused, and so.
+    fn stored(&self, which: impl Fn(&Tables) -> bool) -> bool {
+        self.call.form != 0 && self.tables.as_ref().is_some_and(which)
+    }
+
+    /// The entries of a prepared key table that match the pair and are such.
+    fn stored_for(&self, pair: &Pair, such: impl Fn(&&Entry<'a>) -> bool) -> Vec<Entry<'a>> {
+        let prepared = self.call.form != 0;
+        let keys = self.keys().iter().filter(|_| prepared).filter(such);
+        keys.filter(|key| key.matches(pair)).copied().collect()
+    }
+
+    /// Whether two MD5 entries of a prepared table match the state's pair, with different keys.
+    fn two_md5(&self) -> bool {
+        let two = |pair: Pair| {
+            self.stored(|tables| {
+                let matching = tables.md5.iter().filter(|entry| entry.matches(&pair));
+                differ(&matching.collect::<Vec<_>>(), |entry| entry.key)
+            })
+        };
+        self.before.pair().is_some_and(two)
+    }
+
+    /// Whether a segment was judged with a prepared table of few such entries, and got this number.
+    fn judged_by(&self, number: u8, which: impl Fn(&[Stored]) -> bool) -> bool {
+        let judged = self.call.function == Judge && self.outcome.number() == number;
+        let few = judged && self.stored(|tables| tables.keys.len() + tables.md5.len() < 30);
+        few && which(&Stored::all(&self.call.table))
     }
 
     /// Whether MD5 is due, and this call gave this number, with such a segment and state.
@@ -953,9 +1210,8 @@ impl<'a> Seen<'a> {
 
     /// Whether the entry of the outgoing key is one of these.
     fn with_key(&self, which: impl Fn(&Entry) -> bool) -> bool {
-        let entries = table::read(&self.call.table).unwrap_or_default();
         let id = self.before.outgoing_send_id;
-        let found = |pair| by_send_id(&entries, &pair, id);
+        let found = |pair| by_send_id(self.keys(), &pair, id);
         self.before
             .pair()
             .and_then(found)
@@ -965,8 +1221,7 @@ impl<'a> Seen<'a> {
 
     /// Whether the entry that the state's pair has for this KeyID is one of these.
     fn state_entry(&self, key_id: u8, which: impl Fn(&Entry) -> bool) -> bool {
-        let entries = table::read(&self.call.table).unwrap_or_default();
-        let found = |pair| by_recv_id(&entries, &pair, key_id);
+        let found = |pair| by_recv_id(self.keys(), &pair, key_id);
         let entry = self.before.pair().and_then(found);
         entry.as_ref().is_some_and(which)
     }
@@ -1010,25 +1265,21 @@ fn entry_bytes(table: &[u8], index: usize) -> Option<&[u8]> {
     rest.get(..104)
 }
 
-/// How many entries a table has that is not refused.
-fn entries(table: &[u8]) -> usize {
-    table::read(table).map_or(0, |entries| entries.len())
-}
-
 /// What an accepted segment was accepted by.
-fn accepted(call: &Call, outcome: &Outcome, before: &State) -> Option<Accepted> {
+fn accepted(call: &Call, outcome: &Outcome, before: &State, entries: &[Entry]) -> Option<Accepted> {
     let header = Header::read(&call.segment)?;
     let ao = read_options(&call.segment, &header)?.ao?;
-    let entries = table::read(&call.table).ok()?;
     let pair = before.pair()?;
-    let entry = by_recv_id(&entries, &pair, ao.key_id)?;
+    let entry = by_recv_id(entries, &pair, ao.key_id)?;
     let mut with_it = entries.iter().filter(|e| e.send_id == ao.rnext_key_id);
     let asks = match with_it.clone().next() {
         None => Asked::NoEntry,
         Some(_) if with_it.any(|e| e.matches(&pair)) => Asked::ThisPair,
         Some(_) => Asked::OthersOnly,
     };
+    let same = |e: &&Entry| e.recv_id == ao.key_id && e.matches(&pair);
     Some(Accepted {
+        others: entries.iter().filter(same).count() > 1,
         position: (outcome.value() as u64) << 32 | header.sequence as u64,
         kind: entry.kind,
         mac_bytes: entry.mac_bytes,
@@ -1063,6 +1314,19 @@ impl Counts {
         }
     }
 
+    /// This call was made by bytes and prepared, and gave the same.
+    pub fn add_same_prepared(&mut self, function: Function) {
+        self.same_prepared[function as usize] += 1;
+    }
+
+    /// How often a call that takes the tables in either form gave the same.
+    fn same_prepared(&self) -> impl Iterator<Item = (Function, u64)> + '_ {
+        let functions = Function::ALL.into_iter();
+        functions
+            .filter(|function| function.takes_form())
+            .map(|function| (function, self.same_prepared[function as usize]))
+    }
+
     /// Adds another run's counts.
     pub fn join(&mut self, other: &Counts) {
         let numbers = self.numbers.iter_mut().flatten();
@@ -1070,6 +1334,9 @@ impl Counts {
             *count += more;
         }
         for (count, more) in self.situations.iter_mut().zip(other.situations) {
+            *count += more;
+        }
+        for (count, more) in self.same_prepared.iter_mut().zip(other.same_prepared) {
             *count += more;
         }
     }
@@ -1097,6 +1364,12 @@ impl Counts {
                 faults.push(format!("{name}: only {count} times"));
             }
         }
+        for (function, count) in self.same_prepared() {
+            if count < LEAST {
+                let name = function.name();
+                faults.push(format!("{name}: by bytes and prepared only {count} times"));
+            }
+        }
         faults
     }
 
@@ -1120,6 +1393,10 @@ impl Counts {
         }
         for ((name, _), count) in SITUATIONS.iter().zip(self.situations) {
             println!("{count:>9}  {name}");
+        }
+        for (function, count) in self.same_prepared() {
+            let name = function.name();
+            println!("{count:>9}  {name}, the same by bytes and prepared");
         }
     }
 }

@@ -1,8 +1,8 @@
 //! The proved archive and the reference side by side.
 //!
-//! A seed gives a list of calls ([`world`], with [`aim`], [`states`], [`tables`], [`segments`] and
-//! [`translation`]).
-//! Each is made on the archive ([`archive`]) and on the reference ([`against`]), and after each the
+//! A seed gives a list of calls ([`world`], with [`aim`], [`states`], [`tables`], [`prepared`], [`segments`]
+//! and [`translation`]). Each with its tables as bytes is made once more with them prepared, which must give
+//! the same. Each is made on the archive ([`archive`]) and on the reference ([`against`]), and after each the
 //! answer, the state, the output and what stands around them are compared ([`compare`]). Which
 //! numbers and which situations were met is counted ([`counts`], [`numbers`], [`unknown`], [`md5`]).
 //!
@@ -20,6 +20,7 @@ pub mod compare;
 pub mod counts;
 pub mod md5;
 pub mod numbers;
+pub mod prepared;
 pub mod prng;
 pub mod recordings;
 pub mod report;

@@ -3,7 +3,7 @@
 use crate::numbers::named;
 use kit::{Call, Function, Outcome};
 use reference::mac::{self, Direction, Ends};
-use reference::md5_table::{self, Lent, Md5Entry};
+use reference::md5_table::{self, Md5Entry, Tables};
 use reference::position::{extension, position};
 use reference::segment::{read_options, Header, WithAo};
 use reference::table::{self, by_recv_id, Entry, Pair};
@@ -48,17 +48,20 @@ pub struct ByMd5 {
 }
 
 impl ByMd5 {
-    pub fn of(call: &Call, outcome: &Outcome) -> ByMd5 {
+    /// With the tables, if they are not refused.
+    pub fn of(call: &Call, outcome: &Outcome, tables: Option<&Tables>) -> ByMd5 {
         let mut seen = ByMd5::default();
-        let (keys, md5) = (&call.table[..], &call.md5[..]);
+        let md5 = &call.md5[..];
         let number = named(outcome);
         match number {
             45 => seen.forty_five(call, outcome),
             10..=17 => seen.both_refused = md5_table::read(md5).is_err(),
+            // Behind 1,024 entries it would take long to say.
+            112 => {}
             110..=117 => seen.refused_behind(call, outcome.value() as usize),
             18 | 19 => {}
             _ => {
-                if let Ok(tables) = (Lent { keys, md5 }).read() {
+                if let Some(tables) = tables {
                     seen.entries = tables.md5.len();
                     seen.other_family = other_family(&tables.keys, &tables.md5);
                     seen.segment(call, &tables.keys, &tables.md5);
@@ -171,7 +174,7 @@ impl ByMd5 {
 }
 
 /// Whether a pair exists that both match.
-fn overlap(key: &Entry, md5: &Md5Entry) -> bool {
+pub fn overlap(key: &Entry, md5: &Md5Entry) -> bool {
     let same = key.local.address.len() == md5.local.address.len();
     same && key.local.overlaps(&md5.local) && key.remote.overlaps(&md5.remote)
 }

@@ -6,7 +6,7 @@ use crate::prng::Prng;
 use crate::states::number;
 use crate::tables::{self, id, matches};
 use kit::entry::table;
-use kit::recording::{entry, opening, segment, ENTRY_ROOM, SEGMENT_ROOM};
+use kit::recording::{entry, opening, segment, ENTRY_ROOM, RECORDS, SEGMENT_ROOM};
 use kit::{Entry, Function, Pair, State};
 use reference::boundary::tcpao_judge;
 
@@ -90,12 +90,37 @@ fn table_of(random: &mut Prng, keys: &[Entry]) -> Vec<u8> {
     match random.below(20) {
         0..=2 => tables::spoilt(random, keys),
         3 => too_long(random),
+        4 => filled(random, keys),
         _ => table(keys),
     }
 }
 
-/// As many entries of the longest kind as there may be, or one more, or many; perhaps with a bad one among them, or
-/// the last one cut.
+/// The table filled up with entries for other peers: to 64, with which all goes on as it was, or to more, which the
+/// calls would take and the desk refuses.
+fn filled(random: &mut Prng, keys: &[Entry]) -> Vec<u8> {
+    let mut keys = keys.to_vec();
+    let most = random.pick(&[64, 64, 64, 65, 65, 66, 1_024]);
+    tables::fill_keys(random, &mut keys, most);
+    table(&keys)
+}
+
+/// How many entries the table has that stands before a recording's opening, by the limit that the calls have; nothing if
+/// they would refuse it, or nothing opens.
+pub fn table_entries(recording: &[u8]) -> Option<usize> {
+    let mut bytes = vec![];
+    let mut rest = recording;
+    while *rest.first()? == 1 {
+        let (record, behind) = rest.split_at_checked(RECORDS[0])?;
+        bytes.extend_from_slice(record[2..].get(..record[1].into())?);
+        rest = behind;
+    }
+    let opens = rest[0] == 2 && rest.len() >= RECORDS[1];
+    let entries = opens.then(|| reference::table::read(&bytes).ok());
+    Some(entries??.len())
+}
+
+/// As many entries of the longest kind as the desk takes, 64, or one more, or many, which the calls would take (Ticket
+/// 8); perhaps with a bad one among them, or the last one cut.
 fn too_long(random: &mut Prng) -> Vec<u8> {
     let sides = kit::Side::any(16);
     let count = random.pick(&[63, 64, 65, 65, 65, 66, 70, 128]);
@@ -152,6 +177,7 @@ fn arrivals(random: &mut Prng, keys: &[Entry], state: State) -> Vec<Vec<u8>> {
         call.segment.truncate(SEGMENT_ROOM);
         let pair = State::read(&state).unwrap().pair();
         tcpao_judge(
+            0,
             &bytes,
             &[],
             &pair.remote,

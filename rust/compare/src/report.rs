@@ -6,24 +6,33 @@ use kit::{Call, Function, Outcome};
 /// A difference, with what is needed to make it again.
 pub fn difference(difference: &Difference) -> String {
     let Difference {
+        forms,
         seed,
         index,
         call,
         archive,
         reference,
     } = difference;
+    let (one, other) = match forms {
+        false => ("archive", "reference"),
+        true => ("prepared", "by bytes"),
+    };
     format!(
         "call {index} of seed {seed} differs\n{}{}{}  again, in full: cargo run --offline --release \
          --package compare -- --seed {seed} --upto {index}\n",
         lines(call, 48),
-        outcome("archive", call, archive, Some(reference), 48),
-        outcome("reference", call, reference, Some(archive), 48),
+        outcome(one, call, archive, Some(reference), 48),
+        outcome(other, call, reference, Some(archive), 48),
     )
 }
 
 /// A call, each part cut behind so many bytes.
 pub fn lines(call: &Call, most: usize) -> String {
-    let mut text = format!("  {}\n", call.function.c_name());
+    let form = match (call.function.takes_form(), call.form) {
+        (false, _) | (_, 0) => String::new(),
+        (_, form) => format!(", form {form}: prepared tables"),
+    };
+    let mut text = format!("  {}{form}\n", call.function.c_name());
     let (source, destination) = match call.function {
         Function::OpenActive | Function::OpenActiveMd5 => ("local", "remote"),
         _ => ("source", "destination"),
@@ -57,7 +66,7 @@ pub fn lines(call: &Call, most: usize) -> String {
         }
         Function::JudgeSyn => format!("  setting {byte}\n"),
         Function::OpenPassive => format!("  isn {isn}, setting {byte}\n"),
-        Function::Sign => format!("  output of {} bytes\n", call.out.len()),
+        Function::Sign | Function::Prepare => format!("  output of {} bytes\n", call.out.len()),
         Function::Ask => format!("  recv_id {byte}\n"),
         Function::CheckTable | Function::Judge => String::new(),
     };

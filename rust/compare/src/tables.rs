@@ -2,7 +2,7 @@
 
 use crate::prng::Prng;
 use crate::translation::{Rewritten, Translation};
-use kit::entry::table;
+use kit::entry::{covered, table};
 use kit::{Entry, Pair, Side};
 use reference::md5_table::{self, Lent};
 
@@ -133,9 +133,9 @@ fn masked(address: &[u8], prefix: u8) -> Vec<u8> {
 }
 
 fn put_first_bits(to: &mut [u8], from: &[u8], count: u8) {
-    for bit in 0..count as usize {
-        let mask = 0x80 >> (bit % 8);
-        to[bit / 8] = to[bit / 8] & !mask | from[bit / 8] & mask;
+    for (at, (byte, new)) in to.iter_mut().zip(from).enumerate() {
+        let covered = covered(count.into(), at);
+        *byte = *byte & !covered | new & covered;
     }
 }
 
@@ -339,7 +339,7 @@ fn full_md5(random: &mut Prng, pair: &Pair) -> Vec<Entry> {
 /// Whether a pair exists that a key entry and an MD5 entry both match.
 fn overlap(key: &Entry, md5: &Entry) -> bool {
     let (keys, md5) = (&key.bytes()[..], &md5.bytes()[..]);
-    let refused = Lent { keys, md5 }.read().err();
+    let refused = Lent::of_bytes(keys, md5).read().err();
     refused.is_some_and(|refusal| refusal.number == 45)
 }
 
@@ -384,7 +384,7 @@ pub fn overlapping(random: &mut Prng, keys: &mut Vec<Entry>, md5: &mut Vec<Entry
         };
         let entry = md5_of(random, &sides);
         md5.retain(|other| md5_table::read(&table(&[other.clone(), entry.clone()])).is_ok());
-        if md5.len() < 64 {
+        if md5.len() < 1_024 {
             md5.insert(random.below(md5.len() + 1), entry);
         }
     }
@@ -483,7 +483,7 @@ pub fn spoilt(random: &mut Prng, keys: &[Entry]) -> Vec<u8> {
     }
     for _ in 0..random.pick(&[1, 1, 1, 2, 3]) {
         match random.below(8) {
-            0 => too_many(random, &mut entries),
+            0 if random.one_in(2) => too_many(random, &mut entries),
             1 if !keys.is_empty() => {
                 let which = random.below(keys.len());
                 let relative = relative(random, &keys[which]);
@@ -501,20 +501,97 @@ pub fn spoilt(random: &mut Prng, keys: &[Entry]) -> Vec<u8> {
     entries.concat()
 }
 
+/// Fills up one of the tables, or both, to 1,024 entries: the new ones are for other peers, and stand before the
+/// old ones, behind them or among them.
+pub fn fill(random: &mut Prng, keys: &mut Vec<Entry>, md5: &mut Vec<Entry>) {
+    let which = random.pick(&[1, 1, 2, 3, 3]);
+    if which & 1 != 0 {
+        fill_keys(random, keys, 1_024);
+    }
+    if which & 2 != 0 {
+        let sides = any(random);
+        let sides = md5_of(random, &sides);
+        put_among(random, md5, 1_024, |i| other_peer(&sides, i));
+    }
+    if random.one_in(2) {
+        clash_far_apart(random, keys, md5);
+    }
+}
+
+/// In full tables: an entry near the end has what one has that stands anywhere before it, or an MD5 entry the sides of a
+/// key: 17 or 45.
+fn clash_far_apart(random: &mut Prng, keys: &mut [Entry], md5: &mut Vec<Entry>) {
+    let last = 1_023 - random.below(40);
+    let (early, any) = (random.below(40), random.below(last));
+    let before = random.pick(&[early, any]);
+    match (keys.len(), md5.len()) {
+        (1_024, _) if random.one_in(2) => keys[last] = keys[before].clone(),
+        (_, 1_024) if random.one_in(2) => md5[last] = md5[before].clone(),
+        (1_024, _) => {
+            md5.truncate(1_023);
+            md5.push(md5_of(random, &keys[last]));
+        }
+        (some @ 1.., 1_024) => md5[last] = md5_of(random, &keys[before % some]),
+        _ => {}
+    }
+}
+
+/// Fills up a key table to so many entries, likewise; one that has every ID stays as it is.
+pub fn fill_keys(random: &mut Prng, keys: &mut Vec<Entry>, most: usize) {
+    let used = |id: u8| {
+        keys.iter()
+            .any(|key| key.send_id == id || key.recv_id == id)
+    };
+    let ids: Vec<u8> = (0..=255).filter(|id| !used(*id)).collect();
+    if ids.is_empty() {
+        return;
+    }
+    let sides = any(random);
+    let entry = |i: usize| other_peer(&sides, i).ids(ids[i % ids.len()], ids[i % ids.len()]);
+    put_among(random, keys, most, entry);
+}
+
+/// This entry for a peer of its own, at a port of its own: with a thousand of them most are told apart by that, so that
+/// checking them does not take too long.
+fn other_peer(entry: &Entry, i: usize) -> Entry {
+    let (mut remote, port) = (vec![0xee; entry.remote.address.len()], i as u16);
+    remote[1..3].copy_from_slice(&port.to_be_bytes());
+    Entry {
+        local: entry.local.clone().ports(port, port),
+        remote: Side::host(&remote),
+        ..entry.clone()
+    }
+}
+
+fn put_among(
+    random: &mut Prng,
+    entries: &mut Vec<Entry>,
+    most: usize,
+    entry: impl Fn(usize) -> Entry,
+) {
+    let missing = most - entries.len().min(most);
+    let before = random.below(missing + 1);
+    let before = random.pick(&[0, missing, before]);
+    let mut all: Vec<Entry> = (0..before).map(&entry).collect();
+    all.append(entries);
+    all.extend((before..missing).map(&entry));
+    *entries = all;
+}
+
 /// An MD5 table with one or a few of the faults that 10 to 17 refuse, at any entries.
 pub fn spoilt_md5(random: &mut Prng, md5: &[Entry]) -> Vec<u8> {
     let mut md5 = md5.to_vec();
+    let sides = any(random);
+    let sides = md5_of(random, &sides);
     if md5.is_empty() {
-        let sides = any(random);
-        md5.push(md5_of(random, &sides));
+        md5.push(sides.clone());
     }
     let mut entries: Vec<Vec<u8>> = md5.iter().map(Entry::bytes).collect();
     for _ in 0..random.pick(&[1, 1, 1, 2, 3]) {
         match random.below(8) {
-            0 => {
-                let pair = pair(random);
-                let full = full_md5(random, &pair);
-                entries = full.iter().map(Entry::bytes).collect();
+            0 if !random.one_in(3) => {
+                put_among(random, &mut md5, 1_024, |i| other_peer(&sides, i));
+                entries = md5.iter().map(Entry::bytes).collect();
                 entries.push(begun(random));
             }
             1..=2 => {
@@ -546,7 +623,7 @@ fn spoil_md5_entry(random: &mut Prng, entry: &mut [u8]) {
     if entry.len() < 104 {
         return;
     }
-    match random.below(8) {
+    match random.below(14) {
         0 => entry[0] = random.pick(&[0, 3, 5, 7, 8, 19, 255]),
         1 => entry[1] = random.pick(&[1, 2, 4, 7, 8, 255]),
         2 => entry[2] = random.pick(&[0, 1, 2, 3, 18, 20, 255]),
@@ -555,7 +632,7 @@ fn spoil_md5_entry(random: &mut Prng, entry: &mut [u8]) {
     }
 }
 
-/// The beginning of a 65th entry, whatever it is.
+/// The beginning of a 1,025th entry, whatever it is.
 fn begun(random: &mut Prng) -> Vec<u8> {
     let length = random.pick(&[1, 1, 20, 104, 105, 128, 129]);
     let mut behind = random.bytes(length);
@@ -563,13 +640,15 @@ fn begun(random: &mut Prng) -> Vec<u8> {
     behind
 }
 
-/// 64 entries whose IDs all differ, and something behind them: 12, whatever it is.
+/// 1,024 entries, of which those that share IDs are for different peers, and something behind them: 12,
+/// whatever it is.
 fn too_many(random: &mut Prng, entries: &mut Vec<Vec<u8>>) {
     let mut key = any(random);
-    *entries = (0..64)
+    *entries = (0..1_024_u16)
         .map(|index| {
-            (key.send_id, key.recv_id) = (index, 64 + index);
-            key.bytes()
+            let [peer, id] = index.to_be_bytes();
+            (key.send_id, key.recv_id) = (id, id ^ 1);
+            other_peer(&key, peer.into()).bytes()
         })
         .collect();
     entries.push(begun(random));
@@ -625,8 +704,8 @@ fn spoil_sides_or_key(random: &mut Prng, entry: &mut [u8]) {
     };
     let key_length = 15 + 2 * address + said;
     let prefixes = [13 + address, 14 + 2 * address];
-    match random.below(6) {
-        0 => {
+    match random.below(7) {
+        0..=1 => {
             // Low just above high, or well above it.
             let at = random.pick(&[5, 9]);
             let low = 1 + random.half() / 2;
@@ -634,11 +713,11 @@ fn spoil_sides_or_key(random: &mut Prng, entry: &mut [u8]) {
             entry[at..at + 2].copy_from_slice(&low.to_be_bytes());
             entry[at + 2..at + 4].copy_from_slice(&high.to_be_bytes());
         }
-        1 => {
+        2 => {
             let at = random.pick(&prefixes);
             entry[at] = 8 * address as u8 + random.pick(&[1, 2, 8, 96]);
         }
-        2 => {
+        3 => {
             // A bit behind the prefix: the first, the last or any.
             let at = random.pick(&prefixes);
             let bits = 8 * address;
@@ -648,8 +727,8 @@ fn spoil_sides_or_key(random: &mut Prng, entry: &mut [u8]) {
             let bit = random.pick(&[used, bits - 1, any]);
             entry[at - address + bit / 8] |= 0x80 >> (bit % 8);
         }
-        3 => entry[key_length] = random.pick(&[0, 81, 255]),
-        4 => entry[key_length] = random.pick(&[1, 80, entry[key_length].saturating_sub(1)]),
+        4 => entry[key_length] = random.pick(&[0, 81, 255]),
+        5 => entry[key_length] = random.pick(&[1, 80, entry[key_length].saturating_sub(1)]),
         _ => {
             let behind = key_length + 1 + (entry[key_length] as usize).min(79);
             let last = entry.len() - 1;

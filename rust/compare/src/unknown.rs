@@ -2,7 +2,7 @@
 
 use kit::{Call, Function, Outcome};
 use reference::segment::{read_options, Header};
-use reference::table::{self, Entry, Pair, Side};
+use reference::table::{Entry, Pair, Side};
 
 pub struct Unknown {
     /// Judged without a state, or a passive opening.
@@ -29,7 +29,7 @@ pub enum Matched {
 
 impl Unknown {
     /// Of a call that passed the SYN or dropped it with 26.
-    pub fn of(call: &Call, outcome: &Outcome) -> Option<Unknown> {
+    pub fn of(call: &Call, outcome: &Outcome, keys: &[Entry]) -> Option<Unknown> {
         let listens = matches!(call.function, Function::JudgeSyn | Function::OpenPassive);
         if !listens || !matches!(outcome.number(), 1 | 26) {
             return None;
@@ -42,7 +42,7 @@ impl Unknown {
             local_port: header.destination_port,
             remote_port: header.source_port,
         };
-        let mut entries = table::read(&call.table).ok()?;
+        let mut entries = keys.to_vec();
         entries.retain(|entry| entry.matches(&pair));
         let off = |step: u8| move |entry: &Entry| entry.recv_id == ao.key_id.wrapping_add(step);
         Some(Unknown {

@@ -177,7 +177,7 @@ impl World {
             self.ends.swap(0, 1);
         }
         let [me, peer] = &mut self.ends;
-        match random.below(25) {
+        match random.below(26) {
             0..=3 => {
                 if let Some(segment) = me.sign(random, caller)? {
                     me.sent.push(segment);
@@ -191,6 +191,7 @@ impl World {
             20..=21 => me.open_active(random, caller)?,
             22 => me.check_table(random, caller)?,
             23 => me.open_active_md5(random, caller)?,
+            24 => me.prepare(random, caller)?,
             _ => self.happen(random),
         }
         Ok(())
@@ -387,6 +388,13 @@ impl End {
         let aim = Aim::at(random, Function::OpenActiveMd5);
         let isn = number(random);
         let call = aim::open_active_md5(random, &self.at(&self.state), &self.pair, isn, &aim);
+        caller.call(&call)?;
+        Ok(())
+    }
+
+    fn prepare(&mut self, random: &mut Prng, caller: &mut dyn Caller) -> Result<(), Stop> {
+        let aim = Aim::at(random, Function::Prepare);
+        let call = aim::prepare(random, &self.at(&self.state), &aim);
         caller.call(&call)?;
         Ok(())
     }

@@ -4,11 +4,16 @@
 //! Where target/bin/desk is not there, nothing is compared with it, and the test says so; in the gate that is a failure.
 
 use compare::prng::Prng;
-use compare::recordings::{recording, COUNT, SEED};
+use compare::recordings::{recording, table_entries, COUNT, SEED};
 use kit::program::{desk, printed, printed_of};
 use kit::{calls_of, Boundary};
 use std::collections::BTreeMap;
 use std::path::Path;
+
+/// Document 02, Ticket 8: "Ticket 1's program stays at 64 entries".
+const SIXTY_FOUR: &str = "64 entries, and a line for a segment";
+const SIXTY_FIVE: &str = "65 entries that the calls would take, and 12";
+const MORE: &str = "more entries that the calls would take, and 12";
 
 /// What a line is: a verdict's number, 38 with an index, or a number alone.
 fn kind(line: &str) -> String {
@@ -35,6 +40,16 @@ fn the_program_prints_what_the_reference_does() {
         if expected.lines().all(|line| kind(line).starts_with("line")) {
             *met.entry("no last line".to_string()).or_default() += 1;
         }
+        let first = expected.lines().next().map(kind);
+        let by_entries = match table_entries(&bytes) {
+            Some(64) if first.is_some_and(|kind| kind.starts_with("line")) => Some(SIXTY_FOUR),
+            Some(65) if expected == "12\n" => Some(SIXTY_FIVE),
+            Some(66..) if expected == "12\n" => Some(MORE),
+            _ => None,
+        };
+        by_entries
+            .into_iter()
+            .for_each(|name| *met.entry(name.to_string()).or_default() += 1);
         let piece = random.pick(&[1 << 16, 1_601, 997, 1 << 20]);
         let Some(program) = &program else { continue };
         let by_program = if index % 2 == 0 {
@@ -59,7 +74,9 @@ fn the_program_prints_what_the_reference_does() {
     let lines =
         [0, 20, 21, 22, 23, 24, 25, 26, 27, 28, 29, 40].map(|number| format!("line {number}"));
     let last = [10, 11, 12, 13, 14, 15, 16, 17, 18, 35].map(|number| format!("last line {number}"));
-    let others = ["last line 38 and an index", "no last line"].map(String::from);
+    let others = ["last line 38 and an index", "no last line"];
+    let others = [&others[..], &[SIXTY_FOUR, SIXTY_FIVE, MORE]].concat();
+    let others: Vec<String> = others.into_iter().map(String::from).collect();
     for kind in lines.iter().chain(&last).chain(&others) {
         assert!(met.contains_key(kind), "never met: {kind}");
     }

@@ -139,7 +139,7 @@ refusals! {
     table {
         10 EntryCut "the entry is cut off before its end"
         11 UnknownKind "the entry's kind is none of 4, 5 (IPv4), 6 and 7 (IPv6); in the MD5 table, neither 4 nor 6"
-        12 TooManyEntries "a 65th entry begins"
+        12 TooManyEntries "a 1,025th entry begins"
         13 NotListed "the entry's flags or algorithm are not listed, or its MAC's length is not 4 to 16; in the MD5 table, an ID is not 0"
         14 PortRange "a low port is above its high port"
         15 Prefix "a prefix length is above 32 (IPv4) or 128 (IPv6), or address bits are set past it"
@@ -167,8 +167,9 @@ refusals! {
         34 SignStage "signing: the segment is the wrong one for the connection's stage"
         35 NoEntry "no matching entry has the outgoing SendID (opening, signing) or the RecvID to ask; by TCP MD5, none matches, or asking"
         36 SignPosition "signing: the sequence number has no position, or a SYN's (bare or with ACK) is not our ISN"
-        37 OutputTooShort "signing: the output is too short"
+        37 OutputTooShort "signing, preparing: the output is too short"
         40 Checksum "the segment's checksum is wrong"
+        44 Prepared "the prepared table's length is not that of its counts, a count is above 1,024, or a second table stands beside it"
         46 WrongWay "TCP MD5 is due, and the segment has TCP-AO"
         47 Md5Missing "TCP MD5 is due, and the segment has neither that nor TCP-AO"
     }
@@ -237,7 +238,7 @@ mod tests {
     #[test]
     fn every_number() {
         let mut meanings = Vec::new();
-        for number in (10..=37).chain([40, 45, 46, 47]) {
+        for number in (10..=37).chain([40, 44, 45, 46, 47]) {
             let of_table = number <= 17 || number == 45;
             for (table, place) in [
                 (Table::Keys, " at entry 3"),
@@ -261,7 +262,7 @@ mod tests {
             let readme = include_str!("../../../README.md");
             assert!(readme.contains(&format!("\n| {number} | {meaning} |\n")));
         }
-        for number in (2..10).chain(38..40).chain(41..45).chain(48..=255) {
+        for number in (2..10).chain(38..40).chain(41..44).chain(48..=255) {
             let refusal = Refusal::new(number, Table::Keys, 3);
             assert_eq!(refusal, Refusal::Other(number));
             assert_eq!(refusal.number(), number);

@@ -124,6 +124,7 @@ pub fn judge_syn<'a>(
 ) -> Verdict {
     let tables = tables.into();
     Answer(raw::judge_syn(
+        tables.form,
         tables.keys,
         tables.md5,
         Octets::of(source.into()).as_slice(),
@@ -230,6 +231,7 @@ impl Connection {
         let (local, remote) = (local.into(), remote.into());
         let mut bytes = [0; Connection::BYTES];
         Answer(raw::open_active(
+            tables.form,
             tables.keys,
             tables.md5,
             Octets::of(local.ip()).as_slice(),
@@ -278,6 +280,7 @@ impl Connection {
         let (local, remote) = (local.into(), remote.into());
         let mut bytes = [0; Connection::BYTES];
         Answer(raw::open_active_md5(
+            tables.form,
             tables.keys,
             tables.md5,
             Octets::of(local.ip()).as_slice(),
@@ -307,6 +310,7 @@ impl Connection {
         let tables = tables.into();
         let mut bytes = [0; Connection::BYTES];
         let answer = Answer(raw::open_passive(
+            tables.form,
             tables.keys,
             tables.md5,
             Octets::of(source.into()).as_slice(),
@@ -345,6 +349,7 @@ impl Connection {
     ) -> Verdict {
         let tables = tables.into();
         Answer(raw::judge(
+            tables.form,
             tables.keys,
             tables.md5,
             Octets::of(source.into()).as_slice(),
@@ -394,16 +399,16 @@ impl Connection {
         segment: &[u8],
         out: &mut [u8],
     ) -> Result<usize, Refusal> {
-        let Tables { keys, md5 } = tables.into();
-        let answer = Answer(raw::sign(keys, md5, segment, out, &mut self.bytes));
+        let Tables { form, keys, md5 } = tables.into();
+        let answer = Answer(raw::sign(form, keys, md5, segment, out, &mut self.bytes));
         Ok(answer.done()? as usize)
     }
 
     /// Asks the peer, in what is signed from now on, to sign under the entry with this RecvID; also
     /// while opening. Refused with 35 if no entry that matches has it, and always by TCP MD5.
     pub fn ask<'a>(&mut self, tables: impl Into<Tables<'a>>, recv_id: u8) -> Result<(), Refusal> {
-        let Tables { keys, md5 } = tables.into();
-        Answer(raw::ask(keys, md5, recv_id, &mut self.bytes)).done()?;
+        let Tables { form, keys, md5 } = tables.into();
+        Answer(raw::ask(form, keys, md5, recv_id, &mut self.bytes)).done()?;
         Ok(())
     }
 

@@ -7,7 +7,8 @@
 //! [`EntryBuilder::build`] and [`Md5EntryBuilder::build`] on addresses of two families,
 //! [`Connection::from_bytes`] on 18.
 //!
-//! A [`KeyTable`] is made of [`Entry`]s, an [`Md5Table`] of [`Md5Entry`]s; [`Tables`] are both. A
+//! A [`KeyTable`] is made of [`Entry`]s, an [`Md5Table`] of [`Md5Entry`]s; [`Tables`] are both, and
+//! [`PreparedTables`] both prepared, for calls that need not check them again. A
 //! [`Connection`] is opened, judges what arrives and signs what leaves. What a segment gets is a
 //! [`Verdict`]; what goes wrong is a [`Refusal`], with the number of document 01 or 02. No call panics,
 //! whatever it is given, but where memory runs out.
@@ -36,4 +37,4 @@ mod table;
 pub use answer::{Refusal, Table, Verdict};
 pub use connection::{judge_syn, Connection, UnknownKeyId, Way};
 pub use md5::{Md5Entry, Md5EntryBuilder, Md5Table};
-pub use table::{Algorithm, Covered, Entry, EntryBuilder, KeyTable, Tables};
+pub use table::{Algorithm, Covered, Entry, EntryBuilder, KeyTable, PreparedTables, Tables};

@@ -2,7 +2,7 @@
 
 use crate::answer::{Answer, Refusal};
 use crate::raw;
-use crate::table::{entry_bytes, Side};
+use crate::table::{entries, entry_bytes, Side, BYTES};
 use std::fmt;
 use std::net::{IpAddr, Ipv4Addr, Ipv6Addr};
 use std::ops::RangeInclusive;
@@ -34,7 +34,7 @@ pub struct Md5Table {
 }
 
 impl Md5Table {
-    /// A table of these entries, in this order. None is allowed: such a table matches no connection.
+    /// A table of these entries, at most 1,024, in this order. None is allowed: such a table matches no connection.
     pub fn new<'a>(entries: impl IntoIterator<Item = &'a Md5Entry>) -> Result<Md5Table, Refusal> {
         let mut bytes = Vec::new();
         for entry in entries {
@@ -47,7 +47,7 @@ impl Md5Table {
     /// 0. A key table is refused with 13, or 11.
     pub fn from_bytes(bytes: impl Into<Vec<u8>>) -> Result<Md5Table, Refusal> {
         let bytes = bytes.into();
-        Answer(raw::check_table(&[], &bytes)).done()?;
+        Answer(raw::check_table(BYTES, &[], &bytes)).done()?;
         let len = entries(&bytes);
         Ok(Md5Table { bytes, len })
     }
@@ -66,17 +66,6 @@ impl Md5Table {
     pub fn is_empty(&self) -> bool {
         self.len == 0
     }
-}
-
-/// How many entries a table has that is not refused: those of kind 4 have 104 bytes, those of kind 6 128.
-fn entries(table: &[u8]) -> usize {
-    let (mut rest, mut count) = (table, 0);
-    while let Some(kind) = rest.first() {
-        let bytes = if *kind == 4 { 104 } else { 128 };
-        rest = rest.get(bytes..).unwrap_or_default();
-        count += 1;
-    }
-    count
 }
 
 /// Shows no key.
@@ -192,7 +181,7 @@ impl Md5EntryBuilder {
             return Err(Refusal::AddressSizes);
         }
         let bytes = self.bytes();
-        Answer(raw::check_table(&[], &bytes)).done()?;
+        Answer(raw::check_table(BYTES, &[], &bytes)).done()?;
         Ok(Md5Entry { bytes })
     }
 

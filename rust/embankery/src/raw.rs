@@ -10,12 +10,22 @@
 pub mod c {
     extern "C" {
         pub fn tcpao_check_table(
+            form: u8,
             keys: *const u8,
             keys_len: usize,
             md5: *const u8,
             md5_len: usize,
         ) -> u64;
+        pub fn tcpao_prepare(
+            keys: *const u8,
+            keys_len: usize,
+            md5: *const u8,
+            md5_len: usize,
+            out: *mut u8,
+            out_len: usize,
+        ) -> u64;
         pub fn tcpao_open_active(
+            form: u8,
             keys: *const u8,
             keys_len: usize,
             md5: *const u8,
@@ -32,6 +42,7 @@ pub mod c {
             state_len: usize,
         ) -> u64;
         pub fn tcpmd5_open_active(
+            form: u8,
             keys: *const u8,
             keys_len: usize,
             md5: *const u8,
@@ -47,6 +58,7 @@ pub mod c {
             state_len: usize,
         ) -> u64;
         pub fn tcpao_judge_syn(
+            form: u8,
             keys: *const u8,
             keys_len: usize,
             md5: *const u8,
@@ -60,6 +72,7 @@ pub mod c {
             setting: u8,
         ) -> u64;
         pub fn tcpao_open_passive(
+            form: u8,
             keys: *const u8,
             keys_len: usize,
             md5: *const u8,
@@ -76,6 +89,7 @@ pub mod c {
             state_len: usize,
         ) -> u64;
         pub fn tcpao_judge(
+            form: u8,
             keys: *const u8,
             keys_len: usize,
             md5: *const u8,
@@ -90,6 +104,7 @@ pub mod c {
             state_len: usize,
         ) -> u64;
         pub fn tcpao_sign(
+            form: u8,
             keys: *const u8,
             keys_len: usize,
             md5: *const u8,
@@ -102,6 +117,7 @@ pub mod c {
             state_len: usize,
         ) -> u64;
         pub fn tcpao_ask(
+            form: u8,
             keys: *const u8,
             keys_len: usize,
             md5: *const u8,
@@ -159,13 +175,28 @@ pub mod c {
     }
 }
 
-pub fn check_table(keys: &[u8], md5: &[u8]) -> u64 {
+pub fn check_table(form: u8, keys: &[u8], md5: &[u8]) -> u64 {
     // SAFETY: each pointer stands beside its own slice's length; nothing is written.
-    unsafe { c::tcpao_check_table(keys.as_ptr(), keys.len(), md5.as_ptr(), md5.len()) }
+    unsafe { c::tcpao_check_table(form, keys.as_ptr(), keys.len(), md5.as_ptr(), md5.len()) }
+}
+
+pub fn prepare(keys: &[u8], md5: &[u8], out: &mut [u8]) -> u64 {
+    // SAFETY: each pointer stands beside its own slice's length; only `out` is written.
+    unsafe {
+        c::tcpao_prepare(
+            keys.as_ptr(),
+            keys.len(),
+            md5.as_ptr(),
+            md5.len(),
+            out.as_mut_ptr(),
+            out.len(),
+        )
+    }
 }
 
 #[allow(clippy::too_many_arguments)] // the boundary's own arguments
 pub fn open_active(
+    form: u8,
     keys: &[u8],
     md5: &[u8],
     local: &[u8],
@@ -180,6 +211,7 @@ pub fn open_active(
     // call alone, is written.
     unsafe {
         c::tcpao_open_active(
+            form,
             keys.as_ptr(),
             keys.len(),
             md5.as_ptr(),
@@ -200,6 +232,7 @@ pub fn open_active(
 
 #[allow(clippy::too_many_arguments)] // the boundary's own arguments
 pub fn open_active_md5(
+    form: u8,
     keys: &[u8],
     md5: &[u8],
     local: &[u8],
@@ -213,6 +246,7 @@ pub fn open_active_md5(
     // call alone, is written.
     unsafe {
         c::tcpmd5_open_active(
+            form,
             keys.as_ptr(),
             keys.len(),
             md5.as_ptr(),
@@ -231,6 +265,7 @@ pub fn open_active_md5(
 }
 
 pub fn judge_syn(
+    form: u8,
     keys: &[u8],
     md5: &[u8],
     source: &[u8],
@@ -241,6 +276,7 @@ pub fn judge_syn(
     // SAFETY: each pointer stands beside its own slice's length; nothing is written.
     unsafe {
         c::tcpao_judge_syn(
+            form,
             keys.as_ptr(),
             keys.len(),
             md5.as_ptr(),
@@ -258,6 +294,7 @@ pub fn judge_syn(
 
 #[allow(clippy::too_many_arguments)] // the boundary's own arguments
 pub fn open_passive(
+    form: u8,
     keys: &[u8],
     md5: &[u8],
     source: &[u8],
@@ -271,6 +308,7 @@ pub fn open_passive(
     // call alone, is written.
     unsafe {
         c::tcpao_open_passive(
+            form,
             keys.as_ptr(),
             keys.len(),
             md5.as_ptr(),
@@ -290,6 +328,7 @@ pub fn open_passive(
 }
 
 pub fn judge(
+    form: u8,
     keys: &[u8],
     md5: &[u8],
     source: &[u8],
@@ -301,6 +340,7 @@ pub fn judge(
     // call alone, is written.
     unsafe {
         c::tcpao_judge(
+            form,
             keys.as_ptr(),
             keys.len(),
             md5.as_ptr(),
@@ -317,11 +357,19 @@ pub fn judge(
     }
 }
 
-pub fn sign(keys: &[u8], md5: &[u8], segment: &[u8], out: &mut [u8], state: &mut [u8]) -> u64 {
+pub fn sign(
+    form: u8,
+    keys: &[u8],
+    md5: &[u8],
+    segment: &[u8],
+    out: &mut [u8],
+    state: &mut [u8],
+) -> u64 {
     // SAFETY: each pointer stands beside its own slice's length; only `out` and `state` are
     // written, two borrows that overlap neither each other nor the rest.
     unsafe {
         c::tcpao_sign(
+            form,
             keys.as_ptr(),
             keys.len(),
             md5.as_ptr(),
@@ -336,11 +384,12 @@ pub fn sign(keys: &[u8], md5: &[u8], segment: &[u8], out: &mut [u8], state: &mut
     }
 }
 
-pub fn ask(keys: &[u8], md5: &[u8], recv_id: u8, state: &mut [u8]) -> u64 {
+pub fn ask(form: u8, keys: &[u8], md5: &[u8], recv_id: u8, state: &mut [u8]) -> u64 {
     // SAFETY: each pointer stands beside its own slice's length; only `state`, borrowed for this
     // call alone, is written.
     unsafe {
         c::tcpao_ask(
+            form,
             keys.as_ptr(),
             keys.len(),
             md5.as_ptr(),

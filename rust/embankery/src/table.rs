@@ -7,6 +7,10 @@ use std::fmt;
 use std::net::{IpAddr, Ipv4Addr, Ipv6Addr};
 use std::ops::RangeInclusive;
 
+/// The forms of tables that the archive takes: their own bytes, and prepared.
+pub(crate) const BYTES: u8 = 0;
+const PREPARED: u8 = 1;
+
 /// A key table that the archive has checked: none of 10 to 17 applies to it.
 ///
 /// ```
@@ -29,7 +33,7 @@ pub struct KeyTable {
 }
 
 impl KeyTable {
-    /// A table of these entries, in this order. None is allowed: such a table matches no connection.
+    /// A table of these entries, at most 1,024, in this order. None is allowed: such a table matches no connection.
     pub fn new<'a>(entries: impl IntoIterator<Item = &'a Entry>) -> Result<KeyTable, Refusal> {
         let mut bytes = Vec::new();
         for entry in entries {
@@ -51,7 +55,7 @@ impl KeyTable {
     /// ```
     pub fn from_bytes(bytes: impl Into<Vec<u8>>) -> Result<KeyTable, Refusal> {
         let bytes = bytes.into();
-        let len = Answer(raw::check_table(&bytes, &[])).done()? as usize;
+        let len = Answer(raw::check_table(BYTES, &bytes, &[])).done()? as usize;
         Ok(KeyTable { bytes, len })
     }
 
@@ -81,7 +85,10 @@ impl fmt::Debug for KeyTable {
 }
 
 /// Both tables, as every call on a connection takes them. A `&KeyTable` or a `&Md5Table` stands for one without
-/// the other.
+/// the other, a `&PreparedTables` for both.
+///
+/// Every call checks the tables anew, which takes long where they have many entries:
+/// [`prepared`](Tables::prepared) does that once.
 ///
 /// A pair goes by the table that has an entry for it: by TCP-AO or by TCP MD5, never by both.
 ///
@@ -101,6 +108,8 @@ impl fmt::Debug for KeyTable {
 /// ```
 #[derive(Clone, Copy)]
 pub struct Tables<'a> {
+    /// 0: the tables' own bytes; else `keys` is a prepared table, and `md5` empty.
+    pub(crate) form: u8,
     pub(crate) keys: &'a [u8],
     pub(crate) md5: &'a [u8],
 }
@@ -109,26 +118,160 @@ impl<'a> Tables<'a> {
     /// Both tables. Refused with 45 if a socket pair exists that an entry of each matches.
     pub fn new(keys: &'a KeyTable, md5: &'a Md5Table) -> Result<Tables<'a>, Refusal> {
         let (keys, md5) = (keys.as_bytes(), md5.as_bytes());
-        Answer(raw::check_table(keys, md5)).done()?;
-        Ok(Tables { keys, md5 })
+        Answer(raw::check_table(BYTES, keys, md5)).done()?;
+        Ok(Tables::of_bytes(keys, md5))
+    }
+
+    fn of_bytes(keys: &'a [u8], md5: &'a [u8]) -> Tables<'a> {
+        Tables {
+            form: BYTES,
+            keys,
+            md5,
+        }
+    }
+
+    /// The tables prepared, so that the calls need not check them again. The archive checks them once more for
+    /// it; what was checked here before is not refused.
+    pub fn prepared(self) -> Result<PreparedTables, Refusal> {
+        if self.form != BYTES {
+            return PreparedTables::from_bytes(self.keys);
+        }
+        let room = PreparedTables::length(entries(self.keys) + entries(self.md5));
+        let mut bytes = vec![0; room];
+        let length = Answer(raw::prepare(self.keys, self.md5, &mut bytes)).done()?;
+        bytes.truncate(length as usize);
+        PreparedTables::from_bytes(bytes)
     }
 }
 
-impl<'a> From<&'a KeyTable> for Tables<'a> {
-    fn from(keys: &'a KeyTable) -> Tables<'a> {
+/// How many entries tables have that are not refused.
+pub(crate) fn entries(table: &[u8]) -> usize {
+    let (mut rest, mut count) = (table, 0);
+    while let Some(kind) = rest.first() {
+        let bytes = match kind {
+            4 => 104,
+            5 => 105,
+            6 => 128,
+            _ => 129,
+        };
+        rest = rest.get(bytes..).unwrap_or_default();
+        count += 1;
+    }
+    count
+}
+
+/// Both tables, prepared once: a call with them gives what it gives with the tables that they were made of, and
+/// does not check them again. That pays from a few entries on; with a thousand a call would spend nearly all its
+/// time on the check.
+///
+/// They do not follow the tables: where these change, prepare anew. Keep them as safe as the tables. They may be
+/// shared between threads, and kept as bytes for the same version of the library.
+///
+/// ```
+/// use embankery::{Connection, Entry, KeyTable, PreparedTables, Tables};
+///
+/// let peer = |last| Entry::ipv4().remote([10, 0, 0, last], 32).key(b"key").build();
+/// let peers = (0..=255).map(peer).collect::<Result<Vec<_>, _>>()?;
+/// let keys = KeyTable::new(&peers)?;
+/// let prepared = Tables::from(&keys).prepared()?;
+/// assert_eq!(prepared.len(), 256);
+///
+/// let (here, there) = (([192, 0, 2, 1], 40_000), ([10, 0, 0, 77], 179));
+/// let connection = Connection::open_active(&prepared, here, there, 1_000, 0)?;
+/// assert_eq!(connection, Connection::open_active(&keys, here, there, 1_000, 0)?);
+///
+/// // They may be kept as bytes.
+/// let read = PreparedTables::from_bytes(prepared.as_bytes())?;
+/// assert_eq!(read, prepared);
+/// # Ok::<(), embankery::Refusal>(())
+/// ```
+#[derive(Clone, PartialEq, Eq)]
+pub struct PreparedTables {
+    bytes: Vec<u8>,
+}
+
+impl PreparedTables {
+    /// How many bytes the prepared form of so many entries has, of both tables together; `usize::MAX` where it would be
+    /// more, which no tables have.
+    ///
+    /// ```
+    /// use embankery::PreparedTables;
+    ///
+    /// assert_eq!(PreparedTables::length(2 * 1_024), 264_196);
+    /// assert_eq!(PreparedTables::length(usize::MAX), usize::MAX);
+    /// ```
+    pub const fn length(entries: usize) -> usize {
+        entries.saturating_mul(129).saturating_add(4)
+    }
+
+    /// From the bytes of prepared tables, which `docs/BOUNDARY.md` has one by one. Refused with 44 if their length
+    /// is not that of their counts, or a count is above 1,024. Nothing else is tested: what stands there reads as
+    /// entries, whatever it is. So this is for bytes that [`as_bytes`](PreparedTables::as_bytes) gave; of others
+    /// the entries may clash, and the first that fits is taken.
+    ///
+    /// ```
+    /// use embankery::{PreparedTables, Refusal};
+    ///
+    /// assert!(PreparedTables::from_bytes([0; 4])?.is_empty());
+    /// assert_eq!(PreparedTables::from_bytes([0; 5]), Err(Refusal::Prepared));
+    /// # Ok::<(), embankery::Refusal>(())
+    /// ```
+    pub fn from_bytes(bytes: impl Into<Vec<u8>>) -> Result<PreparedTables, Refusal> {
+        let bytes = bytes.into();
+        Answer(raw::check_table(PREPARED, &bytes, &[])).done()?;
+        Ok(PreparedTables { bytes })
+    }
+
+    /// The bytes. They hold the keys.
+    pub fn as_bytes(&self) -> &[u8] {
+        &self.bytes
+    }
+
+    /// How many entries of the key table there are.
+    pub fn len(&self) -> usize {
+        usize::from(u16::from_be_bytes([self.bytes[0], self.bytes[1]]))
+    }
+
+    /// How many entries of the MD5 table there are.
+    pub fn md5_len(&self) -> usize {
+        usize::from(u16::from_be_bytes([self.bytes[2], self.bytes[3]]))
+    }
+
+    /// Whether neither table has one: not so, if only the MD5 table does, though [`len`](PreparedTables::len) is 0.
+    pub fn is_empty(&self) -> bool {
+        self.len() + self.md5_len() == 0
+    }
+}
+
+/// Shows no key.
+impl fmt::Debug for PreparedTables {
+    fn fmt(&self, f: &mut fmt::Formatter) -> fmt::Result {
+        f.debug_struct("PreparedTables")
+            .field("len", &self.len())
+            .field("md5_len", &self.md5_len())
+            .finish_non_exhaustive()
+    }
+}
+
+impl<'a> From<&'a PreparedTables> for Tables<'a> {
+    fn from(prepared: &'a PreparedTables) -> Tables<'a> {
         Tables {
-            keys: keys.as_bytes(),
+            form: PREPARED,
+            keys: &prepared.bytes,
             md5: &[],
         }
     }
 }
 
+impl<'a> From<&'a KeyTable> for Tables<'a> {
+    fn from(keys: &'a KeyTable) -> Tables<'a> {
+        Tables::of_bytes(keys.as_bytes(), &[])
+    }
+}
+
 impl<'a> From<&'a Md5Table> for Tables<'a> {
     fn from(md5: &'a Md5Table) -> Tables<'a> {
-        Tables {
-            keys: &[],
-            md5: md5.as_bytes(),
-        }
+        Tables::of_bytes(&[], md5.as_bytes())
     }
 }
 
@@ -456,7 +599,7 @@ impl EntryBuilder {
             return Err(Refusal::AddressSizes);
         }
         let bytes = self.bytes();
-        Answer(raw::check_table(&bytes, &[])).done()?;
+        Answer(raw::check_table(BYTES, &bytes, &[])).done()?;
         Ok(Entry { bytes })
     }
 

@@ -7,13 +7,15 @@ use common::{kinds, octets, segment, Ends, Md5Ends, FIRST_KIND, IDS, ISNS, PORTS
 use embankery::raw::{self, c};
 use embankery::{Refusal, Verdict};
 use kit::pointers::{Buffer, Buffers, Calls};
+use kit::prepared::{self, Field};
 use kit::segment::{summed, ACK, SYN};
 use kit::Function::{
-    Ask, CheckTable, Judge, JudgeSyn, OpenActive, OpenActiveMd5, OpenPassive, Sign,
+    Ask, CheckTable, Judge, JudgeSyn, OpenActive, OpenActiveMd5, OpenPassive, Prepare, Sign,
 };
-use kit::{calls_of, md5_word, word, Bytes, Call, Function, State};
+use kit::{calls_of, md5_word, word, Boundary, Bytes, Call, Function, State};
 
 const ARCHIVE: Calls = calls_of!(Calls, c);
+const REFERENCE: Boundary = calls_of!(Boundary, reference::boundary);
 
 /// A buffer inside a longer one, to see that nothing around it is written.
 struct Guarded {
@@ -53,6 +55,7 @@ impl Guarded {
 /// What the calls are given. `good` has end 1's view of an open line.
 #[derive(Clone)]
 struct Given {
+    form: u8,
     table: Vec<u8>,
     md5: Vec<u8>,
     source: Vec<u8>,
@@ -78,6 +81,7 @@ impl Given {
         let arriving = segment(PORTS, ISNS[0] + 1, ACK, &[], b"data");
         let back = [PORTS[1], PORTS[0]];
         Given {
+            form: 0,
             table: ends.tables[1].as_bytes().to_vec(),
             md5: kit::Entry::md5(&[10, 0, 0, 2], &[10, 0, 0, 9]).bytes(),
             source: octets(ends.addresses[0]),
@@ -103,6 +107,18 @@ impl Given {
             arriving: ends.sign(&arriving).unwrap(),
             state: ends.ends[1].as_bytes().to_vec(),
             ..Given::good()
+        }
+    }
+
+    /// The same with both tables prepared.
+    fn prepared(&self) -> Given {
+        assert_eq!(self.form, 0);
+        let table = prepared::by(raw::prepare, &self.table, &self.md5);
+        Given {
+            form: 1,
+            table: table.expect("tables that are not refused"),
+            md5: vec![],
+            ..self.clone()
         }
     }
 
@@ -166,6 +182,7 @@ impl Given {
                 Ask => IDS[0],
                 _ => self.setting,
             },
+            form: self.form,
             md5: self.md5.clone(),
             ..Call::new(function, &self.table)
         }
@@ -225,19 +242,315 @@ const MD5_CALLS: [(Function, u32); 6] = [
 const STATE_CALLS: [Function; 6] = [OpenActive, OpenActiveMd5, OpenPassive, Judge, Sign, Ask];
 
 /// All that there are.
-const ALL_CALLS: [Function; 8] = Function::ALL;
+const ALL_CALLS: [Function; 9] = Function::ALL;
 
+/// Those that take the tables in either form.
+fn form_calls() -> impl Iterator<Item = Function> {
+    ALL_CALLS.into_iter().filter(|call| call.takes_form())
+}
+
+/// By bytes, and prepared: the same answer, state and output.
 #[test]
 fn good() {
     for (call, value) in CALLS {
-        assert_eq!(Given::good().call(call).0, word(0, value));
+        let given = Given::good();
+        assert_eq!(given.call(call).0, word(0, value));
+        assert_eq!(given.call(call), given.prepared().call(call));
     }
     for (call, value) in MD5_CALLS {
-        assert_eq!(Given::by_md5().call(call).0, word(0, value));
+        let given = Given::by_md5();
+        assert_eq!(given.call(call).0, word(0, value));
+        assert_eq!(given.call(call), given.prepared().call(call));
     }
-    assert_eq!(Given::good().unchanged(OpenActiveMd5), word(35, 0));
-    assert_eq!(Given::by_md5().unchanged(OpenActive), word(35, 0));
-    assert_eq!(Given::by_md5().unchanged(Ask), word(35, 0));
+    for prepared in [false, true] {
+        let [good, by_md5] = [Given::good(), Given::by_md5()].map(|given| match prepared {
+            true => given.prepared(),
+            false => given,
+        });
+        assert_eq!(good.unchanged(OpenActiveMd5), word(35, 0));
+        assert_eq!(by_md5.unchanged(OpenActive), word(35, 0));
+        assert_eq!(by_md5.unchanged(Ask), word(35, 0));
+    }
+}
+
+/// 44 by every call: bytes that are no prepared table, of every length, and an MD5 table beside one.
+#[test]
+fn no_prepared_tables() {
+    for good in [Given::good().prepared(), Given::by_md5().prepared()] {
+        assert_eq!(good.table.len(), prepared::length(2));
+        let refused = |table: &[u8], md5: &[u8]| {
+            for form in [1, 2, 255] {
+                let g = Given {
+                    form,
+                    table: table.to_vec(),
+                    md5: md5.to_vec(),
+                    // What 20 and 30 refuse, too.
+                    syn: vec![],
+                    arriving: vec![],
+                    leaving: vec![],
+                    ..good.clone()
+                };
+                for call in form_calls() {
+                    assert_eq!(g.unchanged(call), word(44, 0));
+                }
+            }
+        };
+        for len in 0..good.table.len() {
+            refused(&good.table[..len], &[]);
+        }
+        refused(&[&good.table[..], &[0]].concat(), &[]);
+        refused(&good.table, &[0]);
+        refused(&good.table, &Given::by_md5().md5);
+        for (at, byte) in [(0, 1), (1, 0), (1, 2), (1, 3), (2, 1), (3, 0), (3, 2)] {
+            let mut table = good.table.clone();
+            table[at] = byte;
+            refused(&table, &[]);
+        }
+        // As bytes they are no tables, and tables' bytes are not prepared.
+        let g = Given {
+            form: 0,
+            ..good.clone()
+        };
+        assert_eq!(g.unchanged(CheckTable), word(11, 0));
+        refused(&Given::good().table, &[]);
+    }
+}
+
+/// 44 comes behind 18 and 19, whatever else is wrong.
+#[test]
+fn before_no_prepared_tables() {
+    let good = Given::good();
+    for form in [1, 255] {
+        let bad = Given {
+            form,
+            table: vec![0; 5],
+            syn: vec![],
+            arriving: vec![],
+            leaving: vec![],
+            ..good.clone()
+        };
+        for length in [0, 1, State::BYTES - 1, State::BYTES + 1] {
+            let g = Given {
+                state: vec![4; length],
+                source: vec![1],
+                ..bad.clone()
+            };
+            for call in STATE_CALLS {
+                assert_eq!(g.unchanged(call), word(18, 0));
+            }
+        }
+        let g = Given {
+            state: vec![0; State::BYTES],
+            source: vec![1],
+            ..bad.clone()
+        };
+        for call in [Judge, Sign, Ask] {
+            assert_eq!(g.unchanged(call), word(18, 0));
+        }
+        for length in [0, 3, 5, 16] {
+            let g = Given {
+                source: vec![1; length],
+                ..bad.clone()
+            };
+            for call in [OpenActive, OpenActiveMd5, JudgeSyn, OpenPassive, Judge] {
+                assert_eq!(g.unchanged(call), word(19, 0));
+            }
+        }
+    }
+}
+
+impl Given {
+    /// Which of the two entries of the prepared table the connection has: 0 the key, 1 the MD5 entry.
+    fn used(&self) -> usize {
+        usize::from(self.state[176] == 1)
+    }
+
+    /// Prepared, with that entry twice, under these keys.
+    fn stored_twice(&self, keys: [&[u8]; 2]) -> Given {
+        let (one, used) = (self.prepared(), self.used());
+        // The key stands before the MD5 entry.
+        let (counts, sources) = match used {
+            0 => ([2, 1], [0, 0, 1]),
+            _ => ([1, 2], [0, 1, 1]),
+        };
+        let mut table = vec![0; prepared::length(3)];
+        prepared::put_counts(&mut table, counts);
+        for (index, source) in sources.into_iter().enumerate() {
+            prepared::copy(&one.table, (2, source), &mut table, (3, index));
+        }
+        for (index, key) in (used..).zip(keys) {
+            table[Field::KeyLength.of(3, index)].fill(key.len() as u8);
+            let place = &mut table[Field::Key.of(3, index)];
+            place.fill(0);
+            place[..key.len()].copy_from_slice(key);
+        }
+        Given { table, ..one }
+    }
+}
+
+/// Of two stored entries that clash the first is taken, and 17 is not given.
+#[test]
+fn the_first_that_fits() {
+    let calls: [(Given, &[(Function, u32)]); 2] = [
+        (Given::good(), &CALLS[1..]),
+        (Given::by_md5(), &MD5_CALLS[1..]),
+    ];
+    for (given, calls) in calls {
+        let (table, used) = (given.prepared().table, given.used());
+        let length = table[Field::KeyLength.of(2, used).start];
+        let key = &table[Field::Key.of(2, used)][..length.into()];
+        let first = given.stored_twice([key, b"another"]);
+        let second = given.stored_twice([b"another", key]);
+        assert_eq!(prepared::counts(&first.table)[used], 2);
+        for (call, value) in calls {
+            assert_eq!(first.call(*call).0, word(0, *value));
+            assert_eq!(first.call(*call), given.call(*call));
+        }
+        for given in [&first, &second] {
+            let keys = prepared::counts(&given.table)[0] as u32;
+            assert_eq!(given.unchanged(CheckTable), word(0, keys));
+        }
+        for call in [JudgeSyn, OpenPassive] {
+            assert_eq!(second.unchanged(call), word(29, 0));
+        }
+        assert_eq!(second.call(Judge).0, word(29, 0));
+        assert_ne!(second.call(Sign).1, first.call(Sign).1);
+    }
+}
+
+/// Every byte of a prepared table, with every value where it is a field of its own and with each bit changed elsewhere:
+/// every call gives what the reference gives, and leaves the same.
+#[test]
+fn any_byte_of_prepared_tables() {
+    for good in [Given::good().prepared(), Given::by_md5().prepared()] {
+        let single: Vec<usize> = [0, 1]
+            .into_iter()
+            .flat_map(|index| Field::ALL.map(|field| field.of(2, index)))
+            .filter_map(|place| (place.len() == 1).then_some(place.start))
+            .collect();
+        assert_eq!(single.len(), 20);
+        for at in 4..good.table.len() {
+            let byte = good.table[at];
+            let values: Vec<u8> = match single.contains(&at) {
+                true => (0..=255).collect(),
+                false => (0..8).map(|bit| byte ^ 1 << bit).collect(),
+            };
+            for value in values {
+                let mut given = good.clone();
+                given.table[at] = value;
+                for call in form_calls() {
+                    let right = REFERENCE.make(&given.of(call));
+                    let expected = (right.word, right.out, right.state);
+                    assert_eq!(given.call(call), expected, "{at}: {value}");
+                }
+            }
+        }
+    }
+}
+
+/// 1,024 entries in either table, by bytes and prepared; one more is 12, and 44.
+#[test]
+fn largest_tables() {
+    let key = |i: usize| {
+        let peer = [10, 1, (i / 256) as u8, 9];
+        kit::Entry::between(&[10, 0, 0, 2], &peer).ids(i as u8, i as u8)
+    };
+    let md5 = |i: usize| {
+        let peer = [10, 2, (i / 256) as u8, i as u8];
+        kit::Entry::md5(&[10, 0, 0, 2], &peer)
+    };
+    let table = |n: usize, entry: &dyn Fn(usize) -> kit::Entry| -> Vec<u8> {
+        (0..n).flat_map(|i| entry(i).bytes()).collect()
+    };
+    let g = Given {
+        table: table(1_024, &key),
+        md5: table(1_024, &md5),
+        ..Given::good()
+    };
+    assert_eq!(g.unchanged(CheckTable), word(0, 1_024));
+    let both = g.prepared();
+    assert_eq!(both.table.len(), prepared::MOST);
+    assert_eq!(both.unchanged(CheckTable), word(0, 1_024));
+    for (i, peer) in [
+        (0, [10, 1, 0, 9]),
+        (77, [10, 1, 0, 9]),
+        (255, [10, 1, 3, 9]),
+    ] {
+        let mut call = both.of(OpenActive);
+        (call.destination, call.byte) = (peer.to_vec(), i);
+        let opened = raw_open(&call);
+        assert_eq!((opened.0, opened.1[2]), (word(0, 0), i));
+    }
+    for table_len in [1_025, 2_000] {
+        let long = Given {
+            table: table(table_len, &|i| key(i % 1_024)),
+            ..g.clone()
+        };
+        let long_md5 = Given {
+            md5: table(table_len, &|i| md5(i % 1_024)),
+            ..g.clone()
+        };
+        for call in ALL_CALLS {
+            assert_eq!(long.unchanged(call), word(12, 1_024));
+            assert_eq!(long_md5.unchanged(call), md5_word(12, 1_024));
+        }
+    }
+    for counts in [[4, 1, 0, 0], [0, 0, 4, 1], [4, 1, 4, 1]] {
+        let entries: usize = prepared::counts(&counts).iter().sum();
+        let mut table = vec![0; prepared::length(entries)];
+        table[..4].copy_from_slice(&counts);
+        let g = Given {
+            form: 1,
+            table,
+            md5: vec![],
+            ..Given::good()
+        };
+        for call in form_calls() {
+            assert_eq!(g.unchanged(call), word(44, 0));
+        }
+    }
+}
+
+/// An active opening by the archive: the answer, and the state.
+fn raw_open(call: &Call) -> (u64, Vec<u8>) {
+    let mut state = State::default().bytes();
+    let answer = raw::open_active(
+        call.form,
+        &call.table,
+        &call.md5,
+        &call.source,
+        &call.destination,
+        call.local_port,
+        call.remote_port,
+        call.isn,
+        call.byte,
+        &mut state,
+    );
+    (answer, state)
+}
+
+/// Preparing writes its own length, and nothing where the room is shorter.
+#[test]
+fn prepared_just_long_enough() {
+    for given in [Given::good(), Given::by_md5()] {
+        let prepared = given.prepared().table;
+        let need = prepared.len();
+        for room in [0, 1, 3, 4, need - 1, need, need + 1, need + 100] {
+            let g = Given {
+                out: Bytes(room as u64 + 9).take(room),
+                ..given.clone()
+            };
+            if room < need {
+                assert_eq!(g.unchanged(Prepare), word(37, 0));
+                continue;
+            }
+            let (answer, out, state) = g.call(Prepare);
+            assert_eq!(answer, word(0, need as u32));
+            assert_eq!(out[..need], prepared);
+            assert_eq!(out[need..], g.out[need..]);
+            assert_eq!(state, g.state);
+        }
+    }
 }
 
 /// By every call: the MD5 table's refusals, with 1 in bits 8 to 15, and 45; the key table's come first.
@@ -275,6 +588,29 @@ fn each_empty(nulls: bool) {
         ..Given::good()
     };
     let none = Vec::new;
+
+    // The MD5 buffer beside a prepared table is empty anyway.
+    let prepared = Given {
+        nulls,
+        ..good.prepared()
+    };
+    for (call, value) in CALLS {
+        assert_eq!(prepared.call(call).0, word(0, value));
+    }
+    let g = Given {
+        table: none(),
+        ..prepared
+    };
+    for call in form_calls() {
+        assert_eq!(g.unchanged(call), word(44, 0));
+    }
+    let g = Given {
+        table: none(),
+        md5: none(),
+        out: none(),
+        ..good.clone()
+    };
+    assert_eq!(g.unchanged(Prepare), word(37, 0));
 
     let g = Given {
         md5: none(),
@@ -468,9 +804,14 @@ fn states_of_every_length() {
         out: vec![],
         ..good.clone()
     };
+    let prepared = good.prepared();
+    let bad_prepared = Given {
+        form: 1,
+        ..bad.clone()
+    };
     let long = [good.state.clone(), good.state.clone()].concat();
     for len in 0..=300 {
-        for given in [&good, &bad] {
+        for given in [&good, &bad, &prepared, &bad_prepared] {
             let g = Given {
                 state: long[..len].to_vec(),
                 ..given.clone()
@@ -834,8 +1175,18 @@ mod last_byte {
         let (table, md5) = (table.as_slice(), md5.as_slice());
         let (source, destination) = (source.as_slice(), destination.as_slice());
         let state = || Last::new(&g.state);
-        raw::check_table(table, md5);
+        for room in [
+            0,
+            4,
+            prepared::length(1),
+            prepared::length(2),
+            prepared::length(3),
+        ] {
+            raw::prepare(table, md5, Last::new(&vec![0; room]).as_mut_slice());
+        }
+        raw::check_table(g.form, table, md5);
         raw::open_active_md5(
+            g.form,
             table,
             md5,
             destination,
@@ -846,6 +1197,7 @@ mod last_byte {
             state().as_mut_slice(),
         );
         raw::open_active(
+            g.form,
             table,
             md5,
             destination,
@@ -859,8 +1211,9 @@ mod last_byte {
         for segment in [&g.syn, &g.arriving, &g.leaving] {
             let segment = Last::new(segment);
             let segment = segment.as_slice();
-            raw::judge_syn(table, md5, source, destination, segment, g.setting);
+            raw::judge_syn(g.form, table, md5, source, destination, segment, g.setting);
             raw::open_passive(
+                g.form,
                 table,
                 md5,
                 source,
@@ -871,6 +1224,7 @@ mod last_byte {
                 state().as_mut_slice(),
             );
             raw::judge(
+                g.form,
                 table,
                 md5,
                 source,
@@ -880,6 +1234,7 @@ mod last_byte {
             );
             let mut out = Last::new(&g.out);
             raw::sign(
+                g.form,
                 table,
                 md5,
                 segment,
@@ -894,7 +1249,7 @@ mod last_byte {
             raw::aes128(source, segment, out.as_mut_slice());
             raw::aes128_cmac(source, segment, out.as_mut_slice());
         }
-        raw::ask(table, md5, IDS[0], state().as_mut_slice());
+        raw::ask(g.form, table, md5, IDS[0], state().as_mut_slice());
     }
 
     #[test]
@@ -950,6 +1305,40 @@ mod last_byte {
     fn of_cut_input() {
         of_cut(&Given::good());
         of_cut(&Given::by_md5());
+        for good in [Given::good(), Given::by_md5()] {
+            of_prepared(&good.prepared());
+        }
+    }
+
+    /// Prepared tables cut at every length, and with any bytes in them.
+    fn of_prepared(good: &Given) {
+        all(good);
+        for len in 0..=good.table.len() {
+            all(&Given {
+                table: good.table[..len].to_vec(),
+                ..good.clone()
+            });
+        }
+        let mut bytes = Bytes(17);
+        for _ in 0..1_000 {
+            let mut table = good.table.clone();
+            for _ in 0..1 + bytes.below(6) {
+                let at = bytes.below(table.len());
+                table[at] = bytes.take(1)[0];
+            }
+            all(&Given {
+                table,
+                ..good.clone()
+            });
+            let entries = bytes.below(4);
+            let mut table = bytes.take(prepared::length(entries));
+            let keys = bytes.below(entries + 1);
+            table[..4].copy_from_slice(&[0, keys as u8, 0, (entries - keys) as u8]);
+            all(&Given {
+                table,
+                ..good.clone()
+            });
+        }
     }
 
     fn of_cut(good: &Given) {

@@ -28,22 +28,33 @@ fn shown(language: &str, text: &str) {
     );
 }
 
-#[test]
-fn in_c() {
-    shown("c", &read("examples/first.c"));
-    let program = Path::new(env!("CARGO_TARGET_TMPDIR")).join("first");
+/// The example of this name is in README.md, and so is what it prints.
+fn c_example(name: &str) {
+    let file = format!("examples/{name}.c");
+    shown("c", &read(&file));
+    let program = Path::new(env!("CARGO_TARGET_TMPDIR")).join(name);
     run(Command::new("gcc")
         .args(["-std=c99", "-Wall", "-Wextra", "-Werror", "-pedantic"])
         .arg("-I")
         .arg(top().join("include"))
-        .arg(top().join("examples/first.c"))
+        .arg(top().join(file))
         .arg(env!("EMBANKERY_ARCHIVE"))
         .arg("-o")
         .arg(&program));
     shown("text", &run(&mut Command::new(program)));
 }
 
-/// The example of this name is in README.md, and so is what it prints.
+#[test]
+fn in_c() {
+    c_example("first");
+}
+
+#[test]
+fn with_prepared_tables() {
+    c_example("prepared");
+}
+
+/// Likewise in Rust.
 fn rust_example(name: &str) {
     shown("rust", &read(&format!("examples/{name}.rs")));
     let printed = run(Command::new(env!("CARGO"))

@@ -8,7 +8,7 @@ use common::{
 };
 use embankery::{
     judge_syn, Algorithm, Connection, Covered, Entry, EntryBuilder, KeyTable, Md5Entry,
-    Md5EntryBuilder, Md5Table, Refusal, Table, Tables, UnknownKeyId, Verdict, Way,
+    Md5EntryBuilder, Md5Table, PreparedTables, Refusal, Table, Tables, UnknownKeyId, Verdict, Way,
 };
 use kit::segment::{ACK, SYN};
 use kit::Bytes;
@@ -199,15 +199,123 @@ fn all_kinds_in_a_table() {
     assert_eq!(refusal, Refusal::IdClash { table, entry: 1 });
 }
 
-/// 64 entries are a table, a 65th is refused with 12.
+/// 1,024 entries are a table, a 1,025th is refused with 12.
 #[test]
 fn too_many_entries() {
-    let entry = |id| Entry::ipv4().send_id(id).recv_id(id).key(b"key").build();
-    let entries: Vec<Entry> = (0..65).map(|id| entry(id).unwrap()).collect();
-    assert_eq!(KeyTable::new(&entries[..64]).unwrap().len(), 64);
+    let entry = |i: u16| {
+        let [peer, id] = i.to_be_bytes();
+        let entry = Entry::ipv4().remote([10, 0, 0, peer], 32).key(b"key");
+        entry.send_id(id).recv_id(id).build().unwrap()
+    };
+    let entries: Vec<Entry> = (0..1_025).map(entry).collect();
+    let full = KeyTable::new(&entries[..1_024]).unwrap();
+    assert_eq!(full.len(), 1_024);
     let refusal = KeyTable::new(&entries).unwrap_err();
     let table = Table::Keys;
-    assert_eq!(refusal, Refusal::TooManyEntries { table, entry: 64 });
+    let entry = 1_024;
+    assert_eq!(refusal, Refusal::TooManyEntries { table, entry });
+
+    let prepared = Tables::from(&full).prepared().unwrap();
+    assert_eq!((prepared.len(), prepared.md5_len()), (1_024, 0));
+    let (here, there) = (([10, 0, 0, 9], 1), ([10, 0, 0, 3], 2));
+    let open = |tables: Tables| Connection::open_active(tables, here, there, 7, 255);
+    assert_eq!(open((&prepared).into()), open((&full).into()));
+    assert!(open((&prepared).into()).is_ok());
+}
+
+/// Prepared tables give what their tables give: at every step of a connection of every kind the same answers,
+/// the same states, the same bytes.
+#[test]
+fn prepared_tables() {
+    for kind in kinds() {
+        let [mut by_bytes, mut prepared] = [Ends::open(kind), Ends::open(kind)];
+        let tables = [0, 1].map(|end| {
+            let md5 = Md5Entry::ipv4().remote([10, 9, 9, 9], 32).key(b"key");
+            let md5 = Md5Table::new([&md5.build().unwrap()]).unwrap();
+            let tables = Tables::new(&by_bytes.tables[end], &md5).unwrap();
+            tables.prepared().unwrap()
+        });
+        assert_eq!((tables[0].len(), tables[0].md5_len()), (1, 1));
+        let [a, b] = prepared.addresses;
+        let (here, there) = ((a, PORTS[0]), (b, PORTS[1]));
+        let open = Connection::open_active(&tables[0], here, there, ISNS[0], IDS[0]);
+        assert_eq!(open, Ok(by_bytes.opening.clone()));
+        let syn = prepared
+            .opening
+            .sign(&tables[0], &segment(PORTS, ISNS[0], SYN, &[], &[]));
+        assert_eq!(syn.as_ref(), Ok(&by_bytes.syn));
+        let syn = syn.unwrap();
+        for unknown in [UnknownKeyId::Pass, UnknownKeyId::Drop] {
+            let verdict = judge_syn(&tables[1], a, b, &syn, unknown);
+            assert_eq!(verdict, Verdict::Accept { extension: 0 });
+            let opened = Connection::open_passive(&tables[1], a, b, &syn, ISNS[1], unknown);
+            let by_bytes = &by_bytes.tables[1];
+            let other = Connection::open_passive(by_bytes, a, b, &syn, ISNS[1], unknown);
+            assert_eq!(opened, other);
+        }
+        let verdict = prepared.opening.judge(&tables[0], b, a, &prepared.syn_ack);
+        assert_eq!(verdict, Verdict::Accept { extension: 0 });
+        assert_eq!(prepared.opening, by_bytes.ends[0]);
+
+        let plain = segment(PORTS, ISNS[0] + 1, ACK, &[], b"data");
+        let signed = by_bytes.sign(&plain).unwrap();
+        assert_eq!(prepared.ends[0].sign(&tables[0], &plain).unwrap(), signed);
+        let mut forged = signed.clone();
+        *forged.last_mut().unwrap() ^= 1;
+        for segment in [&signed, &forged, &by_bytes.summed(&forged)] {
+            let verdict = prepared.ends[1].judge(&tables[1], a, b, segment);
+            assert_eq!(verdict, by_bytes.judge(segment));
+        }
+        for id in [IDS[0], 99] {
+            let asked = prepared.ends[1].ask(&tables[1], id);
+            assert_eq!(asked, by_bytes.ends[1].ask(&by_bytes.tables[1], id));
+        }
+        assert_eq!(prepared.ends, by_bytes.ends);
+    }
+}
+
+/// The same by TCP MD5.
+#[test]
+fn prepared_md5_tables() {
+    for ipv6 in [false, true] {
+        let [mut by_bytes, mut prepared] = [Md5Ends::open(ipv6), Md5Ends::open(ipv6)];
+        let tables = [0, 1].map(|end| Tables::from(&by_bytes.tables[end]).prepared().unwrap());
+        assert_eq!((tables[0].len(), tables[0].md5_len()), (0, 1));
+        assert!(!tables[0].is_empty());
+        let [a, b] = prepared.addresses;
+        let (here, there) = ((a, PORTS[0]), (b, PORTS[1]));
+        let open = Connection::open_active_md5(&tables[0], here, there, ISNS[0]);
+        assert_eq!(open, Ok(by_bytes.opening.clone()));
+        let plain = segment(PORTS, ISNS[0] + 1, ACK, &[], b"data");
+        let signed = by_bytes.sign(&plain).unwrap();
+        assert_eq!(prepared.ends[0].sign(&tables[0], &plain).unwrap(), signed);
+        let verdict = prepared.ends[1].judge(&tables[1], a, b, &signed);
+        assert_eq!(verdict, by_bytes.judge(&signed));
+        assert_eq!(prepared.ends, by_bytes.ends);
+    }
+}
+
+/// As bytes: what `as_bytes` gives is taken back, other lengths and counts are refused with 44.
+#[test]
+fn bytes_of_prepared_tables() {
+    let keys = KeyTable::new([&Entry::ipv4().key(b"key").build().unwrap()]).unwrap();
+    let prepared = Tables::from(&keys).prepared().unwrap();
+    assert_eq!(prepared.as_bytes().len(), PreparedTables::length(1));
+    assert_eq!(
+        format!("{prepared:?}"),
+        "PreparedTables { len: 1, md5_len: 0, .. }"
+    );
+    let again = PreparedTables::from_bytes(prepared.as_bytes());
+    assert_eq!(again.as_ref(), Ok(&prepared));
+    assert_eq!(Tables::from(&prepared).prepared(), again);
+    for len in 0..PreparedTables::length(1) {
+        let cut = PreparedTables::from_bytes(&prepared.as_bytes()[..len]);
+        assert_eq!(cut, Err(Refusal::Prepared));
+    }
+    let mut many = vec![0; PreparedTables::length(1_025)];
+    many[..4].copy_from_slice(&[4, 1, 0, 0]);
+    assert_eq!(PreparedTables::from_bytes(many).unwrap_err().number(), 44);
+    assert_eq!(Refusal::Prepared.entry(), None);
 }
 
 /// An MD5 entry has document 01's bytes, with flags 0, algorithm 19 and both IDs 0.
@@ -297,10 +405,15 @@ fn numbers_of_the_md5_table() {
     assert_eq!(refusal, Refusal::NotListed { table, entry: 0 });
     assert!(Md5Table::new([]).unwrap().is_empty());
     let entry = |port| Md5Entry::ipv6().local_ports(port..=port).key(b"key");
-    let entries: Vec<Md5Entry> = (0..65).map(|port| entry(port).build().unwrap()).collect();
-    assert_eq!(Md5Table::new(&entries[..64]).unwrap().len(), 64);
+    let entry = |port| entry(port).build().unwrap();
+    let entries: Vec<Md5Entry> = (0..1_025).map(entry).collect();
+    let full = Md5Table::new(&entries[..1_024]).unwrap();
+    assert_eq!(full.len(), 1_024);
     let refusal = Md5Table::new(&entries).unwrap_err();
-    assert_eq!(refusal.entry(), Some((Table::Md5, 64)));
+    assert_eq!(
+        (refusal.number(), refusal.entry()),
+        (12, Some((Table::Md5, 1_024)))
+    );
 }
 
 /// Every call takes both tables, and refuses them with 45 where a pair would go both ways.

@@ -4,18 +4,6 @@ use crate::switches::Edit::{Before, Behind, Instead};
 use crate::switches::Planted;
 
 pub const FAULTS: &[Planted] = &[
-    // The key table.
-    Planted {
-        name: "KindBeforeSixtyFifth",
-        does: "An unknown kind is 11 even where a 65th entry begins.",
-        breaks: "\"The first that applies, in this order, is given\": 12, 11, 10",
-        file: "table.rs",
-        function: "fn walk<",
-        edits: &[Before(
-            "// 12: \"a 65th entry begins\".",
-            "if body_bytes(rest[0]).is_none() { return Err(refused(11)); }",
-        )],
-    },
     Planted {
         name: "PortsOfLocalSideOnly",
         does: "14 looks at the local ports only.",
@@ -66,7 +54,7 @@ pub const FAULTS: &[Planted] = &[
         file: "table.rs",
         function: "fn overlaps(",
         edits: &[Instead(
-            "first_bits_agree(self.address, other.address, shorter)",
+            "first_bits_agree(&self.address, &other.address, shorter)",
             "self.prefix == other.prefix && self.address == other.address",
         )],
     },
@@ -1513,7 +1501,7 @@ pub const FAULTS: &[Planted] = &[
         does: "The MD5 table's refusals come before the key table's.",
         breaks: "\"behind the key table's and then the MD5 table's refusals\"",
         file: "md5_table.rs",
-        function: "fn read(&self)",
+        function: "fn read_bytes(&self)",
         edits: &[Before("let keys =", "read(self.md5)?;")],
     },
     Planted {
@@ -1521,7 +1509,7 @@ pub const FAULTS: &[Planted] = &[
         does: "An MD5 table that is refused counts as none.",
         breaks: "\"with a table of its own ..., under refusals 10 to 17\"",
         file: "md5_table.rs",
-        function: "fn read(&self)",
+        function: "fn read_bytes(&self)",
         edits: &[Instead("read(self.md5)?", "read(self.md5).unwrap_or_default()")],
     },
     Planted {
@@ -1548,7 +1536,7 @@ pub const FAULTS: &[Planted] = &[
         does: "45 is not given.",
         breaks: "\"Tables that both match some pair are refused with 45 at the first such MD5 entry\"",
         file: "md5_table.rs",
-        function: "fn read(&self)",
+        function: "fn read_bytes(&self)",
         edits: &[Instead("md5.iter().position(both)", "None::<usize>")],
     },
     Planted {
@@ -1556,7 +1544,7 @@ pub const FAULTS: &[Planted] = &[
         does: "45 at the last such MD5 entry.",
         breaks: "\"Tables that both match some pair are refused with 45 at the first such MD5 entry\"",
         file: "md5_table.rs",
-        function: "fn read(&self)",
+        function: "fn read_bytes(&self)",
         edits: &[Instead("md5.iter().position(both)", "md5.iter().rposition(both)")],
     },
     Planted {
@@ -1564,7 +1552,7 @@ pub const FAULTS: &[Planted] = &[
         does: "45 with the index of the key entry.",
         breaks: "\"Tables that both match some pair are refused with 45 at the first such MD5 entry\"",
         file: "md5_table.rs",
-        function: "fn read(&self)",
+        function: "fn read_bytes(&self)",
         edits: &[Instead(
             "index as u32",
             "keys.iter().position(|key| md5[index].overlaps(key)).unwrap_or(0) as u32",
@@ -1608,7 +1596,7 @@ pub const FAULTS: &[Planted] = &[
         does: "45 comes before the refusals of later MD5 entries.",
         breaks: "\"behind the key table's and then the MD5 table's refusals\"",
         file: "md5_table.rs",
-        function: "fn read(&self)",
+        function: "fn read_bytes(&self)",
         edits: &[Before(
             "let md5 = read(self.md5)?;",
             "let mut end = 0;
@@ -1629,7 +1617,7 @@ pub const FAULTS: &[Planted] = &[
         file: "calls.rs",
         function: "fn take_arrival(",
         edits: &[Before(
-            "// 19, 10 to 17 and 45.",
+            "// 19, 10 to 17 and 45, 44.",
             "addresses(source, destination)?;
             let both = tables.read().is_err_and(|refusal| refusal.number == 45);
             if both && Header::read(segment).is_none() { return Err(Refusal::of(20)); }",
@@ -1641,7 +1629,10 @@ pub const FAULTS: &[Planted] = &[
         breaks: "\"Tables that both match some pair are refused with 45 at the first such MD5 entry\"",
         file: "calls.rs",
         function: "fn check_table(",
-        edits: &[Instead("tables.read()?.keys.len()", "crate::table::read(tables.keys)?.len()")],
+        edits: &[Instead(
+            "tables.read()?.keys.len()",
+            "Lent { md5: &[], ..*tables }.read()?.keys.len()",
+        )],
     },
     Planted {
         name: "OpeningIgnoresMd5",
@@ -1652,7 +1643,7 @@ pub const FAULTS: &[Planted] = &[
         edits: &[Instead(
             "addresses_then_tables(pair.local, pair.remote, tables)?.keys",
             "addresses(pair.local, pair.remote)?;
-            crate::table::read(tables.keys)?",
+            Lent { md5: &[], ..*tables }.read()?.keys",
         )],
     },
     Planted {
@@ -1664,7 +1655,8 @@ pub const FAULTS: &[Planted] = &[
         edits: &[Instead(
             "addresses_then_tables(pair.local, pair.remote, tables)?",
             "addresses(pair.local, pair.remote)?;
-            Tables { keys: vec![], md5: crate::md5_table::read(tables.md5)? }",
+            let keys = if tables.form == 0 { &[] } else { tables.keys };
+            Lent { keys, ..*tables }.read()?",
         )],
     },
     Planted {
@@ -1676,7 +1668,13 @@ pub const FAULTS: &[Planted] = &[
         edits: &[Instead(
             "addresses_then_tables(source, destination, tables)?",
             "addresses(source, destination)?;
-            Tables { keys: crate::table::read(tables.keys)?, md5: crate::md5_table::read(tables.md5)? }",
+            match tables.read() {
+                Err(refusal) if refusal.number == 45 => Tables {
+                    keys: crate::table::read(tables.keys)?,
+                    md5: crate::md5_table::read(tables.md5)?,
+                },
+                read => read?,
+            }",
         )],
     },
     Planted {
@@ -1688,7 +1686,13 @@ pub const FAULTS: &[Planted] = &[
         edits: &[Instead(
             "addresses_then_tables(source, destination, tables)?",
             "addresses(source, destination)?;
-            Tables { keys: crate::table::read(tables.keys)?, md5: crate::md5_table::read(tables.md5)? }",
+            match tables.read() {
+                Err(refusal) if refusal.number == 45 => Tables {
+                    keys: crate::table::read(tables.keys)?,
+                    md5: crate::md5_table::read(tables.md5)?,
+                },
+                read => read?,
+            }",
         )],
     },
     Planted {
@@ -1699,7 +1703,13 @@ pub const FAULTS: &[Planted] = &[
         function: "fn sign(",
         edits: &[Instead(
             "tables.read()?",
-            "Tables { keys: crate::table::read(tables.keys)?, md5: crate::md5_table::read(tables.md5)? }",
+            "match tables.read() {
+                Err(refusal) if refusal.number == 45 => Tables {
+                    keys: crate::table::read(tables.keys)?,
+                    md5: crate::md5_table::read(tables.md5)?,
+                },
+                read => read?,
+            }",
         )],
     },
     Planted {
@@ -1708,7 +1718,10 @@ pub const FAULTS: &[Planted] = &[
         breaks: "\"Tables that both match some pair are refused with 45 at the first such MD5 entry\"",
         file: "calls.rs",
         function: "fn ask(",
-        edits: &[Instead("tables.read()?.keys", "crate::table::read(tables.keys)?")],
+        edits: &[Instead(
+            "tables.read()?.keys",
+            "Lent { md5: &[], ..*tables }.read()?.keys",
+        )],
     },
     // The way that a connection goes.
     Planted {
@@ -2209,7 +2222,7 @@ pub const FAULTS: &[Planted] = &[
         file: "calls.rs",
         function: "fn ask(",
         edits: &[Before(
-            "// 10 to 17 and 45.",
+            "// 10 to 17 and 45, 44.",
             "if state.goes_by_md5() { return Err(Refusal::of(35)); }",
         )],
     },
@@ -2741,6 +2754,1337 @@ pub const FAULTS: &[Planted] = &[
             "out[length..].fill(0);",
         )],
     },
+    // The key table.
+    Planted {
+        name: "KindBeforeTooMany",
+        does: "An unknown kind is 11 even where a 1,025th entry begins.",
+        breaks: "\"The first that applies, in this order, is given\": 12, 11, 10",
+        file: "table.rs",
+        function: "fn walk<",
+        edits: &[Before(
+            "// 12: \"a 65th entry begins\".",
+            "if body_bytes(rest[0]).is_none() { return Err(refused(11)); }",
+        )],
+    },
+    // Prepared tables.
+    Planted {
+        name: "LimitStaysSixtyFour",
+        does: "12 at the 65th entry.",
+        breaks: "\"Raise 64 entries to 1,024\"",
+        file: "table.rs",
+        function: "fn walk<",
+        edits: &[Instead(
+            "entries.len() == most_entries",
+            "entries.len() == 64",
+        )],
+    },
+    Planted {
+        name: "OneEntryMoreTaken",
+        does: "A 1,025th entry is taken.",
+        breaks: "\"Refusal 12 moves to the 1,025th\"",
+        file: "table.rs",
+        function: "fn walk<",
+        edits: &[Instead(
+            "entries.len() == most_entries",
+            "entries.len() == most_entries + 1",
+        )],
+    },
+    Planted {
+        name: "CountTooLargeTaken",
+        does: "A prepared table of 1,025 keys is taken.",
+        breaks: "\"is given exactly if it is not (so also for fewer than 4 bytes), or n > 1,024, or m > 1,024\"",
+        file: "prepared.rs",
+        function: "fn counts(",
+        edits: &[Instead(
+            "keys > MOST_ENTRIES || md5 > MOST_ENTRIES",
+            "keys > MOST_ENTRIES + 1 || md5 > MOST_ENTRIES",
+        )],
+    },
+    Planted {
+        name: "Md5CountTooLargeTaken",
+        does: "A prepared table of 1,025 MD5 entries is taken.",
+        breaks: "\"is given exactly if it is not (so also for fewer than 4 bytes), or n > 1,024, or m > 1,024\"",
+        file: "prepared.rs",
+        function: "fn counts(",
+        edits: &[Instead(
+            "keys > MOST_ENTRIES || md5 > MOST_ENTRIES",
+            "keys > MOST_ENTRIES || md5 > MOST_ENTRIES + 1",
+        )],
+    },
+    Planted {
+        name: "CountsTakenTogether",
+        does: "44 if both counts together are above 1,024.",
+        breaks: "\"is given exactly if it is not (so also for fewer than 4 bytes), or n > 1,024, or m > 1,024\"",
+        file: "prepared.rs",
+        function: "fn counts(",
+        edits: &[Instead(
+            "keys > MOST_ENTRIES || md5 > MOST_ENTRIES",
+            "keys + md5 > MOST_ENTRIES",
+        )],
+    },
+    Planted {
+        name: "FullCountRefused",
+        does: "44 for 1,024 keys.",
+        breaks: "\"is given exactly if it is not (so also for fewer than 4 bytes), or n > 1,024, or m > 1,024\"",
+        file: "prepared.rs",
+        function: "fn counts(",
+        edits: &[Instead(
+            "keys > MOST_ENTRIES || md5 > MOST_ENTRIES",
+            "keys >= MOST_ENTRIES || md5 > MOST_ENTRIES",
+        )],
+    },
+    Planted {
+        name: "LongerTableTaken",
+        does: "Bytes behind the last back are not looked at.",
+        breaks: "\"is given exactly if it is not (so also for fewer than 4 bytes), or n > 1,024, or m > 1,024\"",
+        file: "prepared.rs",
+        function: "fn counts(",
+        edits: &[Instead(
+            "bytes.len() != prepared_bytes(keys + md5)",
+            "bytes.len() < prepared_bytes(keys + md5)",
+        )],
+    },
+    Planted {
+        name: "KeyCountLittleEndian",
+        does: "The number of keys has its lower byte first.",
+        breaks: "\"n, big-endian\"",
+        file: "prepared.rs",
+        function: "fn counts(",
+        edits: &[Instead(
+            "u16::from_be_bytes([bytes[0], bytes[1]])",
+            "u16::from_le_bytes([bytes[0], bytes[1]])",
+        )],
+    },
+    Planted {
+        name: "CountsExchanged",
+        does: "The MD5 part is read as keys, and the keys as the MD5 part.",
+        breaks: "\"the key entries in their order, then the MD5 entries in theirs\"",
+        file: "prepared.rs",
+        function: "fn counts(",
+        edits: &[Instead(
+            "Some((keys, md5))",
+            "Some((md5, keys))",
+        )],
+    },
+    Planted {
+        name: "NoBytesAreNoEntries",
+        does: "No bytes at all are a prepared table without entries.",
+        breaks: "\"(so also for fewer than 4 bytes)\"",
+        file: "prepared.rs",
+        function: "fn read(",
+        edits: &[Before(
+            "let (keys, md5)",
+            "if bytes.is_empty() { return Ok(Tables { keys: vec![], md5: vec![] }); }",
+        )],
+    },
+    Planted {
+        name: "FortyFourWithIndex",
+        does: "44 has the length beside it.",
+        breaks: "\"refused with 44, in the place of 10 to 16, without an index\"",
+        file: "prepared.rs",
+        function: "fn read(",
+        edits: &[Instead(
+            "Refusal::of(44)",
+            "Refusal { index: bytes.len() as u32, ..Refusal::of(44) }",
+        )],
+    },
+    Planted {
+        name: "FortyFourIsTen",
+        does: "A prepared table of a wrong length is 10.",
+        breaks: "\"A prepared table with a count or an entry that valid bytes could not hold is refused with 44\"",
+        file: "prepared.rs",
+        function: "fn read(",
+        edits: &[Instead(
+            "Refusal::of(44)",
+            "Refusal::of(10)",
+        )],
+    },
+    Planted {
+        name: "BackOfAnother",
+        does: "The backs stand in the other order.",
+        breaks: "\"the key entries in their order, then the MD5 entries in theirs\"",
+        file: "prepared.rs",
+        function: "fn read(",
+        edits: &[Instead(
+            "&backs[BACK * index..BACK * (index + 1)]",
+            "&backs[BACK * (all - 1 - index)..BACK * (all - index)]",
+        )],
+    },
+    Planted {
+        name: "SlotOfAnother",
+        does: "The slots stand in the other order.",
+        breaks: "\"the key entries in their order, then the MD5 entries in theirs\"",
+        file: "prepared.rs",
+        function: "fn read(",
+        edits: &[Instead(
+            "&slots[SLOT * index..SLOT * (index + 1)]",
+            "&slots[SLOT * (all - 1 - index)..SLOT * (all - index)]",
+        )],
+    },
+    Planted {
+        name: "MarkOfAnother",
+        does: "The marks stand in the other order.",
+        breaks: "\"the key entries in their order, then the MD5 entries in theirs; likewise below\"",
+        file: "prepared.rs",
+        function: "fn read(",
+        edits: &[Instead(
+            "marks[index]",
+            "marks[all - 1 - index]",
+        )],
+    },
+    Planted {
+        name: "RemotePrefixOfAnother",
+        does: "The remote prefix lengths stand in the other order.",
+        breaks: "\"the key entries in their order, then the MD5 entries in theirs; likewise below\"",
+        file: "prepared.rs",
+        function: "fn read(",
+        edits: &[Instead(
+            "remote_prefixes[index]",
+            "remote_prefixes[all - 1 - index]",
+        )],
+    },
+    Planted {
+        name: "SendIdOfAnother",
+        does: "The SendIDs stand in the other order.",
+        breaks: "\"the key entries in their order, then the MD5 entries in theirs\"",
+        file: "prepared.rs",
+        function: "fn read(",
+        edits: &[Instead(
+            "send_ids[index]",
+            "send_ids[all - 1 - index]",
+        )],
+    },
+    Planted {
+        name: "RecvIdOfAnother",
+        does: "The RecvIDs stand in the other order.",
+        breaks: "\"the key entries in their order, then the MD5 entries in theirs; likewise below\"",
+        file: "prepared.rs",
+        function: "fn read(",
+        edits: &[Instead(
+            "recv_ids[index]",
+            "recv_ids[all - 1 - index]",
+        )],
+    },
+    Planted {
+        name: "MarksBeforePrefixes",
+        does: "The marks stand before the remote prefix lengths.",
+        breaks: "\"N | the remote prefix lengths ... N | the marks\"",
+        file: "prepared.rs",
+        function: "fn read(",
+        edits: &[Instead(
+            "remote_prefixes[index]",
+            "marks[index]",
+        ), Instead(
+            "marks[index]",
+            "remote_prefixes[index]",
+        )],
+    },
+    Planted {
+        name: "Md5MarkAmongKeys",
+        does: "The marks of the MD5 entries are counted from the first mark on.",
+        breaks: "\"the key entries in their order, then the MD5 entries in theirs; likewise below\"",
+        file: "prepared.rs",
+        function: "fn read(",
+        edits: &[Instead(
+            "(keys..all).map(|index| stored(index).md5_entry()).collect()",
+            "(keys..all).map(|index| {
+                Stored { mark: marks[index - keys], ..stored(index) }.md5_entry()
+            }).collect()",
+        )],
+    },
+    Planted {
+        name: "Md5BackAmongKeys",
+        does: "The backs of the MD5 entries are counted from the first back on.",
+        breaks: "\"the key entries in their order, then the MD5 entries in theirs\"",
+        file: "prepared.rs",
+        function: "fn read(",
+        edits: &[Instead(
+            "(keys..all).map(|index| stored(index).md5_entry()).collect()",
+            "(keys..all).map(|index| {
+                Stored { back: stored(index - keys).back, ..stored(index) }.md5_entry()
+            }).collect()",
+        )],
+    },
+    Planted {
+        name: "Md5PartAmongKeys",
+        does: "The keys are read to the end of the MD5 part.",
+        breaks: "\"there are n key entries and m MD5 entries\"",
+        file: "prepared.rs",
+        function: "fn read(",
+        edits: &[Instead(
+            "(0..keys).map(|index| stored(index).key_entry()).collect()",
+            "(0..all).map(|index| stored(index).key_entry()).collect()",
+        )],
+    },
+    Planted {
+        name: "KeysAmongMd5Part",
+        does: "The MD5 entries are read from the first key on.",
+        breaks: "\"there are n key entries and m MD5 entries\"",
+        file: "prepared.rs",
+        function: "fn read(",
+        edits: &[Instead(
+            "(keys..all).map(|index| stored(index).md5_entry()).collect()",
+            "(0..all).map(|index| stored(index).md5_entry()).collect()",
+        )],
+    },
+    Planted {
+        name: "LastSuchSendId",
+        does: "A search by pair and SendID takes the last such entry.",
+        breaks: "\"a search by pair and ID takes the first such entry\"",
+        file: "table.rs",
+        function: "fn by_send_id<",
+        edits: &[Before(
+            "entries\n        .iter()",
+            "let mut last = entries.iter().rev();
+            return last.find(|entry| entry.send_id == send_id && entry.matches(pair)).copied();",
+        )],
+    },
+    Planted {
+        name: "LastSuchRecvId",
+        does: "A search by pair and RecvID takes the last such entry.",
+        breaks: "\"a search by pair and ID takes the first such entry\"",
+        file: "table.rs",
+        function: "fn by_recv_id<",
+        edits: &[Before(
+            "entries\n        .iter()",
+            "let mut last = entries.iter().rev();
+            return last.find(|entry| entry.recv_id == recv_id && entry.matches(pair)).copied();",
+        )],
+    },
+    Planted {
+        name: "LastSuchMd5Entry",
+        does: "A search takes the last such MD5 entry.",
+        breaks: "\"a search by pair and ID takes the first such entry\"",
+        file: "prepared.rs",
+        function: "fn read(",
+        edits: &[Instead(
+            "(keys..all).map(|index| stored(index).md5_entry()).collect()",
+            "(keys..all).rev().map(|index| stored(index).md5_entry()).collect()",
+        )],
+    },
+    Planted {
+        name: "Md5AlgorithmLookedAt",
+        does: "A stored MD5 entry whose algorithm is not 19 counts as none.",
+        breaks: "\"algorithm ... 1 if the byte is below 1, 3 if it is above 3, else the byte | 19\"",
+        file: "prepared.rs",
+        function: "fn read(",
+        edits: &[Instead(
+            "(keys..all).map(|index| stored(index).md5_entry()).collect()",
+            "(keys..all).map(stored).filter(|it| it.back[1] == KIND_MD5)
+            .map(|it| it.md5_entry()).collect()",
+        )],
+    },
+    Planted {
+        name: "Md5IdsLookedAt",
+        does: "A stored MD5 entry whose IDs are not 0 counts as none.",
+        breaks: "\"SendID, RecvID | as they are | 0, 0\"",
+        file: "prepared.rs",
+        function: "fn read(",
+        edits: &[Instead(
+            "(keys..all).map(|index| stored(index).md5_entry()).collect()",
+            "(keys..all).map(stored).filter(|it| it.send_id == 0 && it.recv_id == 0)
+            .map(|it| it.md5_entry()).collect()",
+        )],
+    },
+    Planted {
+        name: "ClashTestedAgain",
+        does: "17 for two keys of a prepared table that clash.",
+        breaks: "\"The clash is not tested again\"",
+        file: "prepared.rs",
+        function: "fn read(",
+        edits: &[Before(
+            "Ok(Tables {",
+            "let entries: Vec<Entry> = (0..keys).map(|index| stored(index).key_entry()).collect();
+            let clash = |at: &usize| entries[..*at].iter().any(|before| before.clashes(&entries[*at]));
+            if let Some(at) = (0..keys).find(clash) {
+                return Err(Refusal { index: at as u32, ..Refusal::of(17) });
+            }",
+        )],
+    },
+    Planted {
+        name: "Md5ClashTestedAgain",
+        does: "44 for two MD5 entries of a prepared table that match one pair.",
+        breaks: "\"The clash is not tested again\"",
+        file: "prepared.rs",
+        function: "fn read(",
+        edits: &[Before(
+            "Ok(Tables {",
+            "let entries: Vec<Md5Entry> = (keys..all).map(|index| stored(index).md5_entry()).collect();
+            let both = |one: &Side, other: &Side| one.address.len() == other.address.len() && one.overlaps(other);
+            let clash = |at: &usize| entries[..*at].iter().any(|before| {
+                both(&before.local, &entries[*at].local) && both(&before.remote, &entries[*at].remote)
+            });
+            if (0..md5).any(|at| clash(&at)) { return Err(Refusal::of(44)); }",
+        )],
+    },
+    Planted {
+        name: "FortyFiveTestedAgain",
+        does: "45 for a prepared table.",
+        breaks: "\"there 45 is treated like the clash: not tested again\"",
+        file: "prepared.rs",
+        function: "fn read(",
+        edits: &[Before(
+            "Ok(Tables {",
+            "let both = |one: &Side, other: &Side| one.address.len() == other.address.len() && one.overlaps(other);
+            let key = |at: usize| stored(at).key_entry();
+            let overlaps = |index: &usize| (0..keys).any(|at| {
+                both(&key(at).local, &stored(*index).local()) && both(&key(at).remote, &stored(*index).remote())
+            });
+            if let Some(index) = (keys..all).find(overlaps) {
+                return Err(Refusal { number: 45, index: (index - keys) as u32, in_md5: true });
+            }",
+        )],
+    },
+    Planted {
+        name: "SecondBufferNotLookedAt",
+        does: "An MD5 table beside a prepared table is not looked at.",
+        breaks: "\"a second buffer that is not [empty] is refused with 44\"",
+        file: "md5_table.rs",
+        function: "fn read(&self)",
+        edits: &[Instead(
+            "!self.md5.is_empty()",
+            "false",
+        )],
+    },
+    Planted {
+        name: "FormOneAlone",
+        does: "Only form 1 is a prepared table.",
+        breaks: "\"0 their bytes, any other value a prepared table\"",
+        file: "md5_table.rs",
+        function: "fn read(&self)",
+        edits: &[Instead(
+            "self.form == FORM_BYTES",
+            "self.form != 1",
+        )],
+    },
+    Planted {
+        name: "FormByLowestBit",
+        does: "A form is prepared by its lowest bit.",
+        breaks: "\"0 their bytes, any other value a prepared table\"",
+        file: "md5_table.rs",
+        function: "fn read(&self)",
+        edits: &[Instead(
+            "self.form == FORM_BYTES",
+            "self.form % 2 == 0",
+        )],
+    },
+    Planted {
+        name: "FortyFourAfterTwenty",
+        does: "On a connection, 44 comes after 20.",
+        breaks: "\"in the place of 10 to 16\"",
+        file: "calls.rs",
+        function: "fn take_arrival(",
+        edits: &[Before(
+            "// 19, 10 to 17 and 45, 44.",
+            "addresses(source, destination)?;
+            let refused = tables.read().is_err_and(|refusal| refusal.number == 44);
+            if refused && Header::read(segment).is_none() { return Err(Refusal::of(20)); }",
+        )],
+    },
+    Planted {
+        name: "FortyFourBeforeEighteen",
+        does: "On a connection, 44 comes before 18.",
+        breaks: "\"in the place of 10 to 16\"",
+        file: "calls.rs",
+        function: "fn take_arrival(",
+        edits: &[Before(
+            "// 18: \"state's family is neither IPv4 nor IPv6\".",
+            "if tables.form != 0 { tables.read()?; }",
+        )],
+    },
+    Planted {
+        name: "FortyFourBeforeNineteen",
+        does: "44 comes before 19.",
+        breaks: "\"in the place of 10 to 16\"",
+        file: "calls.rs",
+        function: "fn addresses_then_tables<",
+        edits: &[Before(
+            "addresses(one, other)?;",
+            "if tables.form != 0 { tables.read()?; }",
+        )],
+    },
+    Planted {
+        name: "FamilySixByItself",
+        does: "Any family but 6 is IPv4.",
+        breaks: "\"family | 4 if the byte is 4, else 6\"",
+        file: "prepared.rs",
+        function: "fn address_bytes(",
+        edits: &[Instead(
+            "self.slot[0] == 4",
+            "self.slot[0] != 6",
+        )],
+    },
+    Planted {
+        name: "StoredPortsAsTheyAre",
+        does: "Stored ports are read as they are, the low one perhaps above the high one.",
+        breaks: "\"ports, low and high | the smaller and the larger of the two\"",
+        file: "prepared.rs",
+        function: "fn side(",
+        edits: &[Instead(
+            "one.min(other)",
+            "one",
+        ), Instead(
+            "one.max(other)",
+            "other",
+        )],
+    },
+    Planted {
+        name: "OnlyRemotePortsOrdered",
+        does: "Only the remote ports are put in order.",
+        breaks: "\"ports, low and high | the smaller and the larger of the two\"",
+        file: "prepared.rs",
+        function: "fn side(",
+        edits: &[Instead(
+            "one.min(other)",
+            "if ports == 16 { one.min(other) } else { one }",
+        ), Instead(
+            "one.max(other)",
+            "if ports == 16 { one.max(other) } else { other }",
+        )],
+    },
+    Planted {
+        name: "OnlyLocalPortsOrdered",
+        does: "Only the local ports are put in order.",
+        breaks: "\"ports, low and high | the smaller and the larger of the two\"",
+        file: "prepared.rs",
+        function: "fn side(",
+        edits: &[Instead(
+            "one.min(other)",
+            "if ports == 20 { one.min(other) } else { one }",
+        ), Instead(
+            "one.max(other)",
+            "if ports == 20 { one.max(other) } else { other }",
+        )],
+    },
+    Planted {
+        name: "StoredPrefixReduced",
+        does: "A stored prefix length that is too long is reduced by its family's number.",
+        breaks: "\"prefix lengths | lowered to 32 (family 4) or 128\"",
+        file: "prepared.rs",
+        function: "fn side(",
+        edits: &[Instead(
+            "(prefix as usize).min(8 * bytes)",
+            "prefix as usize % (8 * bytes + 1)",
+        )],
+    },
+    Planted {
+        name: "LongPrefixMatchesAll",
+        does: "A stored prefix length that is too long matches every address.",
+        breaks: "\"prefix lengths | lowered to 32 (family 4) or 128\"",
+        file: "prepared.rs",
+        function: "fn side(",
+        edits: &[Instead(
+            "(prefix as usize).min(8 * bytes)",
+            "if prefix as usize > 8 * bytes { 0 } else { prefix as usize }",
+        )],
+    },
+    Planted {
+        name: "BitsPastPrefixLookedAt",
+        does: "A stored address whose last bit is set is the only one that matches.",
+        breaks: "\"addresses | bits past the prefix length count as zero\"",
+        file: "prepared.rs",
+        function: "fn side(",
+        edits: &[Instead(
+            "(prefix as usize).min(8 * bytes)",
+            "if address[bytes - 1] & 1 == 1 { 8 * bytes } else { (prefix as usize).min(8 * bytes) }",
+        )],
+    },
+    Planted {
+        name: "RemotePortsOfLocalSide",
+        does: "The remote side has the local side's ports.",
+        breaks: "\"16, 18 | remote port, low and high ... 20, 22 | local port, low and high\"",
+        file: "prepared.rs",
+        function: "fn remote(",
+        edits: &[Instead(
+            "self.side(16, &[before_last, &[last]].concat(), self.remote_prefix)",
+            "self.side(20, &[before_last, &[last]].concat(), self.remote_prefix)",
+        )],
+    },
+    Planted {
+        name: "MarkOfSixteenForIpv4",
+        does: "The mark of an IPv4 entry is taken for the sum of sixteen bytes: those behind the third count.",
+        breaks: "\"the stored bytes before the last (three of family 4, else fifteen)\"",
+        file: "prepared.rs",
+        function: "fn remote(",
+        edits: &[Instead(
+            "self.mark.wrapping_sub(sum(before_last))",
+            "self.mark.wrapping_sub(sum(&self.slot[1..16]))",
+        )],
+    },
+    Planted {
+        name: "MarkOfFourForIpv6",
+        does: "The mark of an IPv6 entry is taken for the sum of its first three bytes and its last.",
+        breaks: "\"the stored bytes before the last (three of family 4, else fifteen)\"",
+        file: "prepared.rs",
+        function: "fn remote(",
+        edits: &[Instead(
+            "self.mark.wrapping_sub(sum(before_last))",
+            "self.mark.wrapping_sub(sum(&self.slot[1..4]))",
+        )],
+    },
+    Planted {
+        name: "LastByteIsMark",
+        does: "The mark is taken for the last byte.",
+        breaks: "\"then the last: the mark less their sum, modulo 256\"",
+        file: "prepared.rs",
+        function: "fn remote(",
+        edits: &[Instead(
+            "self.mark.wrapping_sub(sum(before_last))",
+            "self.mark",
+        )],
+    },
+    Planted {
+        name: "MarkNotLookedAt",
+        does: "The last byte of an IPv4 entry's address is the fourth stored byte, of an IPv6 entry's 0.",
+        breaks: "\"then the last: the mark less their sum, modulo 256\"",
+        file: "prepared.rs",
+        function: "fn remote(",
+        edits: &[Instead(
+            "self.mark.wrapping_sub(sum(before_last))",
+            "if stored == 3 { self.slot[4] } else { 0 }",
+        )],
+    },
+    Planted {
+        name: "SumLessMark",
+        does: "The last byte is the sum less the mark.",
+        breaks: "\"then the last: the mark less their sum, modulo 256\"",
+        file: "prepared.rs",
+        function: "fn remote(",
+        edits: &[Instead(
+            "self.mark.wrapping_sub(sum(before_last))",
+            "sum(before_last).wrapping_sub(self.mark)",
+        )],
+    },
+    Planted {
+        name: "LastByteStopsAtZero",
+        does: "A sum above the mark gives a last byte of 0.",
+        breaks: "\"then the last: the mark less their sum, modulo 256\"",
+        file: "prepared.rs",
+        function: "fn remote(",
+        edits: &[Instead(
+            "self.mark.wrapping_sub(sum(before_last))",
+            "self.mark.saturating_sub(sum(before_last))",
+        )],
+    },
+    Planted {
+        name: "MarkComparedToo",
+        does: "Where the remote prefix length is not 0, only the whole stored address matches, as its mark says.",
+        breaks: "\"addresses | bits past the prefix length count as zero\"",
+        file: "prepared.rs",
+        function: "fn remote(",
+        edits: &[Instead(
+            "self.side(16, &[before_last, &[last]].concat(), self.remote_prefix)",
+            "self.side(16, &[before_last, &[last]].concat(), if self.remote_prefix == 0 { 0 } else { 255 })",
+        )],
+    },
+    Planted {
+        name: "SumStopsAtTop",
+        does: "A sum above 255 is 255, written and read.",
+        breaks: "\"the sum of the remote address's bytes (four or sixteen) modulo 256\"",
+        file: "prepared.rs",
+        function: "fn sum(",
+        edits: &[Instead(
+            "sum.wrapping_add(*byte)",
+            "u8::saturating_add(sum, *byte)",
+        )],
+    },
+    Planted {
+        name: "MarkByExclusiveOr",
+        does: "The mark is the bytes' exclusive or, written and read.",
+        breaks: "\"the sum of the remote address's bytes (four or sixteen) modulo 256\"",
+        file: "prepared.rs",
+        function: "fn sum(",
+        edits: &[Instead(
+            "sum.wrapping_add(*byte)",
+            "sum ^ *byte",
+        )],
+    },
+    Planted {
+        name: "StoredKeyLengthReduced",
+        does: "A stored key length is reduced by 80.",
+        breaks: "\"key length | raised to 1, lowered to 80\"",
+        file: "prepared.rs",
+        function: "fn key(",
+        edits: &[Instead(
+            "self.back[3].clamp(1, 80)",
+            "(self.back[3].wrapping_sub(1) % 80 + 1)",
+        )],
+    },
+    Planted {
+        name: "StoredKeyOfNoBytes",
+        does: "A stored key length of 0 is a key of no bytes.",
+        breaks: "\"key length | raised to 1, lowered to 80\"",
+        file: "prepared.rs",
+        function: "fn key(",
+        edits: &[Instead(
+            "self.back[3].clamp(1, 80)",
+            "self.back[3].min(80)",
+        )],
+    },
+    Planted {
+        name: "StoredKeyWhole",
+        does: "All 80 bytes of a stored key count.",
+        breaks: "\"key | bytes past the key length count as zero\"",
+        file: "prepared.rs",
+        function: "fn key(",
+        edits: &[Instead(
+            "&self.back[21..21 + length]",
+            "&self.back[21..101]",
+        )],
+    },
+    Planted {
+        name: "StoredFlagsLowered",
+        does: "Stored flags above 7 are 7.",
+        breaks: "\"flags | the byte mod 8\"",
+        file: "prepared.rs",
+        function: "fn key_entry(&self)",
+        edits: &[Instead(
+            "self.back[0] % 8",
+            "self.back[0].min(7)",
+        )],
+    },
+    Planted {
+        name: "StoredAlgorithmReduced",
+        does: "A stored algorithm is reduced by 3.",
+        breaks: "\"algorithm | 1 if the byte is below 1, 3 if it is above 3, else the byte\"",
+        file: "prepared.rs",
+        function: "fn key_entry(&self)",
+        edits: &[Instead(
+            "self.back[1]",
+            "self.back[1].wrapping_sub(1) % 3 + 1",
+        )],
+    },
+    Planted {
+        name: "StoredAlgorithmAboveThreeIsOne",
+        does: "A stored algorithm above 3 is 1.",
+        breaks: "\"algorithm | 1 if the byte is below 1, 3 if it is above 3, else the byte\"",
+        file: "prepared.rs",
+        function: "fn key_entry(&self)",
+        edits: &[Instead(
+            "self.back[1]",
+            "if self.back[1] > 3 { 1 } else { self.back[1] }",
+        )],
+    },
+    Planted {
+        name: "StoredAlgorithmZeroIsThree",
+        does: "A stored algorithm of 0 is 3.",
+        breaks: "\"algorithm | 1 if the byte is below 1, 3 if it is above 3, else the byte\"",
+        file: "prepared.rs",
+        function: "fn key_entry(&self)",
+        edits: &[Instead(
+            "self.back[1]",
+            "if self.back[1] == 0 { 3 } else { self.back[1] }",
+        )],
+    },
+    Planted {
+        name: "StoredMacReduced",
+        does: "Stored MAC bytes are reduced by 13.",
+        breaks: "\"MAC bytes | raised to 4, lowered to 16\"",
+        file: "prepared.rs",
+        function: "fn key_entry(&self)",
+        edits: &[Instead(
+            "self.back[2].clamp(4, 16)",
+            "(self.back[2].wrapping_sub(4) % 13 + 4)",
+        )],
+    },
+    Planted {
+        name: "StoredMacOfZeroIsTwelve",
+        does: "Stored MAC bytes of 0 are 12.",
+        breaks: "\"MAC bytes | raised to 4, lowered to 16\"",
+        file: "prepared.rs",
+        function: "fn key_entry(&self)",
+        edits: &[Instead(
+            "self.back[2].clamp(4, 16)",
+            "if self.back[2] == 0 { 12 } else { self.back[2].clamp(4, 16) }",
+        )],
+    },
+    Planted {
+        name: "StoredMacAboveSixteenIsTwelve",
+        does: "Stored MAC bytes above 16 are 12.",
+        breaks: "\"MAC bytes | raised to 4, lowered to 16\"",
+        file: "prepared.rs",
+        function: "fn key_entry(&self)",
+        edits: &[Instead(
+            "self.back[2].clamp(4, 16)",
+            "if self.back[2] > 16 { 12 } else { self.back[2].max(4) }",
+        )],
+    },
+    Planted {
+        name: "StoredIdsExchanged",
+        does: "SendID and RecvID of a stored entry are exchanged.",
+        breaks: "\"N | the SendIDs ... N | the RecvIDs\"",
+        file: "prepared.rs",
+        function: "fn key_entry(&self)",
+        edits: &[Instead(
+            "self.send_id",
+            "self.recv_id",
+        ), Instead(
+            "self.recv_id",
+            "self.send_id",
+        )],
+    },
+    Planted {
+        name: "UnsaidMacStoredAsZero",
+        does: "Of an entry that does not say its MAC's length, 0 is stored.",
+        breaks: "\"a call with it gives what the bytes would give\"",
+        file: "prepared.rs",
+        function: "fn key_entry(entry",
+        edits: &[Instead(
+            "entry.mac_bytes as u8",
+            "if entry.kind % 2 == 0 { 0 } else { entry.mac_bytes as u8 }",
+        )],
+    },
+    Planted {
+        name: "NatNotStored",
+        does: "Hidden sides are not stored.",
+        breaks: "\"a call with it gives what the bytes would give\"",
+        file: "prepared.rs",
+        function: "fn key_entry(entry",
+        edits: &[Instead(
+            "covers | local_nat << 1 | remote_nat << 2",
+            "covers",
+        )],
+    },
+    Planted {
+        name: "LocalPortsStoredFirst",
+        does: "The local ports are stored before the remote ones.",
+        breaks: "\"16, 18 | remote port, low and high ... 20, 22 | local port, low and high\"",
+        file: "prepared.rs",
+        function: "fn slot(",
+        edits: &[Instead(
+            "[&self.remote, &self.local]",
+            "[&self.local, &self.remote]",
+        )],
+    },
+    Planted {
+        name: "AddressesStoredExchanged",
+        does: "The local address is stored in the slot.",
+        breaks: "\"1 to 15 | remote address without its last byte\"",
+        file: "prepared.rs",
+        function: "fn slot(",
+        edits: &[Instead(
+            "&self.remote.address",
+            "&self.local.address",
+        )],
+    },
+    Planted {
+        name: "FourthByteStored",
+        does: "Of an IPv4 address all four bytes are stored, beside the mark.",
+        breaks: "\"remote address without its last byte: of IPv4 three bytes, then zeros\"",
+        file: "prepared.rs",
+        function: "fn slot(",
+        edits: &[Instead(
+            "&address[..address.len() - 1]",
+            "&address[..address.len().min(15)]",
+        )],
+    },
+    Planted {
+        name: "KeyStoredUnpadded",
+        does: "What stands behind a stored key is not zero.",
+        breaks: "\"21 to 100 | the key, then zeros\"; \"the key, padded with zeros to 80\"",
+        file: "prepared.rs",
+        function: "fn back(",
+        edits: &[Instead(
+            "back.resize(BACK, 0)",
+            "back.resize(BACK, 1)",
+        )],
+    },
+    Planted {
+        name: "LastByteStoredAsMark",
+        does: "The last byte is stored in the mark's place.",
+        breaks: "\"The mark is the sum of the remote address's bytes (four or sixteen) modulo 256\"",
+        file: "prepared.rs",
+        function: "fn write(",
+        edits: &[Instead(
+            "sum(&entry.remote.address)",
+            "entry.remote.address[entry.remote.address.len() - 1]",
+        )],
+    },
+    Planted {
+        name: "MarkWithoutLastByte",
+        does: "The mark that is stored is the sum of the bytes before the last.",
+        breaks: "\"The mark is the sum of the remote address's bytes (four or sixteen) modulo 256\"",
+        file: "prepared.rs",
+        function: "fn write(",
+        edits: &[Instead(
+            "sum(&entry.remote.address)",
+            "sum(&entry.remote.address[..entry.remote.address.len() - 1])",
+        )],
+    },
+    Planted {
+        name: "MarkOfLocalAddress",
+        does: "The mark that is stored is the local address's.",
+        breaks: "\"The mark is the sum of the remote address's bytes (four or sixteen) modulo 256\"",
+        file: "prepared.rs",
+        function: "fn write(",
+        edits: &[Instead(
+            "sum(&entry.remote.address)",
+            "sum(&entry.local.address)",
+        )],
+    },
+    Planted {
+        name: "Md5StoredFirst",
+        does: "The MD5 entries are stored before the keys.",
+        breaks: "\"the key entries in their order, then the MD5 entries in theirs\"",
+        file: "prepared.rs",
+        function: "fn write(",
+        edits: &[Instead(
+            "keys.chain(md5).collect()",
+            "md5.chain(keys).collect()",
+        )],
+    },
+    Planted {
+        name: "AllEntriesCounted",
+        does: "The number of keys that is stored is that of all entries.",
+        breaks: "\"there are n key entries and m MD5 entries\"",
+        file: "prepared.rs",
+        function: "fn write(",
+        edits: &[Instead(
+            "tables.keys.len() as u16",
+            "(tables.keys.len() + tables.md5.len()) as u16",
+        )],
+    },
+    Planted {
+        name: "NoRoomBeforeTables",
+        does: "37 before the tables' refusals, where there is no room at all.",
+        breaks: "\"gives the table's refusal, or 37 if the output is too short\"",
+        file: "calls.rs",
+        function: "fn prepare(",
+        edits: &[Before(
+            "let prepared =",
+            "if room == 0 { return Err(Refusal::of(37)); }",
+        )],
+    },
+    Planted {
+        name: "ExactRoomTooShort",
+        does: "37 where the prepared table just fits.",
+        breaks: "\"gives the table's refusal, or 37 if the output is too short\"",
+        file: "calls.rs",
+        function: "fn prepare(",
+        edits: &[Instead(
+            "room < prepared.len()",
+            "room <= prepared.len()",
+        )],
+    },
+    Planted {
+        name: "PreparingIgnores45",
+        does: "Preparing gives no 45.",
+        breaks: "\"Preparing takes both tables and tests 45 once\"",
+        file: "calls.rs",
+        function: "fn prepare(",
+        edits: &[Instead(
+            "tables.read()?",
+            "match tables.read() {
+                Err(refusal) if refusal.number == 45 => Tables {
+                    keys: crate::table::read(tables.keys)?,
+                    md5: crate::md5_table::read(tables.md5)?,
+                },
+                read => read?,
+            }",
+        )],
+    },
+    Planted {
+        name: "PreparingWritesBehind",
+        does: "Preparing clears what stands behind.",
+        breaks: "\"writes only its own length\"",
+        file: "boundary.rs",
+        function: "fn tcpao_prepare(",
+        edits: &[Before(
+            "word(0, prepared.len() as u32)",
+            "out[prepared.len()..].fill(0);",
+        )],
+    },
+    Planted {
+        name: "RefusedPreparingWrites",
+        does: "Preparing that is refused clears the output.",
+        breaks: "\"A call that is refused leaves every buffer as it was\"",
+        file: "boundary.rs",
+        function: "fn tcpao_prepare(",
+        edits: &[Instead(
+            "refusal_word(refusal)",
+            "out.fill(0); refusal_word(refusal)",
+        )],
+    },
+    Planted {
+        name: "PreparingGivesEntries",
+        does: "Preparing gives how many entries there are.",
+        breaks: "\"of `prepare` the length written\"",
+        file: "boundary.rs",
+        function: "fn tcpao_prepare(",
+        edits: &[Instead(
+            "prepared.len() as u32",
+            "(prepared.len() / 129) as u32",
+        )],
+    },
+    Planted {
+        name: "Md5LimitStaysSixtyFour",
+        does: "12 at the 65th entry of the MD5 table.",
+        breaks: "the reading of the MD5 table: \"the same limit of entries\"",
+        file: "md5_table.rs",
+        function: "fn read(table",
+        edits: &[Instead("MOST_ENTRIES", "64")],
+    },
+    Planted {
+        name: "EntriesTakenTogether",
+        does: "12 where both tables together have more than 1,024 entries.",
+        breaks: "the reading of the MD5 table: \"the same limit of entries\"",
+        file: "md5_table.rs",
+        function: "fn read_bytes(&self)",
+        edits: &[Before(
+            "// 45: \"Tables that both match",
+            "if keys.len() + md5.len() > MOST_ENTRIES {
+                let index = (MOST_ENTRIES - keys.len()) as u32;
+                return Err(Refusal { number: 12, index, in_md5: true });
+            }",
+        )],
+    },
+    Planted {
+        name: "CutBeforeTooMany",
+        does: "A cut entry is 10 even where a 1,025th entry begins.",
+        breaks: "\"The first that applies, in this order, is given\": 12, 11, 10",
+        file: "table.rs",
+        function: "fn walk<",
+        edits: &[Before(
+            "// 12: \"a 65th entry begins\".",
+            "if body_bytes(rest[0]).is_some_and(|bytes| rest.len() < 1 + bytes) { return Err(refused(10)); }",
+        )],
+    },
+    Planted {
+        name: "ClashAmongLastOnly",
+        does: "17 looks at the last 64 entries before an entry.",
+        breaks: "\"the clash rule is unchanged\"",
+        file: "table.rs",
+        function: "fn walk<",
+        edits: &[Instead(
+            "entries.iter().any(|before| clash(before, &entry))",
+            "entries.iter().rev().take(64).any(|before| clash(before, &entry))",
+        )],
+    },
+    Planted {
+        name: "ClashAmongFirstOnly",
+        does: "17 looks at the first 64 entries.",
+        breaks: "\"the clash rule is unchanged\"",
+        file: "table.rs",
+        function: "fn walk<",
+        edits: &[Instead(
+            "entries.iter().any(|before| clash(before, &entry))",
+            "entries.iter().take(64).any(|before| clash(before, &entry))",
+        )],
+    },
+    Planted {
+        name: "BothWaysAmongFirstKeys",
+        does: "45 looks at the first 64 keys.",
+        breaks: "\"Tables that both match some pair are refused with 45 at the first such MD5 entry\"",
+        file: "md5_table.rs",
+        function: "fn read_bytes(&self)",
+        edits: &[Instead(
+            "keys.iter().any(|key| entry.overlaps(key))",
+            "keys.iter().take(64).any(|key| entry.overlaps(key))",
+        )],
+    },
+    Planted {
+        name: "BothWaysAmongFirstMd5",
+        does: "45 looks at the first 64 MD5 entries.",
+        breaks: "\"Tables that both match some pair are refused with 45 at the first such MD5 entry\"",
+        file: "md5_table.rs",
+        function: "fn read_bytes(&self)",
+        edits: &[Instead(
+            "md5.iter().position(both)",
+            "md5.iter().take(64).position(both)",
+        )],
+    },
+    Planted {
+        name: "SendIdAmongFirst",
+        does: "A SendID is looked for among the first 64 entries.",
+        breaks: "\"a search by pair and ID takes the first such entry\"",
+        file: "table.rs",
+        function: "fn by_send_id<",
+        edits: &[Before(
+            "entries\n        .iter()",
+            "let mut first = entries.iter().take(64);
+            return first.find(|entry| entry.send_id == send_id && entry.matches(pair)).copied();",
+        )],
+    },
+    Planted {
+        name: "RecvIdAmongFirst",
+        does: "A RecvID is looked for among the first 64 entries.",
+        breaks: "\"a search by pair and ID takes the first such entry\"",
+        file: "table.rs",
+        function: "fn by_recv_id<",
+        edits: &[Before(
+            "entries\n        .iter()",
+            "let mut first = entries.iter().take(64);
+            return first.find(|entry| entry.recv_id == recv_id && entry.matches(pair)).copied();",
+        )],
+    },
+    Planted {
+        name: "PairAmongFirst",
+        does: "Whether an entry matches a pair is looked for among the first 64.",
+        breaks: "\"25 if any entry matches the pair, otherwise pass\"",
+        file: "table.rs",
+        function: "fn any_matches(",
+        edits: &[Instead(
+            "entries.iter().any(|entry| entry.matches(pair))",
+            "entries.iter().take(64).any(|entry| entry.matches(pair))",
+        )],
+    },
+    Planted {
+        name: "Md5AmongFirst",
+        does: "An MD5 entry is looked for among the first 64.",
+        breaks: "\"a search by pair and ID takes the first such entry\"",
+        file: "md5_table.rs",
+        function: "fn matching<",
+        edits: &[Instead(
+            "entries.iter().find(|entry| entry.matches(pair)).copied()",
+            "entries.iter().take(64).find(|entry| entry.matches(pair)).copied()",
+        )],
+    },
+    Planted {
+        name: "Md5CountLittleEndian",
+        does: "The number of MD5 entries has its lower byte first.",
+        breaks: "\"m, big-endian\"",
+        file: "prepared.rs",
+        function: "fn counts(",
+        edits: &[Instead(
+            "u16::from_be_bytes([bytes[2], bytes[3]])",
+            "u16::from_le_bytes([bytes[2], bytes[3]])",
+        )],
+    },
+    Planted {
+        name: "Md5FlagsLookedAt",
+        does: "A stored MD5 entry whose flags are not 0 counts as none.",
+        breaks: "\"flags | the byte mod 8 | 0\"",
+        file: "prepared.rs",
+        function: "fn read(",
+        edits: &[Instead(
+            "(keys..all).map(|index| stored(index).md5_entry()).collect()",
+            "(keys..all).map(stored).filter(|it| it.back[0] == 0)
+            .map(|it| it.md5_entry()).collect()",
+        )],
+    },
+    Planted {
+        name: "Md5MacBytesLookedAt",
+        does: "A stored MD5 entry whose MAC bytes are not 16 counts as none.",
+        breaks: "\"MAC bytes | raised to 4, lowered to 16 | 16\"",
+        file: "prepared.rs",
+        function: "fn read(",
+        edits: &[Instead(
+            "(keys..all).map(|index| stored(index).md5_entry()).collect()",
+            "(keys..all).map(stored).filter(|it| it.back[2] == DIGEST_BYTES)
+            .map(|it| it.md5_entry()).collect()",
+        )],
+    },
+    Planted {
+        name: "LocalPrefixReadTwice",
+        does: "A stored entry's local prefix length is read as the remote one too.",
+        breaks: "\"N | the remote prefix lengths\"",
+        file: "prepared.rs",
+        function: "fn remote(",
+        edits: &[Instead(
+            "self.side(16, &[before_last, &[last]].concat(), self.remote_prefix)",
+            "self.side(16, &[before_last, &[last]].concat(), self.back[4])",
+        )],
+    },
+    Planted {
+        name: "LocalPrefixStoredTwice",
+        does: "The local prefix length is stored as the remote one too.",
+        breaks: "\"N | the remote prefix lengths\"",
+        file: "prepared.rs",
+        function: "fn write(",
+        edits: &[Instead("entry.remote.prefix", "entry.local.prefix")],
+    },
+    Planted {
+        name: "Md5StoredWithoutAlgorithm",
+        does: "Of an MD5 entry 0 is stored as algorithm.",
+        breaks: "\"Of an MD5 entry 0, 0, 0, 19 and 16 are written as SendID, RecvID, flags, algorithm and MAC bytes.\"",
+        file: "prepared.rs",
+        function: "fn md5_entry(entry",
+        edits: &[Instead("KIND_MD5", "0")],
+    },
+    Planted {
+        name: "Md5StoredWithoutMac",
+        does: "Of an MD5 entry 0 is stored as MAC bytes.",
+        breaks: "\"Of an MD5 entry 0, 0, 0, 19 and 16 are written as SendID, RecvID, flags, algorithm and MAC bytes.\"",
+        file: "prepared.rs",
+        function: "fn md5_entry(entry",
+        edits: &[Instead("DIGEST_BYTES", "0")],
+    },
+    Planted {
+        name: "PreparingLeavesMd5Out",
+        does: "Preparing looks at the key table alone.",
+        breaks: "\"Preparing takes both tables and tests 45 once; the MD5 entries are part of what is prepared\"",
+        file: "calls.rs",
+        function: "fn prepare(",
+        edits: &[Instead("tables.read()?", "Lent { md5: &[], ..*tables }.read()?")],
+    },
+    Planted {
+        name: "FortyFourAfterTwentyOfSyn",
+        does: "Of a bare SYN, 44 comes after 20.",
+        breaks: "\"in the place of 10 to 16\"",
+        file: "calls.rs",
+        function: "fn take_syn<",
+        edits: &[Before(
+            "let tables = addresses_then_tables(source, destination, tables)?;",
+            "addresses(source, destination)?;
+            let refused = tables.read().is_err_and(|refusal| refusal.number == 44);
+            if refused && Header::read(segment).is_none() { return Err(Refusal::of(20)); }",
+        )],
+    },
+    Planted {
+        name: "FortyFourAfterThirty",
+        does: "Of signing, 44 comes after 30.",
+        breaks: "\"in the place of 10 to 16\"",
+        file: "calls.rs",
+        function: "fn sign(",
+        edits: &[Before(
+            "// 10 to 17 and 45, 44.",
+            "let refused = tables.read().is_err_and(|refusal| refusal.number == 44);
+            if refused && Header::read(segment).is_none() { return Err(Refusal::of(30)); }",
+        )],
+    },
+    Planted {
+        name: "SigningFortyFourBeforeEighteen",
+        does: "Of signing, 44 comes before 18.",
+        breaks: "\"in the place of 10 to 16\"",
+        file: "calls.rs",
+        function: "fn sign(",
+        edits: &[Before(
+            "// 18: \"state's family is neither IPv4 nor IPv6\".",
+            "if tables.form != 0 { tables.read()?; }",
+        )],
+    },
+    Planted {
+        name: "AskingFortyFourBeforeEighteen",
+        does: "Of asking, 44 comes before 18.",
+        breaks: "\"in the place of 10 to 16\"",
+        file: "calls.rs",
+        function: "fn ask(",
+        edits: &[Before(
+            "// 18: \"state's family is neither IPv4 nor IPv6\".",
+            "if tables.form != 0 { tables.read()?; }",
+        )],
+    },
+    Planted {
+        name: "OpeningFortyFourBeforeLength",
+        does: "Of an active opening, 44 comes before the 18 of a state's length.",
+        breaks: "\"A state buffer of another length gets 18 from every call that takes one, before any other number.\"",
+        file: "boundary.rs",
+        function: "fn tcpao_open_active(",
+        edits: &[Before(
+            "if State::from_bytes(state).is_none()",
+            "if form != 0 && (Lent { form, keys, md5 }).read().is_err() { return word(44, 0); }",
+        )],
+    },
+    Planted {
+        name: "FortyFourCounted",
+        does: "On an open connection 44 adds one to the count of 20.",
+        breaks: "\"drops 20 to 29 on an open connection add one to that number's count\"",
+        file: "calls.rs",
+        function: "fn judge(",
+        edits: &[Behind("if state.is_open() {", "if refusal.number == 44 { after.count_drop(20); }")],
+    },
+    Planted {
+        name: "CheckingCountsMd5",
+        does: "Checking a prepared table counts its MD5 entries, too.",
+        breaks: "\"of `check_table` how many key entries\"",
+        file: "calls.rs",
+        function: "fn check_table(",
+        edits: &[Instead(
+            "tables.read()?.keys.len()",
+            "{
+                let read = tables.read()?;
+                read.keys.len() + if tables.form == 0 { 0 } else { read.md5.len() }
+            }",
+        )],
+    },
+    Planted {
+        name: "CheckingByBytesAlone",
+        does: "`tcpao_check_table` takes every table as bytes.",
+        breaks: "\"Each call takes the tables' form\"",
+        file: "boundary.rs",
+        function: "fn tcpao_check_table(",
+        edits: &[Instead(
+            "Lent { form, keys, md5 }",
+            "Lent::of_bytes(keys, md5)",
+        )],
+    },
+    Planted {
+        name: "OpeningByBytesAlone",
+        does: "`tcpao_open_active` takes every table as bytes.",
+        breaks: "\"Each call takes the tables' form\"",
+        file: "boundary.rs",
+        function: "fn tcpao_open_active(",
+        edits: &[Instead(
+            "Lent { form, keys, md5 }",
+            "Lent::of_bytes(keys, md5)",
+        )],
+    },
+    Planted {
+        name: "Md5OpeningByBytesAlone",
+        does: "`tcpmd5_open_active` takes every table as bytes.",
+        breaks: "\"Each call takes the tables' form\"",
+        file: "boundary.rs",
+        function: "fn tcpmd5_open_active(",
+        edits: &[Instead(
+            "Lent { form, keys, md5 }",
+            "Lent::of_bytes(keys, md5)",
+        )],
+    },
+    Planted {
+        name: "SynByBytesAlone",
+        does: "`tcpao_judge_syn` takes every table as bytes.",
+        breaks: "\"Each call takes the tables' form\"",
+        file: "boundary.rs",
+        function: "fn tcpao_judge_syn(",
+        edits: &[Instead(
+            "Lent { form, keys, md5 }",
+            "Lent::of_bytes(keys, md5)",
+        )],
+    },
+    Planted {
+        name: "PassiveOpeningByBytesAlone",
+        does: "`tcpao_open_passive` takes every table as bytes.",
+        breaks: "\"Each call takes the tables' form\"",
+        file: "boundary.rs",
+        function: "fn tcpao_open_passive(",
+        edits: &[Instead(
+            "Lent { form, keys, md5 }",
+            "Lent::of_bytes(keys, md5)",
+        )],
+    },
+    Planted {
+        name: "JudgingByBytesAlone",
+        does: "`tcpao_judge` takes every table as bytes.",
+        breaks: "\"Each call takes the tables' form\"",
+        file: "boundary.rs",
+        function: "fn tcpao_judge(",
+        edits: &[Instead(
+            "Lent { form, keys, md5 }",
+            "Lent::of_bytes(keys, md5)",
+        )],
+    },
+    Planted {
+        name: "SigningByBytesAlone",
+        does: "`tcpao_sign` takes every table as bytes.",
+        breaks: "\"Each call takes the tables' form\"",
+        file: "boundary.rs",
+        function: "fn tcpao_sign(",
+        edits: &[Instead(
+            "Lent { form, keys, md5 }",
+            "Lent::of_bytes(keys, md5)",
+        )],
+    },
+    Planted {
+        name: "AskingByBytesAlone",
+        does: "`tcpao_ask` takes every table as bytes.",
+        breaks: "\"Each call takes the tables' form\"",
+        file: "boundary.rs",
+        function: "fn tcpao_ask(",
+        edits: &[Instead(
+            "Lent { form, keys, md5 }",
+            "Lent::of_bytes(keys, md5)",
+        )],
+    },
     // The desk.
     Planted {
         name: "DeskStateNotHandedOn",
@@ -2900,7 +4244,7 @@ pub const FAULTS: &[Planted] = &[
         edits: &[Before(
             "match (record, connection) {",
             "if let Record::Entry(bytes) = record {
-                match table::read(&[&table[..], bytes].concat()) {
+                match table::read_at_most(MOST_ENTRIES, &[&table[..], bytes].concat()) {
                     Err(refusal) if refusal.number != 10 => return Err(Stop::Opening(refusal.number)),
                     _ => {}
                 }
@@ -3025,7 +4369,9 @@ pub const FAULTS: &[Planted] = &[
         function: "fn opened(",
         edits: &[Before(
             "// 18:",
-            "if let Err(refusal) = table::read(table) { return Err(Stop::Opening(refusal.number)); }",
+            "if let Err(refusal) = table::read_at_most(MOST_ENTRIES, table) {
+                return Err(Stop::Opening(refusal.number));
+            }",
         )],
     },
     Planted {
@@ -3034,7 +4380,40 @@ pub const FAULTS: &[Planted] = &[
         breaks: "12: \"a 65th entry begins\"",
         file: "desk.rs",
         function: "fn opened(",
-        edits: &[Instead("table::read(table)", "table::read(&table[..table.len().min(64 * 129)])")],
+        edits: &[Instead(
+            "table::read_at_most(MOST_ENTRIES, table)",
+            "table::read_at_most(MOST_ENTRIES, &table[..table.len().min(64 * 129)])",
+        )],
+    },
+    Planted {
+        name: "DeskTakesThousandEntries",
+        does: "The desk takes 1,024 entries, as the calls do.",
+        breaks: "\"Ticket 1's program stays at 64 entries\"",
+        file: "desk.rs",
+        function: "fn opened(",
+        edits: &[Instead("table::read_at_most(MOST_ENTRIES, table)", "table::read(table)")],
+    },
+    Planted {
+        name: "DeskTakesOneEntryMore",
+        does: "The desk takes a 65th entry.",
+        breaks: "12: \"a 65th entry begins\"; \"Ticket 1's program stays at 64 entries\"",
+        file: "desk.rs",
+        function: "fn opened(",
+        edits: &[Instead(
+            "table::read_at_most(MOST_ENTRIES, table)",
+            "table::read_at_most(MOST_ENTRIES + 1, table)",
+        )],
+    },
+    Planted {
+        name: "DeskFullTableRefused",
+        does: "12 at the desk's 64th entry.",
+        breaks: "12: \"a 65th entry begins\"; \"Ticket 1's program stays at 64 entries\"",
+        file: "desk.rs",
+        function: "fn opened(",
+        edits: &[Instead(
+            "table::read_at_most(MOST_ENTRIES, table)",
+            "table::read_at_most(MOST_ENTRIES - 1, table)",
+        )],
     },
     Planted {
         name: "DeskSendIdNotTested",

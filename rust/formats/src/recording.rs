@@ -6,6 +6,9 @@ use std::net::{IpAddr, SocketAddr};
 
 /// The bytes that an entry's record has room for.
 pub const ENTRY_ROOM: usize = 129;
+/// How many entries the table of a recording may have: a 65th is refused with 12 (document 02, Ticket 8: "Ticket 1's
+/// program stays at 64 entries"), though a key table may have 1,024.
+pub const MOST_ENTRIES: usize = 64;
 /// The bytes that a segment's record has room for.
 pub const SEGMENT_ROOM: usize = 1_598;
 

@@ -88,7 +88,7 @@ fn numbers_in_other_words() {
     }
     let tree = changed(
         numbers::HEADER,
-        "   37   signing: the output is too short\n",
+        "   37   signing, preparing: the output is too short\n",
         "",
     );
     finds(numbers::check, &tree, "37: README.md says");

@@ -23,6 +23,7 @@ pub fn value(word: u64) -> u32 {
 #[derive(Clone, Copy, Debug, PartialEq, Eq, PartialOrd, Ord)]
 pub enum Function {
     CheckTable,
+    Prepare,
     OpenActive,
     OpenActiveMd5,
     JudgeSyn,
@@ -33,8 +34,9 @@ pub enum Function {
 }
 
 impl Function {
-    pub const ALL: [Function; 8] = [
+    pub const ALL: [Function; 9] = [
         Function::CheckTable,
+        Function::Prepare,
         Function::OpenActive,
         Function::OpenActiveMd5,
         Function::JudgeSyn,
@@ -47,6 +49,7 @@ impl Function {
     pub fn name(self) -> &'static str {
         match self {
             Function::CheckTable => "check_table",
+            Function::Prepare => "prepare",
             Function::OpenActive => "open_active",
             Function::OpenActiveMd5 => "md5_open_active",
             Function::JudgeSyn => "judge_syn",
@@ -66,7 +69,13 @@ impl Function {
     }
 
     pub fn takes_state(self) -> bool {
-        !matches!(self, Function::CheckTable | Function::JudgeSyn)
+        use Function::{CheckTable, JudgeSyn, Prepare};
+        !matches!(self, CheckTable | Prepare | JudgeSyn)
+    }
+
+    /// Whether it takes the tables in either form; else only their bytes.
+    pub fn takes_form(self) -> bool {
+        self != Function::Prepare
     }
 
     /// Whether it takes a segment that arrives.
@@ -76,7 +85,8 @@ impl Function {
     }
 
     pub fn takes_addresses(self) -> bool {
-        !matches!(self, Function::CheckTable | Function::Sign | Function::Ask)
+        use Function::{Ask, CheckTable, Prepare, Sign};
+        !matches!(self, CheckTable | Prepare | Sign | Ask)
     }
 }
 
@@ -84,6 +94,8 @@ impl Function {
 #[derive(Clone, Debug)]
 pub struct Call {
     pub function: Function,
+    /// 0: the tables are their own bytes; any other value: `table` is a prepared table.
+    pub form: u8,
     /// The key table.
     pub table: Vec<u8>,
     /// The MD5 table.
@@ -106,10 +118,11 @@ pub struct Call {
 }
 
 impl Call {
-    /// With nothing else: empty buffers, no MD5 table among them, and zeros.
+    /// With nothing else: the table's own bytes, empty buffers, no MD5 table among them, and zeros.
     pub fn new(function: Function, table: &[u8]) -> Call {
         Call {
             function,
+            form: 0,
             table: table.to_vec(),
             md5: vec![],
             source: vec![],
@@ -149,8 +162,10 @@ impl Outcome {
 #[allow(clippy::type_complexity)] // the boundary's own arguments
 #[derive(Clone, Copy, Debug)]
 pub struct Boundary {
-    pub check_table: fn(keys: &[u8], md5: &[u8]) -> u64,
+    pub check_table: fn(form: u8, keys: &[u8], md5: &[u8]) -> u64,
+    pub prepare: fn(keys: &[u8], md5: &[u8], out: &mut [u8]) -> u64,
     pub open_active: fn(
+        form: u8,
         keys: &[u8],
         md5: &[u8],
         local: &[u8],
@@ -162,6 +177,7 @@ pub struct Boundary {
         state: &mut [u8],
     ) -> u64,
     pub open_active_md5: fn(
+        form: u8,
         keys: &[u8],
         md5: &[u8],
         local: &[u8],
@@ -172,6 +188,7 @@ pub struct Boundary {
         state: &mut [u8],
     ) -> u64,
     pub judge_syn: fn(
+        form: u8,
         keys: &[u8],
         md5: &[u8],
         source: &[u8],
@@ -180,6 +197,7 @@ pub struct Boundary {
         setting: u8,
     ) -> u64,
     pub open_passive: fn(
+        form: u8,
         keys: &[u8],
         md5: &[u8],
         source: &[u8],
@@ -190,6 +208,7 @@ pub struct Boundary {
         state: &mut [u8],
     ) -> u64,
     pub judge: fn(
+        form: u8,
         keys: &[u8],
         md5: &[u8],
         source: &[u8],
@@ -197,8 +216,15 @@ pub struct Boundary {
         segment: &[u8],
         state: &mut [u8],
     ) -> u64,
-    pub sign: fn(keys: &[u8], md5: &[u8], segment: &[u8], out: &mut [u8], state: &mut [u8]) -> u64,
-    pub ask: fn(keys: &[u8], md5: &[u8], recv_id: u8, state: &mut [u8]) -> u64,
+    pub sign: fn(
+        form: u8,
+        keys: &[u8],
+        md5: &[u8],
+        segment: &[u8],
+        out: &mut [u8],
+        state: &mut [u8],
+    ) -> u64,
+    pub ask: fn(form: u8, keys: &[u8], md5: &[u8], recv_id: u8, state: &mut [u8]) -> u64,
 }
 
 /// The calls of a module that has them under their names in C, as a [`Boundary`] or as a
@@ -208,6 +234,7 @@ macro_rules! calls_of {
     ($kind:ident, $($module:ident)::+) => {
         $kind {
             check_table: $($module)::+::tcpao_check_table,
+            prepare: $($module)::+::tcpao_prepare,
             open_active: $($module)::+::tcpao_open_active,
             open_active_md5: $($module)::+::tcpmd5_open_active,
             judge_syn: $($module)::+::tcpao_judge_syn,
@@ -232,12 +259,14 @@ impl Boundary {
             byte,
             ..
         } = call;
-        let (isn, byte) = (*isn, *byte);
+        let (form, isn, byte) = (call.form, *isn, *byte);
         let mut out = call.out.clone();
         let mut state = call.state.clone();
         let word = match call.function {
-            Function::CheckTable => (self.check_table)(keys, md5),
+            Function::CheckTable => (self.check_table)(form, keys, md5),
+            Function::Prepare => (self.prepare)(keys, md5, &mut out),
             Function::OpenActive => (self.open_active)(
+                form,
                 keys,
                 md5,
                 source,
@@ -249,6 +278,7 @@ impl Boundary {
                 &mut state,
             ),
             Function::OpenActiveMd5 => (self.open_active_md5)(
+                form,
                 keys,
                 md5,
                 source,
@@ -258,8 +288,11 @@ impl Boundary {
                 isn,
                 &mut state,
             ),
-            Function::JudgeSyn => (self.judge_syn)(keys, md5, source, destination, segment, byte),
+            Function::JudgeSyn => {
+                (self.judge_syn)(form, keys, md5, source, destination, segment, byte)
+            }
             Function::OpenPassive => (self.open_passive)(
+                form,
                 keys,
                 md5,
                 source,
@@ -269,9 +302,11 @@ impl Boundary {
                 byte,
                 &mut state,
             ),
-            Function::Judge => (self.judge)(keys, md5, source, destination, segment, &mut state),
-            Function::Sign => (self.sign)(keys, md5, segment, &mut out, &mut state),
-            Function::Ask => (self.ask)(keys, md5, byte, &mut state),
+            Function::Judge => {
+                (self.judge)(form, keys, md5, source, destination, segment, &mut state)
+            }
+            Function::Sign => (self.sign)(form, keys, md5, segment, &mut out, &mut state),
+            Function::Ask => (self.ask)(form, keys, md5, byte, &mut state),
         };
         Outcome {
             word,

@@ -52,6 +52,8 @@ pub fn translated(segment: &[u8], sender: &Pair, receiver: &Pair) -> Vec<u8> {
 pub struct End {
     pub boundary: Boundary,
     pub pair: Pair,
+    /// 0: the tables are their own bytes; any other value: `table` is a prepared table.
+    pub form: u8,
     /// The key table.
     pub table: Vec<u8>,
     /// The MD5 table.
@@ -65,9 +67,22 @@ impl End {
         End {
             boundary,
             pair,
+            form: 0,
             table,
             md5: vec![],
             state: State::default().bytes(),
+        }
+    }
+
+    /// The same end with its tables prepared, which are not refused.
+    pub fn prepared(&self) -> End {
+        assert_eq!(self.form, 0);
+        let table = crate::prepared::by(self.boundary.prepare, &self.table, &self.md5);
+        End {
+            form: 1,
+            table: table.expect("tables that are not refused"),
+            md5: vec![],
+            ..self.clone()
         }
     }
 
@@ -105,6 +120,7 @@ impl End {
             remote_port,
         } = &self.pair;
         (self.boundary.open_active)(
+            self.form,
             &self.table,
             &self.md5,
             local,
@@ -125,6 +141,7 @@ impl End {
             remote_port,
         } = &self.pair;
         (self.boundary.open_active_md5)(
+            self.form,
             &self.table,
             &self.md5,
             local,
@@ -137,30 +154,37 @@ impl End {
     }
 
     pub fn judge_syn(&self, segment: &[u8], setting: u8) -> u64 {
-        let (keys, md5) = (&self.table, &self.md5);
+        let (form, keys, md5) = (self.form, &self.table, &self.md5);
         let Pair { local, remote, .. } = &self.pair;
-        (self.boundary.judge_syn)(keys, md5, remote, local, segment, setting)
+        (self.boundary.judge_syn)(form, keys, md5, remote, local, segment, setting)
     }
 
     pub fn open_passive(&mut self, segment: &[u8], isn: u32, setting: u8) -> u64 {
-        let (keys, md5) = (&self.table, &self.md5);
+        let (form, keys, md5) = (self.form, &self.table, &self.md5);
         let Pair { local, remote, .. } = &self.pair;
         let state = &mut self.state;
-        (self.boundary.open_passive)(keys, md5, remote, local, segment, isn, setting, state)
+        (self.boundary.open_passive)(form, keys, md5, remote, local, segment, isn, setting, state)
     }
 
     pub fn judge(&mut self, segment: &[u8]) -> u64 {
-        let (keys, md5) = (&self.table, &self.md5);
+        let (form, keys, md5) = (self.form, &self.table, &self.md5);
         let Pair { local, remote, .. } = &self.pair;
-        (self.boundary.judge)(keys, md5, remote, local, segment, &mut self.state)
+        (self.boundary.judge)(form, keys, md5, remote, local, segment, &mut self.state)
     }
 
     pub fn ask(&mut self, recv_id: u8) -> u64 {
-        (self.boundary.ask)(&self.table, &self.md5, recv_id, &mut self.state)
+        (self.boundary.ask)(self.form, &self.table, &self.md5, recv_id, &mut self.state)
     }
 
     pub fn sign_into(&mut self, segment: &[u8], out: &mut [u8]) -> u64 {
-        (self.boundary.sign)(&self.table, &self.md5, segment, out, &mut self.state)
+        (self.boundary.sign)(
+            self.form,
+            &self.table,
+            &self.md5,
+            segment,
+            out,
+            &mut self.state,
+        )
     }
 
     /// Signs into a buffer that is long enough, of which only the signed length's bytes may change,

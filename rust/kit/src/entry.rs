@@ -47,6 +47,12 @@ impl Side {
     }
 }
 
+/// Which bits of an address's byte, by its index, a prefix of so many bits covers.
+pub fn covered(prefix: usize, byte: usize) -> u8 {
+    let bits = prefix.saturating_sub(8 * byte).min(8);
+    !(0xff_u16 >> bits) as u8
+}
+
 /// An entry, good or bad, before it is written. What is not said is [`Entry::default`]'s.
 #[derive(Clone, Debug, PartialEq, Eq)]
 pub struct Entry {

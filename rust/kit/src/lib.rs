@@ -1,6 +1,6 @@
 //! What tests, benchmark and comparison share.
 //!
-//! It knows the bytes that go over the boundary ([`entry`], [`segment`], [`state`]) and the shapes of
+//! It knows the bytes that go over the boundary ([`entry`], [`prepared`], [`segment`], [`state`]) and the shapes of
 //! the calls ([`calls`], [`pointers`]), but neither the archive nor the wrapper nor the reference:
 //! whoever makes a call says on which side. What a builder is not told has a default, so that a field
 //! that comes to an entry, a segment or a call is added in one place.
@@ -12,6 +12,7 @@ pub mod ends;
 pub mod entry;
 pub mod linux;
 pub mod pointers;
+pub mod prepared;
 pub mod program;
 pub mod recording;
 pub mod rollover;

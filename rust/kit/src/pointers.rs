@@ -27,17 +27,18 @@ type N = usize;
 
 /// The calls as the header declares them: each pointer before its length.
 pub struct Calls {
-    pub check_table: unsafe extern "C" fn(In, N, In, N) -> u64,
+    pub check_table: unsafe extern "C" fn(u8, In, N, In, N) -> u64,
+    pub prepare: unsafe extern "C" fn(In, N, In, N, Out, N) -> u64,
     pub open_active:
-        unsafe extern "C" fn(In, N, In, N, In, N, In, N, u16, u16, u32, u8, Out, N) -> u64,
+        unsafe extern "C" fn(u8, In, N, In, N, In, N, In, N, u16, u16, u32, u8, Out, N) -> u64,
     pub open_active_md5:
-        unsafe extern "C" fn(In, N, In, N, In, N, In, N, u16, u16, u32, Out, N) -> u64,
-    pub judge_syn: unsafe extern "C" fn(In, N, In, N, In, N, In, N, In, N, u8) -> u64,
+        unsafe extern "C" fn(u8, In, N, In, N, In, N, In, N, u16, u16, u32, Out, N) -> u64,
+    pub judge_syn: unsafe extern "C" fn(u8, In, N, In, N, In, N, In, N, In, N, u8) -> u64,
     pub open_passive:
-        unsafe extern "C" fn(In, N, In, N, In, N, In, N, In, N, u32, u8, Out, N) -> u64,
-    pub judge: unsafe extern "C" fn(In, N, In, N, In, N, In, N, In, N, Out, N) -> u64,
-    pub sign: unsafe extern "C" fn(In, N, In, N, In, N, Out, N, Out, N) -> u64,
-    pub ask: unsafe extern "C" fn(In, N, In, N, u8, Out, N) -> u64,
+        unsafe extern "C" fn(u8, In, N, In, N, In, N, In, N, In, N, u32, u8, Out, N) -> u64,
+    pub judge: unsafe extern "C" fn(u8, In, N, In, N, In, N, In, N, In, N, Out, N) -> u64,
+    pub sign: unsafe extern "C" fn(u8, In, N, In, N, In, N, Out, N, Out, N) -> u64,
+    pub ask: unsafe extern "C" fn(u8, In, N, In, N, u8, Out, N) -> u64,
 }
 
 impl Calls {
@@ -57,23 +58,24 @@ impl Calls {
             out: Buffer { at: o, length: on },
             state: Buffer { at: w, length: wn },
         } = *buffers;
-        let (isn, byte) = (call.isn, call.byte);
+        let (form, isn, byte) = (call.form, call.isn, call.byte);
         let (local, remote) = (call.local_port, call.remote_port);
         match call.function {
-            Function::CheckTable => (self.check_table)(t, tn, m, mn),
-            Function::OpenActive => {
-                (self.open_active)(t, tn, m, mn, s, sn, d, dn, local, remote, isn, byte, w, wn)
-            }
+            Function::CheckTable => (self.check_table)(form, t, tn, m, mn),
+            Function::Prepare => (self.prepare)(t, tn, m, mn, o, on),
+            Function::OpenActive => (self.open_active)(
+                form, t, tn, m, mn, s, sn, d, dn, local, remote, isn, byte, w, wn,
+            ),
             Function::OpenActiveMd5 => {
-                (self.open_active_md5)(t, tn, m, mn, s, sn, d, dn, local, remote, isn, w, wn)
+                (self.open_active_md5)(form, t, tn, m, mn, s, sn, d, dn, local, remote, isn, w, wn)
             }
-            Function::JudgeSyn => (self.judge_syn)(t, tn, m, mn, s, sn, d, dn, g, gn, byte),
+            Function::JudgeSyn => (self.judge_syn)(form, t, tn, m, mn, s, sn, d, dn, g, gn, byte),
             Function::OpenPassive => {
-                (self.open_passive)(t, tn, m, mn, s, sn, d, dn, g, gn, isn, byte, w, wn)
+                (self.open_passive)(form, t, tn, m, mn, s, sn, d, dn, g, gn, isn, byte, w, wn)
             }
-            Function::Judge => (self.judge)(t, tn, m, mn, s, sn, d, dn, g, gn, w, wn),
-            Function::Sign => (self.sign)(t, tn, m, mn, g, gn, o, on, w, wn),
-            Function::Ask => (self.ask)(t, tn, m, mn, byte, w, wn),
+            Function::Judge => (self.judge)(form, t, tn, m, mn, s, sn, d, dn, g, gn, w, wn),
+            Function::Sign => (self.sign)(form, t, tn, m, mn, g, gn, o, on, w, wn),
+            Function::Ask => (self.ask)(form, t, tn, m, mn, byte, w, wn),
         }
     }
 }

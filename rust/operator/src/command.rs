@@ -243,7 +243,7 @@ fn desk(arguments: &Arguments, writers: &mut Writers) -> Result<u8, Stop> {
     let path = arguments.one("the capture")?;
     let (endpoint, choice) = (endpoint(arguments)?, choice(arguments)?);
     let mirrored = endpoint.mirrored()?;
-    let views = Views::new(&endpoint, &mirrored)?;
+    let views = Views::new(&endpoint, &mirrored);
     let open = || std::fs::File::open(path);
     let desk = Desk::new(open(), views, choice).map_err(|stop| of_file(path, stop))?;
     let (out, first) = (&mut writers.out, desk.walked().first);
@@ -301,7 +301,7 @@ fn write_recording(arguments: &Arguments, writers: &mut Writers) -> Result<u8, S
     let endpoint = endpoint(arguments)?;
     not_a_terminal()?;
     let mirrored = endpoint.mirrored()?;
-    let views = Views::new(&endpoint, &mirrored)?;
+    let views = Views::new(&endpoint, &mirrored);
     let desk = Desk::new(open(), views, choice).map_err(|stop| of_file(path, stop))?;
     write!(writers.err, "{}", show::list(desk.found()))?;
     let status = ended(path, desk.walked(), writers)?;

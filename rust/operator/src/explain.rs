@@ -50,7 +50,7 @@ const ROWS: &[(u8, &str, &str)] = &[
     ),
     (
         12,
-        "The table has more entries than a table may have.",
+        "The table has more than 1,024 entries; a recording's table, more than 64.",
         "Take away entries of keys that are no longer used, or join peers under one prefix.",
     ),
     (
@@ -185,7 +185,7 @@ const ROWS: &[(u8, &str, &str)] = &[
     (
         37,
         "The output buffer is too short.",
-        "Lend 40 bytes more than the segment has.",
+        "Signing: lend 20 bytes more than the segment has. Preparing: 4, and 129 more for each entry of both tables.",
     ),
     (
         38,
@@ -216,8 +216,9 @@ const ROWS: &[(u8, &str, &str)] = &[
     ),
     (
         44,
-        "Bytes that were prepared by another version, were damaged, or are no prepared table.",
-        "Prepare the tables again from their own bytes.",
+        "A length that is not the one preparing gave (the room of the buffer, say), bytes that are no prepared table, or \
+         an MD5 table lent beside a prepared one. Damage that leaves length and counts right is not noticed.",
+        "Prepare the tables again from their own bytes, and give the length that preparing gave.",
     ),
     (
         45,

@@ -3,7 +3,6 @@
 //! A capture has both ends' segments, a table is one end's. What arrives at that end is judged by the table, what
 //! arrives at the other by the table's mirror.
 
-use crate::stop::Stop;
 use crate::tables::Endpoint;
 use embankery::{judge_syn, Connection, Refusal, Tables, UnknownKeyId, Verdict};
 use formats::capture::tcp::{with_checksum, Header, Signature};
@@ -122,11 +121,11 @@ pub struct Views<'a> {
 
 impl<'a> Views<'a> {
     /// An endpoint's tables, and their mirror: [`Endpoint::mirrored`].
-    pub fn new(endpoint: &'a Endpoint, mirrored: &'a Endpoint) -> Result<Views<'a>, Stop> {
-        Ok(Views {
-            ours: endpoint.tables()?,
-            peers: mirrored.tables()?,
-        })
+    pub fn new(endpoint: &'a Endpoint, mirrored: &'a Endpoint) -> Views<'a> {
+        Views {
+            ours: endpoint.tables(),
+            peers: mirrored.tables(),
+        }
     }
 
     /// The tables by which what arrives at an end is judged.

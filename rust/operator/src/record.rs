@@ -5,7 +5,7 @@ use crate::openings::{Direction, Opening};
 use crate::stop::Stop;
 use crate::tables::{matching, Endpoint};
 use embankery::{Connection, Way};
-use formats::recording::{Opened, Recording, SEGMENT_ROOM};
+use formats::recording::{Opened, Recording, MOST_ENTRIES, SEGMENT_ROOM};
 use std::io::{self, Read, Write};
 
 /// What was recorded.
@@ -46,6 +46,11 @@ pub fn record<R: Read>(
         Direction::Out => mirrored.keys(),
     };
     let entries = matching(table, [state.local(), state.remote()]);
+    if entries.len() > MOST_ENTRIES {
+        let (number, count) = (opening.number, entries.len());
+        let words = format!("{count} entries match it, and a recording may have {MOST_ENTRIES}");
+        return Err(Stop::refused(format!("connection {number}: {words}")));
+    }
     let mut recording = Recording::begin(out, entries, &just_opened(state))?;
     let (mut segments, mut left_out) = (0, 0);
     desk.judge(input, &mut |line| {

@@ -2,7 +2,7 @@
 
 use crate::stop::Stop;
 use embankery::{Connection, Covered, Entry as Builder, KeyTable, Md5Entry};
-use embankery::{Md5Table, Refusal, Table, Tables};
+use embankery::{Md5Table, PreparedTables, Refusal, Table, Tables};
 use formats::entry::{split, Algorithm, Entry, Signing};
 use formats::text::{self, Keys, Kind};
 use std::fs;
@@ -23,6 +23,9 @@ pub struct File {
 pub struct Endpoint {
     keys: KeyTable,
     md5: Md5Table,
+    /// Both once more, so that no call checks them again: with a thousand keys each would take a thousandth of a second
+    /// and more.
+    prepared: PreparedTables,
 }
 
 impl File {
@@ -153,15 +156,8 @@ fn bytes_of(entry: &Entry) -> Vec<u8> {
 
 /// Both files as an endpoint's tables; what is wrong with them, in words.
 pub fn checked(keys: &File, md5: &File) -> Result<Endpoint, Stop> {
-    let endpoint = || {
-        let endpoint = Endpoint {
-            keys: KeyTable::from_bytes(&keys.bytes[..])?,
-            md5: Md5Table::from_bytes(&md5.bytes[..])?,
-        };
-        Tables::new(&endpoint.keys, &endpoint.md5)?;
-        Ok(endpoint)
-    };
-    endpoint().map_err(|refusal| Stop::refused(in_words(refusal, keys, md5)))
+    let endpoint = Endpoint::new(&keys.bytes, &md5.bytes);
+    endpoint.map_err(|refusal| Stop::refused(in_words(refusal, keys, md5)))
 }
 
 /// A table's refusal: where, its number, its meaning; of a clash both entries and a pair that both match.
@@ -268,9 +264,20 @@ fn one_line(entry: &Entry) -> String {
 }
 
 impl Endpoint {
+    /// Of both tables' bytes.
+    fn new(keys: &[u8], md5: &[u8]) -> Result<Endpoint, Refusal> {
+        let (keys, md5) = (KeyTable::from_bytes(keys)?, Md5Table::from_bytes(md5)?);
+        let prepared = Tables::new(&keys, &md5)?.prepared()?;
+        Ok(Endpoint {
+            keys,
+            md5,
+            prepared,
+        })
+    }
+
     /// Both tables, as the archive's calls take them.
-    pub fn tables(&self) -> Result<Tables<'_>, Stop> {
-        Ok(Tables::new(&self.keys, &self.md5)?)
+    pub fn tables(&self) -> Tables<'_> {
+        Tables::from(&self.prepared)
     }
 
     /// The tables of an endpoint at the other end of each connection: every entry mirrored.
@@ -281,10 +288,8 @@ impl Endpoint {
                 .flat_map(|entry| bytes_of(&entry.mirrored()))
                 .collect()
         };
-        Ok(Endpoint {
-            keys: KeyTable::from_bytes(mirrored(self.keys.as_bytes()))?,
-            md5: Md5Table::from_bytes(mirrored(self.md5.as_bytes()))?,
-        })
+        let (keys, md5) = (self.keys.as_bytes(), self.md5.as_bytes());
+        Ok(Endpoint::new(&mirrored(keys), &mirrored(md5))?)
     }
 
     /// The key table.

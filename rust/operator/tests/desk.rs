@@ -4,6 +4,7 @@
 mod common;
 
 use common::*;
+use embankery::{Entry, KeyTable};
 use kit::capture::{packet, Form, Wrap};
 use kit::segment::{summed, ACK, SYN};
 use operator::desk::{Choice, Fate};
@@ -48,6 +49,27 @@ fn as_sent() {
     assert_eq!((client.accepted, server.accepted), (3, 7));
     assert_eq!(lines[0].direction, Direction::Out);
     assert_eq!(lines[1].direction, Direction::In);
+}
+
+/// The connection's entry is the last of 1,024 (document 02, Ticket 8): the same lines as with that entry alone.
+#[test]
+fn a_thousand_keys() {
+    let mut line = line();
+    line.packets[4][70] ^= 1;
+    let file = plain(&line.packets);
+    let other = |i: u16| {
+        let [high, low] = i.to_be_bytes();
+        Entry::ipv4().remote([192, 168, high, low], 32).key(b"key")
+    };
+    let others: Vec<Entry> = (0..1_023).map(|i| other(i).build().unwrap()).collect();
+    let mut bytes: Vec<u8> = others.iter().flat_map(|e| e.as_bytes().to_vec()).collect();
+    bytes.extend_from_slice(line.tables[0].as_bytes());
+    let all = KeyTable::from_bytes(bytes).unwrap();
+    assert_eq!(all.len(), 1_024);
+    let lines = |endpoint: &_| at_desk(&file, endpoint, Choice::default()).unwrap().0;
+    let alone = lines(&line.endpoint());
+    assert_eq!(alone.len(), line.packets.len());
+    assert_eq!(lines(&endpoint(&all)), alone);
 }
 
 #[test]

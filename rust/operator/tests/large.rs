@@ -29,7 +29,7 @@ fn sixty_four_megabytes() {
     let file = Endless::new(opening, again.collect(), LENGTH);
     let endpoint = line.endpoint();
     let mirrored = endpoint.mirrored().unwrap();
-    let views = Views::new(&endpoint, &mirrored).unwrap();
+    let views = Views::new(&endpoint, &mirrored);
     let before = most_memory();
     let desk = Desk::new(Ok(file.clone()), views, Choice::default()).unwrap();
     let mut lines = 0;

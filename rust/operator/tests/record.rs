@@ -129,6 +129,38 @@ fn only_entries_that_match() {
     }
 }
 
+/// A recording has at most 64 entries (document 02, Ticket 8), though more may match the connection.
+#[test]
+fn at_most_sixty_four_entries() {
+    let table = |count: u8, local: [u8; 4], remote: [u8; 4]| {
+        let entry = |id: u8| {
+            let sides = Entry::ipv4().local(local, 32).remote(remote, 32);
+            let entry = sides.send_id(id).recv_id(id).key(b"the key");
+            entry.build().unwrap()
+        };
+        let entries: Vec<Entry> = (0..count).map(entry).collect();
+        KeyTable::new(&entries).unwrap()
+    };
+    for count in [1, 64, 65, 255] {
+        let ends = [(CLIENT.0, SERVER.0), (SERVER.0, CLIENT.0)];
+        let tables = ends.map(|(local, remote)| table(count, local, remote));
+        let mut line = Line::open_with(tables, ISNS, 0);
+        line.sends(1, 1, b"a");
+        let (file, endpoint) = (plain(&line.packets), line.endpoint());
+        if count <= 64 {
+            let (bytes, recorded) = recording(&file, &endpoint, Choice::default(), IN).unwrap();
+            assert_eq!(recorded.segments, 1);
+            assert_eq!(bytes.len(), 131 * usize::from(count) + 48 + 1_601);
+        } else {
+            let words =
+                format!("connection 1: {count} entries match it, and a recording may have 64");
+            refused(&file, &endpoint, Choice::default(), 1, &words);
+        }
+        // The desk judges it all the same.
+        assert_eq!(numbers(&file, &endpoint), [Some(0); 3]);
+    }
+}
+
 /// Segments that are longer than a record, or that the capture has not whole, are left out and counted.
 #[test]
 fn left_out() {

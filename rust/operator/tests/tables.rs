@@ -131,14 +131,8 @@ fn numbered(i: usize) -> Vec<u8> {
     .bytes()
 }
 
-/// How many entries a table may have: 64, or with document 02's Ticket 8 1,024.
-fn most_entries() -> usize {
-    let table: Vec<u8> = (0..65).flat_map(numbered).collect();
-    match of(&table) {
-        Ok(_) => 1_024,
-        Err(_) => 64,
-    }
-}
+/// How many entries a table may have (document 02, Ticket 8).
+const MOST_ENTRIES: usize = 1_024;
 
 /// Every refusal of a table's entry, from text: the line, the entry, the number and its meaning.
 #[test]
@@ -173,7 +167,7 @@ fn every_refusal_from_text() {
         let meaning = embankery::Refusal::meaning_of(number).unwrap();
         assert!(said.contains(meaning), "{said}");
     }
-    let most = most_entries();
+    let most = MOST_ENTRIES;
     let many: String = (0..=most)
         .map(|i| {
             let (high, low) = (i / 256, i % 256);
@@ -224,8 +218,10 @@ fn every_refusal_from_bytes() {
         let place = format!("keys.txt, byte 104, entry 1: {number}: ");
         assert!(said.starts_with(&place), "{number}: {said}");
     }
-    let most = most_entries();
+    let most = MOST_ENTRIES;
     let many: Vec<u8> = (0..=most).flat_map(numbered).collect();
+    let full = of(&many[..104 * most]).unwrap();
+    assert_eq!(full.keys().len(), most);
     let place = format!("keys.txt, byte {}, entry {most}: 12: ", 104 * most);
     assert!(words(&many).starts_with(&place));
     assert!(words(&good.bytes()[..50]).starts_with("keys.txt, byte 0, entry 0: 10: "));
@@ -251,6 +247,46 @@ and they share SendID or RecvID
     both match local 0.0.0.0:0, remote 10.1.0.1:0";
     assert_eq!(said(&clash), expected);
     assert!(words(&peer(1).bytes()).starts_with("keys.txt, byte 0, entry 0: 13: "));
+}
+
+/// Both tables full: 1,024 entries each, and one more of either.
+#[test]
+fn two_full_tables() {
+    let keys: Vec<u8> = (0..=MOST_ENTRIES).flat_map(numbered).collect();
+    let peer = |i: usize| md5_entry(Side::host(&[172, 16, (i / 256) as u8, (i % 256) as u8]));
+    let md5: Vec<u8> = (0..=MOST_ENTRIES).flat_map(|i| peer(i).bytes()).collect();
+    let (full_keys, full_md5) = (&keys[..104 * MOST_ENTRIES], &md5[..104 * MOST_ENTRIES]);
+    let endpoint = both(full_keys, full_md5).unwrap();
+    let lengths = |endpoint: &Endpoint| (endpoint.keys().len(), endpoint.md5().len());
+    assert_eq!(lengths(&endpoint), (MOST_ENTRIES, MOST_ENTRIES));
+    let mirrored = endpoint.mirrored().unwrap();
+    assert_eq!(lengths(&mirrored), (MOST_ENTRIES, MOST_ENTRIES));
+    let again = mirrored.mirrored().unwrap();
+    assert_eq!(again.keys().as_bytes(), full_keys);
+    assert_eq!(again.md5().as_bytes(), full_md5);
+    let text = both(full_keys, b"").unwrap().text(Keys::Shown);
+    assert_eq!(of(text.as_bytes()).unwrap().keys().as_bytes(), full_keys);
+
+    let said = |keys: &[u8], md5: &[u8]| both(keys, md5).unwrap_err().words;
+    let place = |file: &str| {
+        format!(
+            "{file}, byte {}, entry {MOST_ENTRIES}: 12: ",
+            104 * MOST_ENTRIES
+        )
+    };
+    assert!(said(&keys, full_md5).starts_with(&place("keys.txt")));
+    assert!(said(full_keys, &md5).starts_with(&place("md5.txt")));
+    // 45 at the last entry of each.
+    let last = [
+        &md5[..104 * (MOST_ENTRIES - 1)],
+        &md5_entry(Side::host(&[10, 0, 3, 255])).bytes(),
+    ];
+    let words = said(full_keys, &last.concat());
+    assert!(words.starts_with(&format!("md5.txt, byte {}, entry 1023: 45: ", 104 * 1_023)));
+    assert!(
+        words.contains("keys.txt, byte 106392, entry 1023: "),
+        "{words}"
+    );
 }
 
 /// Of a clash, both entries and a pair that both match.

@@ -47,9 +47,21 @@ fn setting_of(byte: u8) -> Setting {
 }
 
 /// `tcpao_check_table`; done gives how many key entries there are.
-pub fn tcpao_check_table(keys: &[u8], md5: &[u8]) -> u64 {
-    match calls::check_table(&Lent { keys, md5 }) {
+pub fn tcpao_check_table(form: u8, keys: &[u8], md5: &[u8]) -> u64 {
+    match calls::check_table(&Lent { form, keys, md5 }) {
         Ok(count) => word(0, count),
+        Err(refusal) => refusal_word(refusal),
+    }
+}
+
+/// `tcpao_prepare`; done gives the length written. READINGS 25: it "writes only its own length".
+pub fn tcpao_prepare(keys: &[u8], md5: &[u8], out: &mut [u8]) -> u64 {
+    let tables = Lent::of_bytes(keys, md5);
+    match calls::prepare(&tables, out.len()) {
+        Ok(prepared) => {
+            out[..prepared.len()].copy_from_slice(&prepared);
+            word(0, prepared.len() as u32)
+        }
         Err(refusal) => refusal_word(refusal),
     }
 }
@@ -57,6 +69,7 @@ pub fn tcpao_check_table(keys: &[u8], md5: &[u8]) -> u64 {
 /// `tcpao_open_active`; the state is written only if the opening is not refused.
 #[allow(clippy::too_many_arguments)] // the boundary's own arguments
 pub fn tcpao_open_active(
+    form: u8,
     keys: &[u8],
     md5: &[u8],
     local: &[u8],
@@ -76,7 +89,7 @@ pub fn tcpao_open_active(
         local_port,
         remote_port,
     };
-    let (result, opened) = calls::open_active(&Lent { keys, md5 }, &pair, isn, send_id);
+    let (result, opened) = calls::open_active(&Lent { form, keys, md5 }, &pair, isn, send_id);
     if result.is_ok() {
         state.copy_from_slice(&opened.to_bytes());
     }
@@ -89,6 +102,7 @@ pub fn tcpao_open_active(
 /// `tcpmd5_open_active`, likewise.
 #[allow(clippy::too_many_arguments)] // the boundary's own arguments
 pub fn tcpmd5_open_active(
+    form: u8,
     keys: &[u8],
     md5: &[u8],
     local: &[u8],
@@ -107,7 +121,7 @@ pub fn tcpmd5_open_active(
         local_port,
         remote_port,
     };
-    let (result, opened) = calls::open_active_md5(&Lent { keys, md5 }, &pair, isn);
+    let (result, opened) = calls::open_active_md5(&Lent { form, keys, md5 }, &pair, isn);
     if result.is_ok() {
         state.copy_from_slice(&opened.to_bytes());
     }
@@ -119,6 +133,7 @@ pub fn tcpmd5_open_active(
 
 /// `tcpao_judge_syn`; it takes no state.
 pub fn tcpao_judge_syn(
+    form: u8,
     keys: &[u8],
     md5: &[u8],
     source: &[u8],
@@ -127,7 +142,7 @@ pub fn tcpao_judge_syn(
     setting: u8,
 ) -> u64 {
     let setting = setting_of(setting);
-    let tables = Lent { keys, md5 };
+    let tables = Lent { form, keys, md5 };
     let verdict = calls::judge_syn(&tables, source, destination, segment, setting);
     verdict_word(verdict)
 }
@@ -136,6 +151,7 @@ pub fn tcpao_judge_syn(
 /// that were there.
 #[allow(clippy::too_many_arguments)] // the boundary's own arguments
 pub fn tcpao_open_passive(
+    form: u8,
     keys: &[u8],
     md5: &[u8],
     source: &[u8],
@@ -149,7 +165,7 @@ pub fn tcpao_open_passive(
         return word(18, 0);
     }
     let setting = setting_of(setting);
-    let tables = Lent { keys, md5 };
+    let tables = Lent { form, keys, md5 };
     let (verdict, opened) =
         calls::open_passive(&tables, source, destination, segment, isn, setting);
     if !matches!(verdict, Verdict::Drop(_)) {
@@ -160,6 +176,7 @@ pub fn tcpao_open_passive(
 
 /// `tcpao_judge`; the state is written on acceptance, and for a drop's count on an open connection.
 pub fn tcpao_judge(
+    form: u8,
     keys: &[u8],
     md5: &[u8],
     source: &[u8],
@@ -170,7 +187,7 @@ pub fn tcpao_judge(
     let Some(before) = State::from_bytes(state) else {
         return word(18, 0);
     };
-    let tables = Lent { keys, md5 };
+    let tables = Lent { form, keys, md5 };
     let (verdict, after) = calls::judge(&tables, source, destination, segment, &before);
     state.copy_from_slice(&after.to_bytes());
     verdict_word(verdict)
@@ -179,6 +196,7 @@ pub fn tcpao_judge(
 /// `tcpao_sign`; done gives the signed length. "Signing writes only the signed length's bytes of
 /// the output."
 pub fn tcpao_sign(
+    form: u8,
     keys: &[u8],
     md5: &[u8],
     segment: &[u8],
@@ -188,7 +206,7 @@ pub fn tcpao_sign(
     let Some(before) = State::from_bytes(state) else {
         return word(18, 0);
     };
-    match calls::sign(&Lent { keys, md5 }, segment, out.len(), &before) {
+    match calls::sign(&Lent { form, keys, md5 }, segment, out.len(), &before) {
         Ok(signed) => {
             let length = signed.segment.len();
             out[..length].copy_from_slice(&signed.segment);
@@ -200,11 +218,11 @@ pub fn tcpao_sign(
 }
 
 /// `tcpao_ask`.
-pub fn tcpao_ask(keys: &[u8], md5: &[u8], recv_id: u8, state: &mut [u8]) -> u64 {
+pub fn tcpao_ask(form: u8, keys: &[u8], md5: &[u8], recv_id: u8, state: &mut [u8]) -> u64 {
     let Some(before) = State::from_bytes(state) else {
         return word(18, 0);
     };
-    match calls::ask(&Lent { keys, md5 }, recv_id, &before) {
+    match calls::ask(&Lent { form, keys, md5 }, recv_id, &before) {
         Ok(after) => {
             state.copy_from_slice(&after.to_bytes());
             word(0, 0)

@@ -3,13 +3,14 @@
 //! In each call the numbers are looked for in the order of document 01's table, one after another:
 //! "The first that applies, in this order, is given". 32 is "tested now after 35" (Ticket 4), 40
 //! "tested after 20 and before 21" (Ticket 5), 45 "behind the key table's and then the MD5 table's refusals
-//! and before 20", 46 and 47 "before 25" (Ticket 9).
+//! and before 20", 46 and 47 "before 25" (Ticket 9), 44 "in the place of 10 to 16" (Ticket 8).
 
 use crate::answer::{Refusal, Verdict};
 use crate::checksum::{self, CHECKSUM};
 use crate::mac::{self, Direction, Ends};
 use crate::md5_table::{matching, Lent, Md5Entry, Tables};
 use crate::position::{extension, moved, position};
+use crate::prepared;
 use crate::segment::{
     read_options, AoOption, Header, Md5Option, Options, WithAo, KIND_MD5, KIND_NO_OPERATION,
     KIND_TCP_AO, OPTIONS_AT,
@@ -18,12 +19,22 @@ use crate::state::{State, COUNTED, STAGE_OPEN, WAY_MD5};
 use crate::table::{any_matches, by_recv_id, by_send_id, Entry, Pair};
 use crate::tcp_md5;
 
-/// Checks both tables (10 to 17, 45) and says how many entries the key table has.
+/// Checks both tables (10 to 17, 45; 44) and says how many entries the key table has.
 pub fn check_table(tables: &Lent) -> Result<u32, Refusal> {
     Ok(tables.read()?.keys.len() as u32)
 }
 
-/// Opens actively (19, 10 to 17, 45, 35). A refused opening returns the empty state beside its number.
+/// Prepares both tables (10 to 17, 45, 37) for an output of so many bytes. READINGS 25: it "gives the table's
+/// refusal, or 37 if the output is too short".
+pub fn prepare(tables: &Lent, room: usize) -> Result<Vec<u8>, Refusal> {
+    let prepared = prepared::write(&tables.read()?);
+    if room < prepared.len() {
+        return Err(Refusal::of(37));
+    }
+    Ok(prepared)
+}
+
+/// Opens actively (19, 10 to 17, 45, 44, 35). A refused opening returns the empty state beside its number.
 ///
 /// "Active opening names a SendID; its entry must match the pair. It gives the outgoing key and, by
 /// RecvID, the key asked of the peer."
@@ -36,7 +47,7 @@ pub fn open_active(
     opened(opening_state(tables, pair, isn, send_id))
 }
 
-/// Opens actively by MD5 (19, 10 to 17, 45, 35).
+/// Opens actively by MD5 (19, 10 to 17, 45, 44, 35).
 pub fn open_active_md5(tables: &Lent, pair: &Pair, isn: u32) -> (Result<(), Refusal>, State) {
     opened(opening_state_md5(tables, pair, isn))
 }
@@ -50,7 +61,7 @@ fn opened(opening: Result<State, Refusal>) -> (Result<(), Refusal>, State) {
 }
 
 fn opening_state_md5(tables: &Lent, pair: &Pair, isn: u32) -> Result<State, Refusal> {
-    // 19, 10 to 17 and 45.
+    // 19, 10 to 17 and 45, 44.
     let tables = addresses_then_tables(pair.local, pair.remote, tables)?;
 
     // 35: "kind 19 with no entry with 26 (opening, signing: 35; asking: always 35)".
@@ -67,7 +78,7 @@ fn opening_state_md5(tables: &Lent, pair: &Pair, isn: u32) -> Result<State, Refu
 }
 
 fn opening_state(tables: &Lent, pair: &Pair, isn: u32, send_id: u8) -> Result<State, Refusal> {
-    // 19, 10 to 17 and 45.
+    // 19, 10 to 17 and 45, 44.
     let entries = addresses_then_tables(pair.local, pair.remote, tables)?.keys;
 
     // 35: "no entry matching the pair has the outgoing SendID (opening, signing)".
@@ -94,7 +105,7 @@ pub enum Setting {
     Drop,
 }
 
-/// Judges a bare SYN without a state (19, 10 to 17, 45, 20, 40, 21, 22, 24, then 25, 26, 27, 29 or, by MD5,
+/// Judges a bare SYN without a state (19, 10 to 17, 45, 44, 20, 40, 21, 22, 24, then 25, 26, 27, 29 or, by MD5,
 /// 46, 47, 27, 29).
 ///
 /// "Passive: a bare SYN is judged without a state."
@@ -183,7 +194,7 @@ fn take_syn<'t>(
     segment: &[u8],
     setting: Setting,
 ) -> Result<Option<AcceptedSyn<'t>>, Refusal> {
-    // 19, 10 to 17 and 45.
+    // 19, 10 to 17 and 45, 44.
     let tables = addresses_then_tables(source, destination, tables)?;
     let entries = tables.keys;
 
@@ -319,7 +330,7 @@ fn unknown_key_id(entries: &[Entry], pair: &Pair, setting: Setting) -> Result<()
     }
 }
 
-/// Judges a segment that arrives on a connection, opening or open (18, 19, 10 to 17, 45, 20, 40, 21 to 24, then
+/// Judges a segment that arrives on a connection, opening or open (18, 19, 10 to 17, 45, 44, 20, 40, 21 to 24, then
 /// 25 to 29 or, by MD5, 46, 47, 26, 27, 29).
 pub fn judge(
     tables: &Lent,
@@ -359,7 +370,7 @@ fn take_arrival(
     // 18: "state's family is neither IPv4 nor IPv6".
     let pair = before.pair().ok_or(Refusal::of(18))?;
 
-    // 19, 10 to 17 and 45.
+    // 19, 10 to 17 and 45, 44.
     let tables = addresses_then_tables(source, destination, tables)?;
     let entries = tables.keys;
 
@@ -485,7 +496,7 @@ pub struct Signed {
     pub state: State,
 }
 
-/// Signs a segment (18, 10 to 17, 45, 30, 31, 33, 34, 35, 32, 36, 37); `room` is how many bytes the output has.
+/// Signs a segment (18, 10 to 17, 45, 44, 30, 31, 33, 34, 35, 32, 36, 37); `room` is how many bytes the output has.
 ///
 /// "Signing puts TCP-AO directly after byte 20, the old options behind it, raises the data offset
 /// by 4, and writes checksum zero. KeyID is the outgoing SendID, RNextKeyID the asked RecvID." Ticket 4:
@@ -496,7 +507,7 @@ pub fn sign(tables: &Lent, segment: &[u8], room: usize, state: &State) -> Result
     // 18: "state's family is neither IPv4 nor IPv6".
     let pair = state.pair().ok_or(Refusal::of(18))?;
 
-    // 10 to 17 and 45.
+    // 10 to 17 and 45, 44.
     let tables = tables.read()?;
     let entries = &tables.keys;
 
@@ -681,14 +692,14 @@ fn sign_md5(
     })
 }
 
-/// Sets the RecvID asked of the peer (18, 10 to 17, 45, 35).
+/// Sets the RecvID asked of the peer (18, 10 to 17, 45, 44, 35).
 ///
 /// "An operator call sets the RecvID asked of the peer; nothing else does."
 pub fn ask(tables: &Lent, recv_id: u8, state: &State) -> Result<State, Refusal> {
     // 18: "state's family is neither IPv4 nor IPv6".
     let pair = state.pair().ok_or(Refusal::of(18))?;
 
-    // 10 to 17 and 45.
+    // 10 to 17 and 45, 44.
     let entries = tables.read()?.keys;
 
     // 35, on the MD5 way: "asking: always 35".

@@ -9,6 +9,9 @@ use crate::md5_table::Lent;
 use crate::state::{State, STAGE_OPEN};
 use crate::table::{self, by_recv_id, by_send_id};
 
+/// Ticket 8: "Ticket 1's program stays at 64 entries"; here 12 is still document 01's, "a 65th entry begins".
+const MOST_ENTRIES: usize = 64;
+
 /// What stops the program, with its last line.
 enum Stop {
     /// "with a last line of 38 and the record's index".
@@ -123,8 +126,9 @@ fn opened(table: &[u8], body: &[u8]) -> Result<State, Stop> {
     // 18: "state's family is neither IPv4 nor IPv6".
     let pair = state.pair().ok_or(Stop::Opening(18))?;
 
-    // 10 to 17, of the entries joined. "Ticket 1's program stays at 64 entries".
-    let entries = table::read(table).map_err(|refusal| Stop::Opening(refusal.number))?;
+    // 10 to 17, of the entries joined; 12 at the 65th.
+    let entries = table::read_at_most(MOST_ENTRIES, table);
+    let entries = entries.map_err(|refusal| Stop::Opening(refusal.number))?;
 
     // 35: "no entry matching the pair has the outgoing SendID (opening, signing)".
     if by_send_id(&entries, &pair, state.outgoing_send_id).is_none() {
@@ -169,6 +173,7 @@ fn just_opened(body: &[u8]) -> State {
 /// side.
 fn judged(table: &[u8], segment: &[u8], state: &State) -> (String, State) {
     let tables = Lent {
+        form: 0,
         keys: table,
         md5: &[],
     };

@@ -1,5 +1,5 @@
 //! TCP-AO by the rules of document 01, once more in plain Rust. Of document 02, Tickets 2, 4,
-//! 13, 5, 10, 9 and 1 are in it.
+//! 13, 5, 10, 9, 1 and 8 are in it.
 //!
 //! This package was written from the papers alone: documents 01 and 02, `BOUNDARY.md` for the bytes
 //! at the C boundary, and the public standards (FIPS 180-4, RFC 2104, FIPS 197, RFC 4493, RFC 1071, RFC
@@ -25,6 +25,7 @@ pub mod desk;
 pub mod mac;
 pub mod md5_table;
 pub mod position;
+pub mod prepared;
 pub mod segment;
 pub mod state;
 pub mod table;

@@ -1,22 +1,23 @@
-//! The table of MD5 keys (Ticket 9), and both tables together.
+//! The table of MD5 keys (Ticket 9), and both tables together, as bytes or prepared (Ticket 8).
 //!
 //! It has document 01's entry bytes, of kinds 4 and 6 alone, with flags 0, algorithm 19, SendID 0 and RecvID
 //! 0: "a table of its own in a form that you document, under refusals 10 to 17 (17 if two entries match one
 //! pair)".
 
 use crate::answer::Refusal;
+use crate::prepared;
 use crate::segment::KIND_MD5;
 use crate::table::{
-    self, address_bytes, read_key, read_sides, test_sides, walk, Entry, Pair, Side,
+    self, address_bytes, read_key, read_sides, test_sides, walk, Entry, Pair, Side, MOST_ENTRIES,
 };
 
 /// An entry of an MD5 table that was found well formed.
 #[derive(Clone, Copy, Debug, PartialEq, Eq)]
 pub struct Md5Entry<'a> {
     /// Our side.
-    pub local: Side<'a>,
+    pub local: Side,
     /// The peer's side.
-    pub remote: Side<'a>,
+    pub remote: Side,
     /// The key, 1 to 80 bytes.
     pub key: &'a [u8],
 }
@@ -48,7 +49,7 @@ impl Md5Entry<'_> {
 
 /// Reads an MD5 table, or says what the first refused entry is refused with.
 pub fn read(table: &[u8]) -> Result<Vec<Md5Entry<'_>>, Refusal> {
-    walk(table, body_bytes, read_body, |one, other| {
+    walk(table, MOST_ENTRIES, body_bytes, read_body, |one, other| {
         one.clashes(other)
     })
     .map_err(|(number, index)| Refusal {
@@ -84,15 +85,20 @@ fn read_body(kind: u8, body: &[u8]) -> Result<Md5Entry<'_>, u8> {
     Ok(Md5Entry { local, remote, key })
 }
 
-/// The entry that matches the pair; by 17 there is at most one.
+/// The entry that matches the pair; by 17 there is at most one, but in a prepared table: there the first.
 pub fn matching<'t>(entries: &[Md5Entry<'t>], pair: &Pair) -> Option<Md5Entry<'t>> {
     entries.iter().find(|entry| entry.matches(pair)).copied()
 }
 
+/// The form of tables that are lent as their own bytes; any other is a prepared table.
+pub const FORM_BYTES: u8 = 0;
+
 /// Both tables as they are lent.
 #[derive(Clone, Copy, Debug, PartialEq, Eq)]
 pub struct Lent<'t> {
-    /// The key table's bytes.
+    /// READINGS 23: "Each call takes the tables' form: 0 their bytes, any other value a prepared table."
+    pub form: u8,
+    /// The key table's bytes, or the prepared table, which has both.
     pub keys: &'t [u8],
     /// The MD5 table's bytes.
     pub md5: &'t [u8],
@@ -108,8 +114,31 @@ pub struct Tables<'t> {
 }
 
 impl<'t> Lent<'t> {
-    /// Reads both tables: 10 to 17 of the key table, then of the MD5 table, then 45.
+    /// As their own bytes.
+    pub fn of_bytes(keys: &'t [u8], md5: &'t [u8]) -> Lent<'t> {
+        Lent {
+            form: FORM_BYTES,
+            keys,
+            md5,
+        }
+    }
+
+    /// Reads both tables, in whichever form.
     pub fn read(&self) -> Result<Tables<'t>, Refusal> {
+        if self.form == FORM_BYTES {
+            return self.read_bytes();
+        }
+
+        // 44: "With a prepared table `md5` must be empty: a second buffer that is not is refused with 44, since it
+        // would not be looked at".
+        if !self.md5.is_empty() {
+            return Err(Refusal::of(44));
+        }
+        prepared::read(self.keys)
+    }
+
+    /// Reads both tables from their bytes: 10 to 17 of the key table, then of the MD5 table, then 45.
+    fn read_bytes(&self) -> Result<Tables<'t>, Refusal> {
         let keys = table::read(self.keys)?;
         let md5 = read(self.md5)?;
 

@@ -1,9 +1,10 @@
 //! "Key table (house bytes)": reading and checking the bytes, matching, and the searches.
 
 use crate::answer::Refusal;
+use std::ops::Deref;
 
-/// "At most 64 entries; none is allowed."
-pub const MOST_ENTRIES: usize = 64;
+/// "At most 64 entries; none is allowed." Ticket 8: "Raise 64 entries to 1,024."
+pub const MOST_ENTRIES: usize = 1_024;
 
 /// "MAC bytes (12 and 12)": of entries that do not choose their MAC's length, kinds 4 and 6.
 pub const MAC_BYTES: usize = 12;
@@ -33,6 +34,25 @@ pub enum Algorithm {
 }
 
 impl Algorithm {
+    /// The algorithm of a listed number.
+    pub fn of(number: u8) -> Option<Algorithm> {
+        match number {
+            1 => Some(Algorithm::HmacSha1),
+            2 => Some(Algorithm::AesCmac),
+            3 => Some(Algorithm::HmacSha256),
+            _ => None,
+        }
+    }
+
+    /// Its number.
+    pub fn number(self) -> u8 {
+        match self {
+            Algorithm::HmacSha1 => 1,
+            Algorithm::AesCmac => 2,
+            Algorithm::HmacSha256 => 3,
+        }
+    }
+
     /// "Each algorithm has its own fixed numbers: traffic key bytes (20 and 16)". Ticket 13: "with output
     /// length 256".
     pub fn traffic_key_bytes(self) -> usize {
@@ -44,25 +64,54 @@ impl Algorithm {
     }
 }
 
+/// An address of an entry, with bytes of its own: of a prepared table's remote addresses one byte is computed.
+#[derive(Clone, Copy, Debug, PartialEq, Eq)]
+pub struct Address {
+    /// 4 or 16.
+    length: usize,
+    /// Behind the length zeros.
+    bytes: [u8; 16],
+}
+
+impl Address {
+    /// The address of these bytes, 4 or 16.
+    pub fn of(bytes: &[u8]) -> Address {
+        let mut address = Address {
+            length: bytes.len(),
+            bytes: [0; 16],
+        };
+        address.bytes[..bytes.len()].copy_from_slice(bytes);
+        address
+    }
+}
+
+impl Deref for Address {
+    type Target = [u8];
+
+    fn deref(&self) -> &[u8] {
+        &self.bytes[..self.length]
+    }
+}
+
 /// One side of an entry: a range of ports, "ends included", and a prefix of addresses.
 #[derive(Clone, Copy, Debug, PartialEq, Eq)]
-pub struct Side<'a> {
+pub struct Side {
     /// The lowest port.
     pub low: u16,
     /// The highest port.
     pub high: u16,
     /// 4 or 16 bytes; zero behind the prefix.
-    pub address: &'a [u8],
+    pub address: Address,
     /// The prefix's length in bits.
     pub prefix: usize,
 }
 
-impl Side<'_> {
+impl Side {
     /// "both ports lie in the ranges and, on each side, the first prefix-length bits agree. Prefix
     /// 0 matches every address."
     pub fn matches(&self, address: &[u8], port: u16) -> bool {
         let in_range = self.low <= port && port <= self.high;
-        in_range && first_bits_agree(self.address, address, self.prefix)
+        in_range && first_bits_agree(&self.address, address, self.prefix)
     }
 
     /// Whether an address and a port exist that both sides match.
@@ -73,15 +122,15 @@ impl Side<'_> {
     pub fn overlaps(&self, other: &Side) -> bool {
         let ports = self.low.max(other.low) <= self.high.min(other.high);
         let shorter = self.prefix.min(other.prefix);
-        let addresses = first_bits_agree(self.address, other.address, shorter);
-        ports && addresses
+        ports && first_bits_agree(&self.address, &other.address, shorter)
     }
 }
 
 /// An entry of a table that was found well formed.
 #[derive(Clone, Copy, Debug, PartialEq, Eq)]
 pub struct Entry<'a> {
-    /// 4 to 7. Its family is that of the addresses: IPv4 for 4 and 5, IPv6 for 6 and 7.
+    /// 4 to 7. Its family is that of the addresses: IPv4 for 4 and 5, IPv6 for 6 and 7. A prepared table does
+    /// not keep it; 5 or 7 there.
     pub kind: u8,
     /// "flags (1: all options covered by the MAC; 0: only TCP-AO)".
     pub covers_options: bool,
@@ -97,9 +146,9 @@ pub struct Entry<'a> {
     /// The KeyID of segments that the peer signs with this entry.
     pub recv_id: u8,
     /// Our side.
-    pub local: Side<'a>,
+    pub local: Side,
     /// The peer's side.
-    pub remote: Side<'a>,
+    pub remote: Side,
     /// How many bytes its MACs have. Ticket 4: "Add entry kinds 5 and 7, like 4 and 6 with one more
     /// byte, 4 to 16, before the key length."
     pub mac_bytes: usize,
@@ -146,12 +195,14 @@ fn bits_behind_are_zero(address: &[u8], count: usize) -> bool {
 }
 
 /// Takes a table's entries one after another, or gives the number and the index of the first that is refused.
-/// A kind has a body of so many bytes, or none; a body is read, or gives 13 to 16; two entries clash.
+/// There are at most so many entries; a kind has a body of so many bytes, or none; a body is read, or gives 13 to
+/// 16; two entries clash.
 ///
 /// "The first that applies, in this order, is given; table entries are taken one after another,
 /// each through to 17 against those before it, with the entry's index from 0."
 pub fn walk<'t, E>(
     table: &'t [u8],
+    most_entries: usize,
     body_bytes: fn(u8) -> Option<usize>,
     read_body: fn(u8, &'t [u8]) -> Result<E, u8>,
     clash: fn(&E, &E) -> bool,
@@ -162,8 +213,8 @@ pub fn walk<'t, E>(
         let index = entries.len() as u32;
         let refused = |number| (number, index);
 
-        // 12: "a 65th entry begins".
-        if entries.len() == MOST_ENTRIES {
+        // 12: "a 65th entry begins". Ticket 8: "Refusal 12 moves to the 1,025th".
+        if entries.len() == most_entries {
             return Err(refused(12));
         }
 
@@ -192,7 +243,12 @@ pub fn walk<'t, E>(
 
 /// Reads a key table, or says what the first refused entry is refused with.
 pub fn read(table: &[u8]) -> Result<Vec<Entry<'_>>, Refusal> {
-    walk(table, body_bytes, read_body, |one, other| {
+    read_at_most(MOST_ENTRIES, table)
+}
+
+/// The same, where another number of entries is allowed.
+pub fn read_at_most(most_entries: usize, table: &[u8]) -> Result<Vec<Entry<'_>>, Refusal> {
+    walk(table, most_entries, body_bytes, read_body, |one, other| {
         one.clashes(other)
     })
     .map_err(|(number, index)| Refusal {
@@ -242,12 +298,7 @@ fn read_body(kind: u8, body: &[u8]) -> Result<Entry<'_>, u8> {
     if flags > 7 {
         return Err(13);
     }
-    let algorithm = match body[1] {
-        1 => Algorithm::HmacSha1,
-        2 => Algorithm::AesCmac,
-        3 => Algorithm::HmacSha256,
-        _ => return Err(13),
-    };
+    let algorithm = Algorithm::of(body[1]).ok_or(13u8)?;
     // "Refusal 13 also covers the new byte".
     if !(4..=16).contains(&mac_bytes) {
         return Err(13);
@@ -277,20 +328,20 @@ fn read_body(kind: u8, body: &[u8]) -> Result<Entry<'_>, u8> {
 /// A body's two sides, with addresses of 4 or 16 bytes, and what stands behind them: "local port low and
 /// high, remote port low and high (two bytes each, big-endian, ends included); local address, its prefix
 /// length; remote address, its prefix length".
-pub fn read_sides(address_bytes: usize, body: &[u8]) -> (Side<'_>, Side<'_>, &[u8]) {
+pub fn read_sides(address_bytes: usize, body: &[u8]) -> (Side, Side, &[u8]) {
     let port = |at: usize| u16::from_be_bytes([body[at], body[at + 1]]);
     let (local_part, rest) = body[12..].split_at(address_bytes + 1);
     let (remote_part, rest) = rest.split_at(address_bytes + 1);
     let local = Side {
         low: port(4),
         high: port(6),
-        address: &local_part[..address_bytes],
+        address: Address::of(&local_part[..address_bytes]),
         prefix: local_part[address_bytes] as usize,
     };
     let remote = Side {
         low: port(8),
         high: port(10),
-        address: &remote_part[..address_bytes],
+        address: Address::of(&remote_part[..address_bytes]),
         prefix: remote_part[address_bytes] as usize,
     };
     (local, remote, rest)
@@ -309,7 +360,7 @@ pub fn test_sides(local: &Side, remote: &Side) -> Result<(), u8> {
     if too_long(local) || too_long(remote) {
         return Err(15);
     }
-    let bits_set = |side: &Side| !bits_behind_are_zero(side.address, side.prefix);
+    let bits_set = |side: &Side| !bits_behind_are_zero(&side.address, side.prefix);
     if bits_set(local) || bits_set(remote) {
         return Err(15);
     }
@@ -333,7 +384,8 @@ pub fn any_matches(entries: &[Entry], pair: &Pair) -> bool {
     entries.iter().any(|entry| entry.matches(pair))
 }
 
-/// The entry matching the pair that has this SendID; by 17 there is at most one.
+/// The entry matching the pair that has this SendID; by 17 there is at most one, but in a prepared table, where
+/// "a search by pair and ID takes the first such entry".
 pub fn by_send_id<'t>(entries: &[Entry<'t>], pair: &Pair, send_id: u8) -> Option<Entry<'t>> {
     entries
         .iter()
@@ -341,7 +393,7 @@ pub fn by_send_id<'t>(entries: &[Entry<'t>], pair: &Pair, send_id: u8) -> Option
         .copied()
 }
 
-/// The entry matching the pair that has this RecvID; by 17 there is at most one.
+/// The entry matching the pair that has this RecvID, likewise.
 pub fn by_recv_id<'t>(entries: &[Entry<'t>], pair: &Pair, recv_id: u8) -> Option<Entry<'t>> {
     entries
         .iter()

@@ -6,22 +6,10 @@ mod common;
 use common::*;
 use faulty::Fault;
 use kit::segment::summed;
-use kit::State;
-
-struct Random(u64);
-
-impl Random {
-    fn below(&mut self, bound: usize) -> usize {
-        self.0 = self
-            .0
-            .wrapping_mul(6_364_136_223_846_793_005)
-            .wrapping_add(1_442_695_040_888_963_407);
-        ((self.0 >> 33) % bound as u64) as usize
-    }
-}
+use kit::{Bytes, State};
 
 /// Changes a few bytes, mostly near the front, and now and then the length.
-fn disturb(random: &mut Random, bytes: &mut Vec<u8>) {
+fn disturb(random: &mut Bytes, bytes: &mut Vec<u8>) {
     if bytes.len() > 5000 {
         return;
     }
@@ -48,14 +36,21 @@ fn disturb(random: &mut Random, bytes: &mut Vec<u8>) {
     }
 }
 
-fn disturbed(random: &mut Random, case: &Case) -> Case {
+fn disturbed(random: &mut Bytes, case: &Case) -> Case {
     let mut case = case.clone();
     let call = &mut case.call;
     disturb(random, &mut call.table);
     disturb(random, &mut call.md5);
+    if random.below(50) == 0 {
+        call.form = random.below(4) as u8;
+    }
     disturb(random, &mut call.state);
     match call.function {
         Function::CheckTable => {}
+        Function::Prepare => {
+            let room = (call.out.len() + random.below(300)).saturating_sub(150);
+            call.out.resize(room, 0xee);
+        }
         Function::OpenActive | Function::OpenActiveMd5 => {
             disturb(random, &mut call.source);
             disturb(random, &mut call.destination);
@@ -89,13 +84,14 @@ fn every_call_returns() {
         .into_iter()
         .filter(|case| case.call.table.len() < 1000)
         .collect();
-    let mut random = Random(20_261_115);
+    let mut random = Bytes(20_261_115);
     for round in 0..40_000 {
         let case = disturbed(&mut random, &cases[round % cases.len()]);
         let outcome = run(&case);
         let number = number(outcome.word);
         let allowed: Vec<u8> = match case.call.function {
             Function::CheckTable => vec![0],
+            Function::Prepare => vec![0, 37],
             Function::OpenActive | Function::OpenActiveMd5 => vec![0, 18, 19, 35],
             Function::JudgeSyn => vec![0, 1, 19, 20, 21, 22, 24, 25, 26, 27, 29, 40, 46, 47],
             Function::OpenPassive => {
@@ -106,7 +102,8 @@ fn every_call_returns() {
             Function::Ask => vec![0, 18, 35],
         };
         let of_table = (10..=17).contains(&number) || number == 45;
-        assert!(of_table || allowed.contains(&number));
+        let of_prepared = number == 44 && case.call.form != 0 && case.call.function.takes_form();
+        assert!(of_table || of_prepared || allowed.contains(&number));
         // Whose entry it is.
         let which = outcome.word as u32 >> 8;
         assert!(which == 0 || which == 1 && of_table);

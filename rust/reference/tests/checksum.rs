@@ -64,7 +64,7 @@ fn another_pair() {
     let elsewhere = [10, 0, 0, 9];
     let judge = |segment: &[u8]| {
         let mut state = b.state.clone();
-        (b.boundary.judge)(&b.table, &b.md5, &elsewhere, &B4, segment, &mut state)
+        (b.boundary.judge)(0, &b.table, &b.md5, &elsewhere, &B4, segment, &mut state)
     };
     assert_eq!(judge(&signed), 40);
     assert_eq!(judge(&summed(&elsewhere, &B4, &signed)), 23);

@@ -18,11 +18,11 @@ fn the_answer_word() {
     // "in bits 8 to 15 ..., 0 the key table's, 1 the MD5 table's (beside 45 always 1)".
     let good = Entry::md5(&A4, &B4);
     let bad = [good.bytes(), vec![9]].concat();
-    assert_eq!(c::tcpao_check_table(&[], &bad), 1 << 32 | 1 << 8 | 11);
-    assert_eq!(c::tcpao_check_table(&bad, &[]), 13);
+    assert_eq!(c::tcpao_check_table(0, &[], &bad), 1 << 32 | 1 << 8 | 11);
+    assert_eq!(c::tcpao_check_table(0, &bad, &[]), 13);
     let keys = Entry::between(&A4, &B4).bytes();
-    assert_eq!(c::tcpao_check_table(&keys, &good.bytes()), 1 << 8 | 45);
-    assert_eq!(c::tcpao_check_table(&keys, &[]), 1 << 32);
+    assert_eq!(c::tcpao_check_table(0, &keys, &good.bytes()), 1 << 8 | 45);
+    assert_eq!(c::tcpao_check_table(0, &keys, &[]), 1 << 32);
 }
 
 /// "Every value of these bytes is a state: ... reading and writing it back gives the same bytes."
@@ -159,7 +159,7 @@ fn opening_from_any_state() {
 #[test]
 fn refused_openings_by_value() {
     let (a, b) = ends(&A4, &B4);
-    let tables = |keys| Lent { keys, md5: &[] };
+    let tables = |keys| Lent::of_bytes(keys, &[]);
     let (result, state) = calls::open_active(&tables(&a.table), &lent(&a.pair), 7, 99);
     assert_eq!(result, Err(Refusal::of(35)));
     assert_eq!(state, State::EMPTY);
@@ -215,7 +215,7 @@ fn signing_writes_its_length() {
     for spare in 0..40 {
         let mut state = a.state.clone();
         let mut out = vec![0xee; segment.len() + 16 + spare];
-        let word = c::tcpao_sign(&a.table, &[], &segment, &mut out, &mut state);
+        let word = c::tcpao_sign(0, &a.table, &[], &segment, &mut out, &mut state);
         assert_eq!(word, c::word(0, segment.len() as u32 + 16));
         let (signed, behind) = out.split_at(segment.len() + 16);
         assert!(behind.iter().all(|byte| *byte == 0xee));

@@ -8,18 +8,33 @@ use faulty::Fault;
 
 #[test]
 fn each_planted_fault_shows() {
-    let cases = cases();
-    let right: Vec<Outcome> = cases.iter().map(run).collect();
+    // The largest tables take long, and are only looked at where the others show nothing.
+    let large = |(case, _): &(Case, Outcome)| case.call.table.len() + case.call.md5.len() > 50_000;
+    let cases = cases().into_iter().map(|case| {
+        let right = run(&case);
+        (case, right)
+    });
+    let (large, small): (Vec<_>, Vec<_>) = cases.partition(large);
+    let mut nowhere = vec![];
     for fault in Fault::of_calls() {
-        let seen: Vec<String> = cases
-            .iter()
-            .zip(&right)
-            .filter(|(case, outcome)| run_with(fault, case) != **outcome)
-            .map(|(case, _)| format!("{}: {}", case.call.function.name(), case.name))
-            .collect();
-        assert!(!seen.is_empty(), "{fault:?} shows nowhere");
-        println!("{fault:?} shows in {} cases, first {}", seen.len(), seen[0]);
+        let shows = |cases: &[(Case, Outcome)]| -> Vec<String> {
+            let wrong = |(case, right): &&(Case, Outcome)| run_with(fault, case) != *right;
+            let wrong = cases.iter().filter(wrong);
+            wrong
+                .map(|(case, _)| format!("{}: {}", case.call.function.name(), case.name))
+                .collect()
+        };
+        let mut seen = shows(&small);
+        if seen.is_empty() {
+            seen = shows(&large);
+        }
+        if seen.is_empty() {
+            nowhere.push(fault);
+        } else {
+            println!("{fault:?} shows in {} cases, first {}", seen.len(), seen[0]);
+        }
     }
+    assert!(nowhere.is_empty(), "they show nowhere: {nowhere:?}");
 }
 
 #[test]

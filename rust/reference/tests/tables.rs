@@ -90,8 +90,9 @@ fn fields_stand_in_their_places() {
         assert_eq!((entry.send_id, entry.recv_id), (0x11, 0x22));
         assert_eq!((entry.local.low, entry.local.high), (0x0102, 0x0304));
         assert_eq!((entry.remote.low, entry.remote.high), (0x0506, 0x0708));
-        assert_eq!((entry.local.address, entry.local.prefix), (&A6[..], 128));
-        assert_eq!(entry.remote.address, [0xfc; 16]);
+        assert_eq!(entry.local.address[..], A6);
+        assert_eq!(entry.local.prefix, 128);
+        assert_eq!(entry.remote.address[..], [0xfc; 16]);
         assert_eq!(entry.remote.prefix, 126);
         assert_eq!(entry.key, key.key);
     }

@@ -23,7 +23,7 @@ add-at c =
     let l = c .before .before .before .before .before .before .before .before .before in
     let b = l .before .before .before in
     let g = goes-on [] (l .loop .table) (l .loop .now) (b .args .bytes .now) (l .loop .at) _ (c .before .before .before .before .before .before .before .before .loop-test .taken)
-    (c .before .before .before .before .before .advance .ensures .1) in
+    (c .before .before .before .before .before .advance .ensures .took) in
     record { fits = omega (arith, g .1) }
 
 loop-less : tie.Need-loop-less Inv-loop μ-loop
@@ -31,7 +31,7 @@ loop-less c =
     let l = c .before .before .before .before .before .before .before .before .before in
     let b = l .before .before .before in
     let g = goes-on [] (l .loop .table) (l .loop .now) (b .args .bytes .now) (l .loop .at) _ (c .before .before .before .before .before .before .before .before .loop-test .taken)
-    (c .before .before .before .before .before .advance .ensures .1) in
+    (c .before .before .before .before .before .advance .ensures .took) in
     omega (arith, g .0, g .1)
 
 loop-again : tie.Need-loop-again Inv-loop μ-loop
@@ -39,7 +39,7 @@ loop-again c =
     let l = c .before .before .before .before .before .before .before .before .before in
     let b = l .before .before .before in
     let g = goes-on [] (l .loop .table) (l .loop .now) (b .args .bytes .now) (l .loop .at) _ (c .before .before .before .before .before .before .before .before .loop-test .taken)
-    (c .before .before .before .before .before .advance .ensures .1) in
+    (c .before .before .before .before .before .advance .ensures .took) in
     (g .1, search needs)
 
 pub piece-spec : {M : Type 1} → statement M

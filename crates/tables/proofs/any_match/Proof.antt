@@ -11,4 +11,4 @@ any-match-spec =
     tie.close
     (tie.spec
     (λ c κs. search needs)
-    (λ c. ap (λ (x : Found). x .there) (c .find .ensures) ∙ sym (any-found _ _ 0)))
+    (λ c. ap (λ (x : Found). x .there) (c .find-key .ensures) ∙ sym (any-found _ _ 0)))

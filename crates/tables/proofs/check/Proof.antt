@@ -1,30 +1,16 @@
--- By what the loader has answered.
+-- By the form.
 use borrow.Author.Needs.{needs}
-use Rattle.tables.specs.Tables.{keyIndex, admitted}
-use Rattle.tables.proofs.Checked.{table-refused, table-valid}
+use mathlib.Core.Path.{ap, _∙_}
+use Rattle.tables.specs.Tables.{Tables}
+use Rattle.tables.proofs.Checked.{by-bytes, by-prepared}
 use Rattle.tables.proofs.check.Statement.{statement}
 use Rattle.tables.proofs.check.Tie as tie
 
 returns : tie.Need-returns
-unfolding admitted
-returns c =
-    table-refused keyIndex _ _ _ (c .before .before .before .before .load .ensures) _ _ _
-    (c .before .before .number .given .1) (c .refused .ensures)
+returns c = c .check-bytes .ensures ∙ ap (λ (t : Tables). t .answer) (by-bytes _ _ _ (c .before .if1 .taken))
 
 returns-2 : tie.Need-returns-2
-unfolding admitted
-returns-2 c =
-    table-valid keyIndex _ _ _ (c .before .before .before .before .load .ensures) _ _
-    (c .before .before .n .given .1) (c .check-md5 .ensures)
+returns-2 c = c .check-prepared .ensures ∙ ap (λ (t : Tables). t .answer) (by-prepared _ _ _ (c .before .if1 .left))
 
 pub check-spec : {M : Type 1} → statement M
-check-spec =
-    tie.close
-    (tie.spec
-    (λ c κs. search needs)
-    (λ c. search needs)
-    (λ c κs. search needs)
-    (λ c. search needs)
-    (λ c κs. search needs)
-    returns
-    returns-2)
+check-spec = tie.close (tie.spec (λ c κs. search needs) returns (λ c κs. search needs) returns-2)

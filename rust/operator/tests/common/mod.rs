@@ -81,7 +81,7 @@ pub fn at_desk(
     choice: Choice,
 ) -> Result<(Vec<Judged>, Report), Stop> {
     let mirrored = endpoint.mirrored()?;
-    let views = Views::new(endpoint, &mirrored)?;
+    let views = Views::new(endpoint, &mirrored);
     let mut lines = Vec::new();
     let desk = Desk::new(Ok(file), views, choice)?;
     let report = desk.judge(Ok(file), &mut |line| {
@@ -113,7 +113,7 @@ pub fn recording(
     direction: Direction,
 ) -> Result<(Vec<u8>, Recorded), Stop> {
     let mirrored = endpoint.mirrored()?;
-    let views = Views::new(endpoint, &mirrored)?;
+    let views = Views::new(endpoint, &mirrored);
     let desk = Desk::new(Ok(file), views, choice)?;
     let mut out = Vec::new();
     let recorded = record(desk, Ok(file), [endpoint, &mirrored], direction, &mut out)?;

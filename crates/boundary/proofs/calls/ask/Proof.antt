@@ -19,7 +19,7 @@ returns c =
     let a = c .before .before .before .before .before .before .before .args in
     left
     (refused ofSettled (λ (s : Settled). encodeOf (s .state)) (a .state .now)
-    (asked (tablesOf (a .keys .now) (a .md5 .now)) (a .recv-id) (decodeOf (a .state .now)))
+    (asked (tablesOf (a .form) (a .keys .now) (a .md5 .now)) (a .recv-id) (decodeOf (a .state .now)))
     _ (other (a .state .now) _ (c .before .before .is-state .ensures) (c .before .if1 .taken)) (c .word .ensures))
 
 decode-requires : tie.Need-decode-requires
@@ -36,7 +36,7 @@ of-done-requires : tie.Need-of-done-requires
 of-done-requires c κs =
     let e = c .before .before .before .before .before in
     let a = e .before .before .before .before .before .before .before .before .before .args in
-    subst (λ (s : Settled). ofSettled s .value < 2 ^ 32) (sym (e .ask .ensures .0)) (asked-fits (record { keys = a .keys .now; md5 = a .md5 .now }) _ _ .value)
+    subst (λ (s : Settled). ofSettled s .value < 2 ^ 32) (sym (e .ask .ensures .0)) (asked-fits (record { form = a .form; keys = a .keys .now; md5 = a .md5 .now }) _ _ .value)
 
 returns-2 : tie.Need-returns-2
 unfolding askExport
@@ -44,10 +44,10 @@ returns-2 c =
     let e = c .before .before .before .before .before .before in
     let a = e .before .before .before .before .before .before .before .before .before .args in
     left
-    (done ofSettled (λ (s : Settled). encodeOf (s .state)) (a .state .now) (asked (tablesOf (a .keys .now) (a .md5 .now)) (a .recv-id) (decodeOf (a .state .now)))
+    (done ofSettled (λ (s : Settled). encodeOf (s .state)) (a .state .now) (asked (tablesOf (a .form) (a .keys .now) (a .md5 .now)) (a .recv-id) (decodeOf (a .state .now)))
     (e .ask .result) _ _
     (whole (a .state .now) _ (e .before .before .before .before .is-state .ensures) (e .before .before .before .if1 .left))
-    (e .ask .ensures .0 ∙ ap (asked (tablesOf (a .keys .now) (a .md5 .now)) (a .recv-id)) (e .before .decode .ensures .0))
+    (e .ask .ensures .0 ∙ ap (asked (tablesOf (a .form) (a .keys .now) (a .md5 .now)) (a .recv-id)) (e .before .decode .ensures .0))
     (c .of-done .ensures) (c .before .before .before .put .ensures))
 
 pub ask-spec : {M : Type 1} → statement M

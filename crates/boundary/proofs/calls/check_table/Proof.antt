@@ -13,7 +13,7 @@ use Rattle.boundary.proofs.calls.check_table.Tie as tie
 of-table-requires : tie.Need-of-table-requires
 of-table-requires c κs =
     subst (λ (o : Admitted). tableAnswer o .value < 2 ^ 32) (sym (c .check-table .ensures .0))
-    (table-fits (record { keys = c .before .before .before .args .keys .now; md5 = c .before .before .before .args .md5 .now }) .value)
+    (table-fits (record { form = c .before .before .before .args .form; keys = c .before .before .before .args .keys .now; md5 = c .before .before .before .args .md5 .now }) .value)
 
 returns : tie.Need-returns
 unfolding checkTableExport

@@ -20,7 +20,7 @@ returns c =
     let a = c .before .before .before .before .before .before .before .before .before .before .args in
     left
     (refused ofJudged (λ (j : Judged). encodeOf (j .state)) (a .state .now)
-    (judged (tablesOf (a .keys .now) (a .md5 .now)) (arrivalOf (a .source .now) (a .destination .now) (a .segment .now)) (decodeOf (a .state .now)))
+    (judged (tablesOf (a .form) (a .keys .now) (a .md5 .now)) (arrivalOf (a .source .now) (a .destination .now) (a .segment .now)) (decodeOf (a .state .now)))
     _ (other (a .state .now) _ (c .before .before .is-state .ensures) (c .before .if1 .taken)) (c .word .ensures))
 
 decode-requires : tie.Need-decode-requires
@@ -39,7 +39,7 @@ of-verdict-requires : tie.Need-of-verdict-requires
 of-verdict-requires c κs =
     let e = c .before .before .before .before .before in
     let a = e .before .before .before .before .before .before .before .before .before .before .before .before .args in
-    subst (λ (j : Judged). j .index .entry < 2 ^ 32) (sym (e .judge .ensures .0)) (judged-fits (record { keys = a .keys .now; md5 = a .md5 .now }) _ _ .index)
+    subst (λ (j : Judged). j .index .entry < 2 ^ 32) (sym (e .judge .ensures .0)) (judged-fits (record { form = a .form; keys = a .keys .now; md5 = a .md5 .now }) _ _ .index)
 
 returns-2 : tie.Need-returns-2
 unfolding judgeExport
@@ -48,11 +48,11 @@ returns-2 c =
     let a = e .before .before .before .before .before .before .before .before .before .before .before .before .args in
     left
     (done ofJudged (λ (j : Judged). encodeOf (j .state)) (a .state .now)
-    (judged (tablesOf (a .keys .now) (a .md5 .now)) (arrivalOf (a .source .now) (a .destination .now) (a .segment .now)) (decodeOf (a .state .now)))
+    (judged (tablesOf (a .form) (a .keys .now) (a .md5 .now)) (arrivalOf (a .source .now) (a .destination .now) (a .segment .now)) (decodeOf (a .state .now)))
     (e .judge .result) _ _
     (whole (a .state .now) _ (e .before .before .before .before .is-state .ensures) (e .before .before .before .if1 .left))
     (e .judge .ensures .0
-    ∙ ap (judged (tablesOf (a .keys .now) (a .md5 .now)) (arrivalOf (a .source .now) (a .destination .now) (a .segment .now))) (e .before .decode .ensures .0))
+    ∙ ap (judged (tablesOf (a .form) (a .keys .now) (a .md5 .now)) (arrivalOf (a .source .now) (a .destination .now) (a .segment .now))) (e .before .decode .ensures .0))
     (c .of-verdict .ensures) (c .before .before .before .put .ensures))
 
 pub judge-spec : {M : Type 1} → statement M

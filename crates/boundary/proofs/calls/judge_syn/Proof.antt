@@ -12,7 +12,7 @@ use Rattle.boundary.proofs.calls.judge_syn.Tie as tie
 of-verdict-requires : tie.Need-of-verdict-requires
 of-verdict-requires c κs =
     let a = c .before .before .before .before .before .before .args in
-    subst (λ (j : SynJudged). j .index .entry < 2 ^ 32) (sym (c .judge-syn .ensures .0)) (judgedSyn-fits (record { keys = a .keys .now; md5 = a .md5 .now }) _ _ .index)
+    subst (λ (j : SynJudged). j .index .entry < 2 ^ 32) (sym (c .judge-syn .ensures .0)) (judgedSyn-fits (record { form = a .form; keys = a .keys .now; md5 = a .md5 .now }) _ _ .index)
 
 returns : tie.Need-returns
 unfolding judgeSynExport

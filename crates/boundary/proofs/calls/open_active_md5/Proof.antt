@@ -24,7 +24,7 @@ returns c =
     let a = c .before .before .before .before .before .before .before .before .before .args in
     left
     (refused ofSettled (bytes (a .state .now)) (a .state .now)
-    (openedActivelyMd5 (tablesOf (a .keys .now) (a .md5 .now)) (a .local .now) (a .remote .now) (a .local-port) (a .remote-port) (a .isn))
+    (openedActivelyMd5 (tablesOf (a .form) (a .keys .now) (a .md5 .now)) (a .local .now) (a .remote .now) (a .local-port) (a .remote-port) (a .isn))
     _ (other (a .state .now) _ (c .before .before .is-state .ensures) (c .before .if1 .taken)) (c .word .ensures))
 
 put-where-requires : tie.Need-put-where-requires
@@ -36,7 +36,7 @@ of-done-requires : tie.Need-of-done-requires
 of-done-requires c κs =
     let e = c .before .before .before .before .before .before in
     let a = e .before .before .before .before .before .before .before .before .before .args in
-    subst (λ (s : Settled). ofSettled s .value < 2 ^ 32) (sym (e .open-active-md5 .ensures .0)) (active-md5-fits (record { keys = a .keys .now; md5 = a .md5 .now }) _ _ _ _ _ .value)
+    subst (λ (s : Settled). ofSettled s .value < 2 ^ 32) (sym (e .open-active-md5 .ensures .0)) (active-md5-fits (record { form = a .form; keys = a .keys .now; md5 = a .md5 .now }) _ _ _ _ _ .value)
 
 returns-2 : tie.Need-returns-2
 unfolding openActiveMd5Export
@@ -46,7 +46,7 @@ returns-2 c =
     let a = e .before .before .before .before .before .before .before .before .before .args in
     left
     (done ofSettled (bytes (a .state .now)) (a .state .now)
-    (openedActivelyMd5 (tablesOf (a .keys .now) (a .md5 .now)) (a .local .now) (a .remote .now) (a .local-port) (a .remote-port) (a .isn))
+    (openedActivelyMd5 (tablesOf (a .form) (a .keys .now) (a .md5 .now)) (a .local .now) (a .remote .now) (a .local-port) (a .remote-port) (a .isn))
     (e .open-active-md5 .result) _ _ (whole (a .state .now) _ (e .before .before .is-state .ensures) (e .before .if1 .left))
     (e .open-active-md5 .ensures .0) (c .of-done .ensures)
     (p .put-where .ensures

@@ -25,7 +25,7 @@ returns c =
     let a = c .before .before .before .before .before .before .before .before .before .before .args in
     left
     (refused ofJudged (bytes (a .state .now)) (a .state .now)
-    (openedPassively (tablesOf (a .keys .now) (a .md5 .now)) (arrivalOf (a .source .now) (a .destination .now) (a .segment .now)) (a .isn) (strictly (a .setting)))
+    (openedPassively (tablesOf (a .form) (a .keys .now) (a .md5 .now)) (arrivalOf (a .source .now) (a .destination .now) (a .segment .now)) (a .isn) (strictly (a .setting)))
     _ (other (a .state .now) _ (c .before .before .is-state .ensures) (c .before .if1 .taken)) (c .word .ensures))
 
 put-where-requires : tie.Need-put-where-requires
@@ -38,7 +38,7 @@ of-verdict-requires : tie.Need-of-verdict-requires
 of-verdict-requires c κs =
     let e = c .before .before .before .before .before .before in
     let a = e .before .before .before .before .before .before .before .before .before .before .args in
-    subst (λ (j : Judged). j .index .entry < 2 ^ 32) (sym (e .open-passive .ensures .0)) (opened-fits (record { keys = a .keys .now; md5 = a .md5 .now }) _ _ _ .index)
+    subst (λ (j : Judged). j .index .entry < 2 ^ 32) (sym (e .open-passive .ensures .0)) (opened-fits (record { form = a .form; keys = a .keys .now; md5 = a .md5 .now }) _ _ _ .index)
 
 returns-2 : tie.Need-returns-2
 unfolding openPassiveExport
@@ -48,7 +48,7 @@ returns-2 c =
     let a = e .before .before .before .before .before .before .before .before .before .before .args in
     left
     (done ofJudged (bytes (a .state .now)) (a .state .now)
-    (openedPassively (tablesOf (a .keys .now) (a .md5 .now)) (arrivalOf (a .source .now) (a .destination .now) (a .segment .now)) (a .isn) (strictly (a .setting)))
+    (openedPassively (tablesOf (a .form) (a .keys .now) (a .md5 .now)) (arrivalOf (a .source .now) (a .destination .now) (a .segment .now)) (a .isn) (strictly (a .setting)))
     (e .open-passive .result) _ _ (whole (a .state .now) _ (e .before .before .is-state .ensures) (e .before .if1 .left))
     (e .open-passive .ensures .0) (c .of-verdict .ensures)
     (p .put-where .ensures

@@ -20,9 +20,9 @@ returns c =
     let h = other (a .state .now) _ (c .before .before .is-state .ensures) (c .before .if1 .taken) in
     let q = decodeOf (a .state .now) in
     let r =
-    refused ofSigned (λ (s : Signed). encodeOf (s .state)) (a .state .now) (signed (tablesOf (a .keys .now) (a .md5 .now)) (a .segment .now) (a .out .now) q)
+    refused ofSigned (λ (s : Signed). encodeOf (s .state)) (a .state .now) (signed (tablesOf (a .form) (a .keys .now) (a .md5 .now)) (a .segment .now) (a .out .now) q)
     _ h (c .word .ensures) in
-    let o = unchanged (a .state .now) (output (tablesOf (a .keys .now) (a .md5 .now)) (a .segment .now) (a .out .now) q) (a .out .now) h in
+    let o = unchanged (a .state .now) (output (tablesOf (a .form) (a .keys .now) (a .md5 .now)) (a .segment .now) (a .out .now) q) (a .out .now) h in
     λ i. writes (r .0 i) (r .1 i) (o i)
 
 decode-requires : tie.Need-decode-requires
@@ -40,7 +40,7 @@ of-signing-requires c κs =
     let e = c .before .before .before .before .before .before .before in
     let a = e .before .before .before .before .before .before .before .before .before .before .before .before .args in
     subst (λ (s : Signed). ofSigned s .value < 2 ^ 32) (sym (e .sign .ensures .0))
-    (signed-fits (record { keys = a .keys .now; md5 = a .md5 .now }) _ _ _ .value)
+    (signed-fits (record { form = a .form; keys = a .keys .now; md5 = a .md5 .now }) _ _ _ .value)
 
 returns-2 : tie.Need-returns-2
 unfolding signExport
@@ -51,14 +51,14 @@ returns-2 c =
     let h = whole (a .state .now) _ (d .before .before .before .is-state .ensures) (d .before .before .if1 .left) in
     let q = decodeOf (a .state .now) in
     let r =
-    done ofSigned (λ (s : Signed). encodeOf (s .state)) (a .state .now) (signed (tablesOf (a .keys .now) (a .md5 .now)) (a .segment .now) (a .out .now) q)
+    done ofSigned (λ (s : Signed). encodeOf (s .state)) (a .state .now) (signed (tablesOf (a .form) (a .keys .now) (a .md5 .now)) (a .segment .now) (a .out .now) q)
     (e .sign .result) _ _ h
-    (e .sign .ensures .0 ∙ ap (signed (tablesOf (a .keys .now) (a .md5 .now)) (a .segment .now) (a .out .now)) (d .decode .ensures .0))
+    (e .sign .ensures .0 ∙ ap (signed (tablesOf (a .form) (a .keys .now) (a .md5 .now)) (a .segment .now) (a .out .now)) (d .decode .ensures .0))
     (c .of-signing .ensures) (c .before .before .before .put .ensures) in
     let o =
     e .sign .ensures .1 .0
-    ∙ (ap (output (tablesOf (a .keys .now) (a .md5 .now)) (a .segment .now) (a .out .now)) (d .decode .ensures .0)
-    ∙ made (a .state .now) (output (tablesOf (a .keys .now) (a .md5 .now)) (a .segment .now) (a .out .now) q) (a .out .now) h) in
+    ∙ (ap (output (tablesOf (a .form) (a .keys .now) (a .md5 .now)) (a .segment .now) (a .out .now)) (d .decode .ensures .0)
+    ∙ made (a .state .now) (output (tablesOf (a .form) (a .keys .now) (a .md5 .now)) (a .segment .now) (a .out .now) q) (a .out .now) h) in
     λ i. writes (r .0 i) (r .1 i) (o i)
 
 pub sign-spec : {M : Type 1} → statement M

@@ -13,14 +13,14 @@ arrival s = arrivalOf (s .args .source .now) (s .args .destination .now) (s .arg
 returns : tie.Need-returns
 returns c =
     let s = c .before .before .before .before .before .before .before .before in
-    syn-early (tablesOf (s .args .keys .now) (s .args .md5 .now)) (arrival s) (s .args .strict) (c .nothing .result) (c .nothing .ensures)
+    syn-early (tablesOf (s .args .form) (s .args .keys .now) (s .args .md5 .now)) (arrival s) (s .args .strict) (c .nothing .result) (c .nothing .ensures)
     (c .before .before .early-syn-faults .ensures) (c .before .match .keys2)
 
 returns-2 : tie.Need-returns-2
 returns-2 c =
     let told = c .before .before .before .before in
     let s = told .before .before .before .before .before .before .before .before in
-    let t = tablesOf (s .args .keys .now) (s .args .md5 .now) in
+    let t = tablesOf (s .args .form) (s .args .keys .now) (s .args .md5 .now) in
     let n = early-syn-none t (arrival s) (s .args .strict) (told .before .before .early-syn-faults .ensures) (told .enum-told .given .1) in
     let f = formed-syn-by t (arrival s) (s .args .strict) (c .before .before .before .header-of .ensures)
     (c .before .before .formed-syn-faults .ensures) in
@@ -31,8 +31,8 @@ arrival-pair-requires c κs =
     let told = c .before .before .before .before in
     let s = told .before .before .before .before .before .before .before .before in
     let a = s .args in
-    early-input (tablesOf (a .keys .now) (a .md5 .now)) (a .source .now) (a .destination .now) (a .segment .now)
-    (early-syn-none (tablesOf (a .keys .now) (a .md5 .now)) (arrival s) (a .strict) (told .before .before .early-syn-faults .ensures) (told .enum-told .given .1))
+    early-input (tablesOf (a .form) (a .keys .now) (a .md5 .now)) (a .source .now) (a .destination .now) (a .segment .now)
+    (early-syn-none (tablesOf (a .form) (a .keys .now) (a .md5 .now)) (arrival s) (a .strict) (told .before .before .early-syn-faults .ensures) (told .enum-told .given .1))
 
 keyed-syn-by-way-requires : tie.Need-keyed-syn-by-way-requires
 keyed-syn-by-way-requires c κs =
@@ -40,8 +40,8 @@ keyed-syn-by-way-requires c κs =
     let told = read .before in
     let s = told .before .before .before .before .before .before .before .before in
     let a = s .args in
-    let l = early-left (tablesOf (a .keys .now) (a .md5 .now)) (a .source .now) (a .destination .now) (a .segment .now)
-    (early-syn-none (tablesOf (a .keys .now) (a .md5 .now)) (arrival s) (a .strict) (told .before .before .early-syn-faults .ensures) (told .enum-told .given .1)) in
+    let l = early-left (tablesOf (a .form) (a .keys .now) (a .md5 .now)) (a .source .now) (a .destination .now) (a .segment .now)
+    (early-syn-none (tablesOf (a .form) (a .keys .now) (a .md5 .now)) (arrival s) (a .strict) (told .before .before .early-syn-faults .ensures) (told .enum-told .given .1)) in
     (l .0, l .1, read .header-of .ensures)
 
 returns-3 : tie.Need-returns-3
@@ -49,7 +49,7 @@ returns-3 c =
     let read = c .before .before .before .before .before in
     let told = read .before in
     let s = told .before .before .before .before .before .before .before .before in
-    let t = tablesOf (s .args .keys .now) (s .args .md5 .now) in
+    let t = tablesOf (s .args .form) (s .args .keys .now) (s .args .md5 .now) in
     let n = early-syn-none t (arrival s) (s .args .strict) (told .before .before .early-syn-faults .ensures) (told .enum-told .given .1) in
     let f = formed-syn-by t (arrival s) (s .args .strict) (read .header-of .ensures)
     (c .before .before .before .before .formed-syn-faults .ensures) in

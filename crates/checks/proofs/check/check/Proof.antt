@@ -9,7 +9,7 @@ use Rattle.checks.proofs.check.check.Tie as tie
 returns : tie.Need-returns
 returns c =
     let a = c .before .before .before .before .before .before .before .args in
-    judge-ends (tablesOf (a .keys .now) (a .md5 .now)) (a .conn) (a .reference) (arrivalOf (a .source .now) (a .destination .now) (a .segment .now))
+    judge-ends (tablesOf (a .form) (a .keys .now) (a .md5 .now)) (a .conn) (a .reference) (arrivalOf (a .source .now) (a .destination .now) (a .segment .now))
     (c .before .begin .result) (c .before .begin .ensures) (c .finished .ensures)
 
 pub check-spec : {M : Type 1} → statement M

@@ -9,7 +9,7 @@ use Rattle.checks.proofs.check.check_syn.Tie as tie
 returns : tie.Need-returns
 returns c =
     let a = c .before .before .before .before .before .before .before .args in
-    syn-ends (tablesOf (a .keys .now) (a .md5 .now)) (arrivalOf (a .source .now) (a .destination .now) (a .segment .now)) (a .strict)
+    syn-ends (tablesOf (a .form) (a .keys .now) (a .md5 .now)) (arrivalOf (a .source .now) (a .destination .now) (a .segment .now)) (a .strict)
     (c .before .begin-syn .result) (c .before .begin-syn .ensures) (c .finished .ensures)
 
 pub check-syn-spec : {M : Type 1} → statement M

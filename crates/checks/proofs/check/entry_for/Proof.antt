@@ -12,4 +12,4 @@ entry-for-spec =
     (tie.spec
     (λ c κs. search needs)
     (λ c κs. search needs)
-    (λ c. c .find-recv .ensures ∙ ap (λ (id : ℕ). recvEntry (tablesOf (c .before .before .before .before .before .args .keys .now) (c .before .before .before .before .before .args .md5 .now)) (c .before .before .before .before .before .args .pair) id) (c .before .key-id .ensures)))
+    (λ c. c .find-recv .ensures ∙ ap (λ (id : ℕ). recvEntry (tablesOf (c .before .before .before .before .before .args .form) (c .before .before .before .before .before .args .keys .now) (c .before .before .before .before .before .args .md5 .now)) (c .before .before .before .before .before .args .pair) id) (c .before .key-id .ensures)))

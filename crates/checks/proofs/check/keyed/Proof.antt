@@ -22,7 +22,7 @@ by-key-requires c κs =
     let a = c .before .before .before .before .before .before .before .before .before .args in (
       c .before .before .before .before .carried .ensures ∙ ap (λ (h : Header). aoIn (h .options)) (c .before .before .before .before .before .before .before .before .before .pre .2),
       c .before .before .before .before .before .before .before .before .before .pre .1,
-      subst (λ (f : Found). f .entry .secret .«mac_bytes» ≤ 16) (sym (c .before .before .before .entry-for .ensures)) (entry-mac (a .keys .now) (a .md5 .now) (a .conn .pair) (keyId (a .segment .now)) (c .before .before .before .before .before .before .before .before .before .pre .0)),
+      subst (λ (f : Found). f .entry .secret .«mac_bytes» ≤ 16) (sym (c .before .before .before .entry-for .ensures)) (entry-mac (a .form) (a .keys .now) (a .md5 .now) (a .conn .pair) (keyId (a .segment .now)) (c .before .before .before .before .before .before .before .before .before .pre .0)),
       refl,
       refl,
     )

@@ -15,7 +15,7 @@ use Rattle.checks.proofs.check.keyed_by_way.Tie as tie
 returns : tie.Need-returns
 returns c =
     let a = c .before .before .before .before .before .before .args in
-    way-ao (tablesOf (a .keys .now) (a .md5 .now)) (a .conn) (a .reference) (a .segment .now) (c .keyed .result)
+    way-ao (tablesOf (a .form) (a .keys .now) (a .md5 .now)) (a .conn) (a .reference) (a .segment .now) (c .keyed .result)
     (sym (c .before .before .is-md5 .ensures) ∙ not-true _ (c .before .if1 .taken)) (c .keyed .ensures)
 
 keyed-md5-requires : tie.Need-keyed-md5-requires
@@ -28,7 +28,7 @@ returns-2 c =
     let number = ap (λ (h : Header). h .sequence) (s .pre .2) in
     let isn = c .before .before .peer-isn .ensures ∙ ap (λ (n : ℕ). cond (isOpen (a .conn)) (a .conn .«peer_isn») n) number in
     let flow = c .before .arriving-flow .ensures ∙ ap (λ (n : ℕ). arrivingOn (a .conn .pair) n (a .conn .isn)) isn in
-    way-md5 (tablesOf (a .keys .now) (a .md5 .now)) (a .conn) (a .reference) (a .segment .now) (c .keyed-md5 .result)
+    way-md5 (tablesOf (a .form) (a .keys .now) (a .md5 .now)) (a .conn) (a .reference) (a .segment .now) (c .keyed-md5 .result)
     (sym (c .before .before .before .before .before .before .is-md5 .ensures) ∙ not-false _ (c .before .before .before .before .before .if1 .left))
     (md5-is (a .segment .now) (c .before .before .before .find-md5 .ensures) flow refl (c .keyed-md5 .ensures))
 

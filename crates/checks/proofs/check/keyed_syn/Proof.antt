@@ -40,9 +40,9 @@ by-key-requires c κs =
       option ∙ ap (λ (h : Header). aoIn (h .options)) (start .pre .2),
       start .pre .1,
       subst (λ (f : Found). f .entry .secret .«mac_bytes» ≤ 16) (sym found)
-          (entry-mac (a .keys .now) (a .md5 .now) (a .pair) (keyId (a .segment .now)) (start .pre .0)),
-      ap isFinal (missing-is matched (c .before .before .syn-missing .ensures)) ∙ missing-final (anyEntry (tablesOf (a .keys .now) (a .md5 .now)) (a .pair)),
-      ap isFinal (unknown-is (a .strict) matched (c .before .syn-unknown .ensures)) ∙ unknown-final (tablesOf (a .keys .now) (a .md5 .now)) (a .pair) (a .strict),
+          (entry-mac (a .form) (a .keys .now) (a .md5 .now) (a .pair) (keyId (a .segment .now)) (start .pre .0)),
+      ap isFinal (missing-is matched (c .before .before .syn-missing .ensures)) ∙ missing-final (anyEntry (tablesOf (a .form) (a .keys .now) (a .md5 .now)) (a .pair)),
+      ap isFinal (unknown-is (a .strict) matched (c .before .syn-unknown .ensures)) ∙ unknown-final (tablesOf (a .form) (a .keys .now) (a .md5 .now)) (a .pair) (a .strict),
     )
 
 returns : tie.Need-returns

@@ -15,7 +15,7 @@ use Rattle.checks.proofs.check.keyed_syn_by_way.Tie as tie
 returns : tie.Need-returns
 returns c =
     let a = c .before .before .before .before .before .before .before .args in
-    syn-ao (tablesOf (a .keys .now) (a .md5 .now)) (a .pair) (a .strict) (arrivingOn (a .pair) (sequence (a .segment .now)) 0) (a .segment .now)
+    syn-ao (tablesOf (a .form) (a .keys .now) (a .md5 .now)) (a .pair) (a .strict) (arrivingOn (a .pair) (sequence (a .segment .now)) 0) (a .segment .now)
     (c .keyed-syn .result) (ap (λ (f : Found). f .there) (sym (c .before .before .before .find-md5 .ensures)) ∙ not-true _ (c .before .if1 .taken))
     (c .keyed-syn .ensures)
 
@@ -28,7 +28,7 @@ returns-2 c =
     let a = s .args in
     let found = c .before .before .before .before .find-md5 .ensures in
     let flow = c .before .arriving-flow .ensures ∙ ap (λ (h : Header). arrivingOn (a .pair) (h .sequence) 0) (s .pre .2) in
-    syn-md5 (tablesOf (a .keys .now) (a .md5 .now)) (a .pair) (a .strict) (arrivingOn (a .pair) (sequence (a .segment .now)) 0) (a .segment .now)
+    syn-md5 (tablesOf (a .form) (a .keys .now) (a .md5 .now)) (a .pair) (a .strict) (arrivingOn (a .pair) (sequence (a .segment .now)) 0) (a .segment .now)
     (c .keyed-md5 .result) (ap (λ (f : Found). f .there) (sym found) ∙ not-false _ (c .before .before .if1 .left))
     (md5-is (a .segment .now) found flow refl (c .keyed-md5 .ensures))
 

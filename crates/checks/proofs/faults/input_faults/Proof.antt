@@ -10,12 +10,12 @@ use Rattle.checks.proofs.faults.input_faults.Tie as tie
 returns : tie.Need-returns
 returns c =
     let a = c .before .before .before .before .before .before .before .args in
-    decided (addressTests (a .a .now) (a .b .now)) (tableTests (tablesOf (a .keys .now) (a .md5 .now))) unrefused (c .before .before .address-faults .ensures) (c .match .keys2)
+    decided (addressTests (a .a .now) (a .b .now)) (tableTests (tablesOf (a .form) (a .keys .now) (a .md5 .now))) unrefused (c .before .before .address-faults .ensures) (c .match .keys2)
 
 returns-2 : tie.Need-returns-2
 returns-2 c =
     let a = c .before .before .before .before .before .before .before .before .args in
-    behind (addressTests (a .a .now) (a .b .now)) (tableTests (tablesOf (a .keys .now) (a .md5 .now))) unrefused (c .before .before .before .address-faults .ensures) refl (c .enum-told .given .1) (c .before .before .table-faults .ensures)
+    behind (addressTests (a .a .now) (a .b .now)) (tableTests (tablesOf (a .form) (a .keys .now) (a .md5 .now))) unrefused (c .before .before .before .address-faults .ensures) refl (c .enum-told .given .1) (c .before .before .table-faults .ensures)
 
 pub input-faults-spec : {M : Type 1} → statement M
 input-faults-spec = tie.close (tie.spec (λ c κs. search needs) (λ c κs. search needs) (λ c. search needs) returns returns-2)

@@ -10,12 +10,12 @@ use Rattle.checks.proofs.faults.state_faults.Tie as tie
 returns : tie.Need-returns
 returns c =
     let a = c .before .before .before .before .before .before .args in
-    decided (familyTests (a .conn)) (inputTests (tablesOf (a .keys .now) (a .md5 .now)) (a .source .now) (a .destination .now)) unrefused (c .before .family-faults .ensures) (c .match .keys2)
+    decided (familyTests (a .conn)) (inputTests (tablesOf (a .form) (a .keys .now) (a .md5 .now)) (a .source .now) (a .destination .now)) unrefused (c .before .family-faults .ensures) (c .match .keys2)
 
 returns-2 : tie.Need-returns-2
 returns-2 c =
     let a = c .before .before .before .before .before .before .before .before .args in
-    behind (familyTests (a .conn)) (inputTests (tablesOf (a .keys .now) (a .md5 .now)) (a .source .now) (a .destination .now)) unrefused (c .before .before .before .family-faults .ensures) refl (c .before .enum-told .given .1) (c .input-faults .ensures)
+    behind (familyTests (a .conn)) (inputTests (tablesOf (a .form) (a .keys .now) (a .md5 .now)) (a .source .now) (a .destination .now)) unrefused (c .before .before .before .family-faults .ensures) refl (c .before .enum-told .given .1) (c .input-faults .ensures)
 
 pub state-faults-spec : {M : Type 1} → statement M
 state-faults-spec = tie.close (tie.spec (λ c κs. search needs) (λ c. search needs) returns (λ c κs. search needs) returns-2)

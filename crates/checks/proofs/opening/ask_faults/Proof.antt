@@ -22,7 +22,7 @@ returns c = stop (familyTests (c .before .before .before .before .args .conn)) _
 returns-2 : tie.Need-returns-2
 returns-2 c =
     let a = c .before .before .before .before .before .before .before .before .args in
-    let t = tablesOf (a .keys .now) (a .md5 .now) in
+    let t = tablesOf (a .form) (a .keys .now) (a .md5 .now) in
     pass (familyTests (a .conn)) refl (c .before .before .before .before .before .family-faults .ensures) (c .before .before .before .enum-told .given .1)
     (c .key-faults .ensures
     ∙ sym (ap (λ (w : Bool). keyed t w (recvEntry t (a .conn .pair) (a .recv-id))) (sym (c .before .before .is-md5 .ensures) ∙ c .before .if1 .taken)))
@@ -30,7 +30,7 @@ returns-2 c =
 returns-3 : tie.Need-returns-3
 returns-3 c =
     let a = c .before .before .before .before .before .before .before .before .before .args in
-    let t = tablesOf (a .keys .now) (a .md5 .now) in
+    let t = tablesOf (a .form) (a .keys .now) (a .md5 .now) in
     let way = sym (c .before .before .before .is-md5 .ensures) ∙ c .before .before .if1 .left in
     pass (familyTests (a .conn)) refl (c .before .before .before .before .before .before .family-faults .ensures) (c .before .before .before .before .enum-told .given .1)
     (c .key-faults2 .ensures ∙ (λ i. keyed t (sym way i) (c .before .find-recv .ensures i)))

@@ -14,14 +14,14 @@ returns-2 : tie.Need-returns-2
 returns-2 c =
     let a = c .before .before .before .before .before .before .before .before .args in
     pass (familyTests (a .conn)) refl (c .before .before .before .before .family-faults .ensures) (c .before .before .enum-told .given .1)
-    (stop (tableTests (tablesOf (a .keys .now) (a .md5 .now))) _ (c .before .table-faults .ensures) (c .match2 .keys2))
+    (stop (tableTests (tablesOf (a .form) (a .keys .now) (a .md5 .now))) _ (c .before .table-faults .ensures) (c .match2 .keys2))
 
 returns-3 : tie.Need-returns-3
 returns-3 c =
     let a = c .before .before .before .before .before .before .before .before .before .before .args in
     pass (familyTests (a .conn)) refl (c .before .before .before .before .before .before .family-faults .ensures)
     (c .before .before .before .before .enum-told .given .1)
-    (pass (tableTests (tablesOf (a .keys .now) (a .md5 .now))) (rw (refusal-final (tablesOf (a .keys .now) (a .md5 .now) .answer))) (c .before .before .before .table-faults .ensures)
+    (pass (tableTests (tablesOf (a .form) (a .keys .now) (a .md5 .now))) (rw (refusal-final (tablesOf (a .form) (a .keys .now) (a .md5 .now) .answer))) (c .before .before .before .table-faults .ensures)
     (c .before .enum-told2 .given .1) (c .length-faults .ensures))
 
 pub input-faults-spec : {M : Type 1} → statement M

@@ -11,14 +11,14 @@ after-judging-requires : tie.Need-after-judging-requires
 after-judging-requires c κs =
     let a = c .before .before .before .before .before .before .before .before .before .before .args in
     let s = arrivalOf (a .source .now) (a .destination .now) (a .segment .now) in
-    at-number (tablesOf (a .keys .now) (a .md5 .now)) (a .state .conn) (a .state .seen) s (c .before .before .before .check .ensures) (c .sequence .ensures)
+    at-number (tablesOf (a .form) (a .keys .now) (a .md5 .now)) (a .state .conn) (a .state .seen) s (c .before .before .before .check .ensures) (c .sequence .ensures)
 
 returns : tie.Need-returns
 returns c =
     let a = c .before .before .before .before .before .before .before .before .before .before .before .args in
     let s = arrivalOf (a .source .now) (a .destination .now) (a .segment .now) in
-    judged-numbered (tablesOf (a .keys .now) (a .md5 .now)) s (a .state)
-    (judged-is (tablesOf (a .keys .now) (a .md5 .now)) s (a .state) (c .before .before .before .before .check .ensures)
+    judged-numbered (tablesOf (a .form) (a .keys .now) (a .md5 .now)) s (a .state)
+    (judged-is (tablesOf (a .form) (a .keys .now) (a .md5 .now)) s (a .state) (c .before .before .before .before .check .ensures)
     (c .before .before .before .verdict-of .ensures) (c .before .before .index-of .ensures) (c .after-judging .ensures))
 
 pub judge-spec : {M : Type 1} → statement M

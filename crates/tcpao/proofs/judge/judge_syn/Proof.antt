@@ -11,8 +11,8 @@ returns : tie.Need-returns
 returns c =
     let a = c .before .before .before .before .before .before .before .before .args in
     let s = arrivalOf (a .source .now) (a .destination .now) (a .segment .now) in
-    syn-numbered (tablesOf (a .keys .now) (a .md5 .now)) s (a .strict)
-    (syn-is (tablesOf (a .keys .now) (a .md5 .now)) s (a .strict) (c .before .before .check-syn .ensures) (c .before .verdict-of .ensures) (c .index-of .ensures))
+    syn-numbered (tablesOf (a .form) (a .keys .now) (a .md5 .now)) s (a .strict)
+    (syn-is (tablesOf (a .form) (a .keys .now) (a .md5 .now)) s (a .strict) (c .before .before .check-syn .ensures) (c .before .verdict-of .ensures) (c .index-of .ensures))
 
 pub judge-syn-spec : {M : Type 1} → statement M
 judge-syn-spec = tie.close (tie.spec (λ c κs. search needs) (λ c κs. search needs) (λ c κs. search needs) returns)

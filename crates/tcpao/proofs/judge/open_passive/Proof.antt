@@ -11,7 +11,7 @@ use Rattle.tcpao.proofs.judge.open_passive.Tie as tie
 opened-by-requires : tie.Need-opened-by-requires
 opened-by-requires c κs =
     let a = c .before .before .before .before .before .before .before .before .before .before .args in
-    let t = tablesOf (a .keys .now) (a .md5 .now) in
+    let t = tablesOf (a .form) (a .keys .now) (a .md5 .now) in
     let s = arrivalOf (a .source .now) (a .destination .now) (a .segment .now) in
     let b = c .before .before .before .before .begin-syn in
     let f = c .before .before .finished .ensures in
@@ -21,7 +21,7 @@ opened-by-requires c κs =
 returns : tie.Need-returns
 returns c =
     let a = c .before .before .before .before .before .before .before .before .before .before .before .args in
-    let t = tablesOf (a .keys .now) (a .md5 .now) in
+    let t = tablesOf (a .form) (a .keys .now) (a .md5 .now) in
     let s = arrivalOf (a .source .now) (a .destination .now) (a .segment .now) in
     let b = c .before .before .before .before .before .begin-syn in
     passively-numbered t s (a .isn) (a .strict)

@@ -13,7 +13,7 @@ returns : tie.Need-returns
 returns c =
     let a = c .before .before .before .before .before .before .before .args in
     let p = arrivalPair (arrivalOf (a .source .now) (a .destination .now) (a .segment .now)) in
-    not-opened (tablesOf (a .keys .now) (a .md5 .now)) p (a .isn) (recvEntry (tablesOf (a .keys .now) (a .md5 .now)) p (keyId (a .segment .now)) .entry) (a .o) (c .before .match .keys2) (c .empty .ensures)
+    not-opened (tablesOf (a .form) (a .keys .now) (a .md5 .now)) p (a .isn) (recvEntry (tablesOf (a .form) (a .keys .now) (a .md5 .now)) p (keyId (a .segment .now)) .entry) (a .o) (c .before .match .keys2) (c .empty .ensures)
 
 arrival-pair-requires : tie.Need-arrival-pair-requires
 arrival-pair-requires c κs = c .before .before .before .before .before .before .before .before .pre _ _ (c .before .o .given .1) .addresses
@@ -24,7 +24,7 @@ returns-2 c =
     let a = start .args in
     let good = c .before .before .before .before .before .o .given .1 in
     let taken = start .pre _ _ good in
-    opened-md5 (tablesOf (a .keys .now) (a .md5 .now)) (arrivalOf (a .source .now) (a .destination .now) (a .segment .now)) (a .isn) good
+    opened-md5 (tablesOf (a .form) (a .keys .now) (a .md5 .now)) (arrivalOf (a .source .now) (a .destination .now) (a .segment .now)) (a .isn) good
     (c .before .sequence .ensures) (taken .position) (c .before .before .before .arrival-pair .ensures)
     (sym (taken .by) ∙ eq-eqb (a .way) 1 (c .before .before .if1 .taken)) (c .opened .ensures)
 
@@ -35,7 +35,7 @@ returns-3 c =
     let good = c .before .before .before .before .before .before .o .given .1 in
     let taken = start .pre _ _ good in
     let ao = sym (taken .by) ∙ ne-eqb (a .way) 1 (c .before .before .before .if1 .left) in
-    opened-ao (tablesOf (a .keys .now) (a .md5 .now)) (arrivalOf (a .source .now) (a .destination .now) (a .segment .now)) (a .isn) good
+    opened-ao (tablesOf (a .form) (a .keys .now) (a .md5 .now)) (arrivalOf (a .source .now) (a .destination .now) (a .segment .now)) (a .isn) good
     (c .before .sequence2 .ensures) (taken .position) (c .before .before .before .before .arrival-pair .ensures) ao (taken .found ao)
     (c .before .before .next-key .ensures) (c .opened2 .ensures)
 

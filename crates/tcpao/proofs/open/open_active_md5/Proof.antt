@@ -9,8 +9,8 @@ use Rattle.tcpao.proofs.open.open_active_md5.Tie as tie
 returns : tie.Need-returns
 returns c =
     let a = c .before .before .before .before .before .before .before .before .args in
-    opened-md5-numbered (tablesOf (a .keys .now) (a .md5 .now)) (a .local .now) (a .remote .now) (a .local-port) (a .remote-port) (a .isn)
-    (refused-sizes-md5 (tablesOf (a .keys .now) (a .md5 .now)) (a .local .now) (a .remote .now) (a .local-port) (a .remote-port) (a .isn) _ _ _
+    opened-md5-numbered (tablesOf (a .form) (a .keys .now) (a .md5 .now)) (a .local .now) (a .remote .now) (a .local-port) (a .remote-port) (a .isn)
+    (refused-sizes-md5 (tablesOf (a .form) (a .keys .now) (a .md5 .now)) (a .local .now) (a .remote .now) (a .local-port) (a .remote-port) (a .isn) _ _ _
     (c .before .before .address-faults .ensures) (c .before .before .before .empty .ensures) (c .before .match .keys2) (c .settled-by .ensures))
 
 pair-of-requires : tie.Need-pair-of-requires
@@ -21,8 +21,8 @@ pair-of-requires c κs =
 returns-2 : tie.Need-returns-2
 returns-2 c =
     let a = c .before .before .before .before .before .before .before .before .before .before .before .before .before .args in
-    opened-md5-numbered (tablesOf (a .keys .now) (a .md5 .now)) (a .local .now) (a .remote .now) (a .local-port) (a .remote-port) (a .isn)
-    (opens-md5 (tablesOf (a .keys .now) (a .md5 .now)) (a .local .now) (a .remote .now) (a .local-port) (a .remote-port) (a .isn) _ _ _
+    opened-md5-numbered (tablesOf (a .form) (a .keys .now) (a .md5 .now)) (a .local .now) (a .remote .now) (a .local-port) (a .remote-port) (a .isn)
+    (opens-md5 (tablesOf (a .form) (a .keys .now) (a .md5 .now)) (a .local .now) (a .remote .now) (a .local-port) (a .remote-port) (a .isn) _ _ _
     (c .before .before .before .before .before .before .before .address-faults .ensures)
     (c .before .before .before .before .before .before .before .before .empty .ensures)
     (c .before .before .before .before .pair-of .result) (c .before .before .before .find-md5 .result) _ _

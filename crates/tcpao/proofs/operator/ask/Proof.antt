@@ -11,7 +11,7 @@ returns : tie.Need-returns
 unfolding asked
 returns c =
     let a = c .before .before .before .before .before .args in
-    asked-numbered (tablesOf (a .keys .now) (a .md5 .now)) (a .recv-id) (a .state)
+    asked-numbered (tablesOf (a .form) (a .keys .now) (a .md5 .now)) (a .recv-id) (a .state)
     (c .settled-by .ensures ∙ (λ i. settledBy (c .before .before .ask-faults .ensures i) (a .state) (c .before .with-asked .ensures i)))
 
 pub ask-spec : {M : Type 1} → statement M

@@ -10,7 +10,7 @@ use Rattle.tcpao.proofs.sign.begin.Tie as tie
 returns : tie.Need-returns
 returns c =
     let a = c .before .before .before .before .before .before .before .args in
-    let l : Lent = record { keys = a .keys .now; md5 = a .md5 .now } in
+    let l : Lent = record { form = a .form; keys = a .keys .now; md5 = a .md5 .now } in
     let gave =
     at-input (tables l) (a .segment .now) (a .room) (a .state) (c .before .before .input-faults .ensures) (c .before .match .keys2) in
     nothing-begins l (a .segment .now) (a .room) (a .state) (c .nothing .ensures) gave (c .before .match .keys2)
@@ -21,7 +21,7 @@ returns-2 c =
     let f = p .before .before .before .before in
     let i = f .before .before .before .before in
     let a = i .before .before .before .before .before .args in
-    let l : Lent = record { keys = a .keys .now; md5 = a .md5 .now } in
+    let l : Lent = record { form = a .form; keys = a .keys .now; md5 = a .md5 .now } in
     let gave =
     at-signing (tables l) (a .segment .now) (a .room) (a .state) (i .input-faults .ensures) (f .before .before .enum-told .given .1)
     (f .outgoing .ensures) (p .before .added-on .ensures) (f .before .header-of .ensures) (p .sign-faults .ensures) in
@@ -33,7 +33,7 @@ ready-md5-requires c κs =
     let f = p .before .before .before .before in
     let i = f .before .before .before .before in
     let a = i .before .before .before .before .before .args in
-    let l : Lent = record { keys = a .keys .now; md5 = a .md5 .now } in
+    let l : Lent = record { form = a .form; keys = a .keys .now; md5 = a .md5 .now } in
     let gave =
     at-signing (tables l) (a .segment .now) (a .room) (a .state) (i .input-faults .ensures) (f .before .before .enum-told .given .1)
     (f .outgoing .ensures) (p .before .added-on .ensures) (f .before .header-of .ensures) (p .sign-faults .ensures) in
@@ -46,7 +46,7 @@ returns-3 c =
     let f = p .before .before .before .before in
     let i = f .before .before .before .before in
     let a = i .before .before .before .before .before .args in
-    let l : Lent = record { keys = a .keys .now; md5 = a .md5 .now } in
+    let l : Lent = record { form = a .form; keys = a .keys .now; md5 = a .md5 .now } in
     let gave =
     at-signing (tables l) (a .segment .now) (a .room) (a .state) (i .input-faults .ensures) (f .before .before .enum-told .given .1)
     (f .outgoing .ensures) (p .before .added-on .ensures) (f .before .header-of .ensures) (p .sign-faults .ensures) in
@@ -59,7 +59,7 @@ ready-requires c κs =
     let f = p .before .before .before .before in
     let i = f .before .before .before .before in
     let a = i .before .before .before .before .before .args in
-    let l : Lent = record { keys = a .keys .now; md5 = a .md5 .now } in
+    let l : Lent = record { form = a .form; keys = a .keys .now; md5 = a .md5 .now } in
     let gave =
     at-signing (tables l) (a .segment .now) (a .room) (a .state) (i .input-faults .ensures) (f .before .before .enum-told .given .1)
     (f .outgoing .ensures) (p .before .added-on .ensures) (f .before .header-of .ensures) (p .sign-faults .ensures) in
@@ -72,7 +72,7 @@ returns-4 c =
     let f = p .before .before .before .before in
     let i = f .before .before .before .before in
     let a = i .before .before .before .before .before .args in
-    let l : Lent = record { keys = a .keys .now; md5 = a .md5 .now } in
+    let l : Lent = record { form = a .form; keys = a .keys .now; md5 = a .md5 .now } in
     let gave =
     at-signing (tables l) (a .segment .now) (a .room) (a .state) (i .input-faults .ensures) (f .before .before .enum-told .given .1)
     (f .outgoing .ensures) (p .before .added-on .ensures) (f .before .header-of .ensures) (p .sign-faults .ensures) in

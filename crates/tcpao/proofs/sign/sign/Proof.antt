@@ -23,14 +23,14 @@ finish-requires : tie.Need-finish-requires
 finish-requires c κs =
     let o = c .before .before .before .before .begin in
     let a = c .before .before .before .before .before .before .before .before .before .args in
-    may-write (record { keys = a .keys .now; md5 = a .md5 .now }) (a .segment .now) (a .out .now) (a .state) (o .result) (o .ensures) (c .before .before .outcome .given .1)
+    may-write (record { form = a .form; keys = a .keys .now; md5 = a .md5 .now }) (a .segment .now) (a .out .now) (a .state) (o .result) (o .ensures) (c .before .before .outcome .given .1)
 
-add-t18 : tie.Need-add-t18
-add-t18 c =
+add-t19 : tie.Need-add-t19
+add-t19 c =
     let p = c .before .before .before .before .before in
     let o = p .before .before .begin in
     let a = p .before .before .before .before .before .before .before .args in
-    let w = sum-fits (record { keys = a .keys .now; md5 = a .md5 .now }) (a .segment .now) (a .out .now) (a .state) (o .result) (o .ensures) (p .outcome .given .1) in
+    let w = sum-fits (record { form = a .form; keys = a .keys .now; md5 = a .md5 .now }) (a .segment .now) (a .out .now) (a .state) (o .result) (o .ensures) (p .outcome .given .1) in
     record { fits = omega (arith, w) }
 
 returns : tie.Need-returns
@@ -38,16 +38,16 @@ returns c =
     let p = c .before .before .before .before .before .before in
     let o = p .before .before .begin in
     let a = p .before .before .before .before .before .before .before .args in
-    let n = adds (record { keys = a .keys .now; md5 = a .md5 .now }) (a .segment .now) (a .out .now) (a .state) (o .result) (o .ensures) (p .outcome .given .1) in
+    let n = adds (record { form = a .form; keys = a .keys .now; md5 = a .md5 .now }) (a .segment .now) (a .out .now) (a .state) (o .result) (o .ensures) (p .outcome .given .1) in
     let st = p .before .before .before .before .before .before .before in
-    let b = writes (record { keys = a .keys .now; md5 = a .md5 .now }) (a .segment .now) (a .out .now) (a .state) (o .result) (o .ensures) (p .outcome .given .1)
+    let b = writes (record { form = a .form; keys = a .keys .now; md5 = a .md5 .now }) (a .segment .now) (a .out .now) (a .state) (o .result) (o .ensures) (p .outcome .given .1)
     (local st) (remote st) (c .before .before .before .finish .ensures) in
-    let e = answers (record { keys = a .keys .now; md5 = a .md5 .now }) (a .segment .now) (a .out .now) (a .state) (o .result) (o .ensures) _ (p .outcome .given .1)
+    let e = answers (record { form = a .form; keys = a .keys .now; md5 = a .md5 .now }) (a .segment .now) (a .out .now) (a .state) (o .result) (o .ensures) _ (p .outcome .given .1)
     (λ i. record { answer = S.Signed (length (a .segment .now) + n i); index = noIndex; state = c .after-signing .ensures i }) in (
       e,
       (
-        outputs (record { keys = a .keys .now; md5 = a .md5 .now }) (a .segment .now) (a .out .now) (a .state) (o .result) (o .ensures) _ (p .outcome .given .1) b,
-        signed-numbered (tables (record { keys = a .keys .now; md5 = a .md5 .now })) (a .segment .now) (a .out .now) (a .state) e,
+        outputs (record { form = a .form; keys = a .keys .now; md5 = a .md5 .now }) (a .segment .now) (a .out .now) (a .state) (o .result) (o .ensures) _ (p .outcome .given .1) b,
+        signed-numbered (tables (record { form = a .form; keys = a .keys .now; md5 = a .md5 .now })) (a .segment .now) (a .out .now) (a .state) e,
       ),
     )
 
@@ -56,11 +56,11 @@ returns-2 c =
     let o = c .before .before .before .begin in
     let a = c .before .before .before .before .before .before .before .before .args in
     let g = c .before .enum-told .given .1 in
-    let e = answers (record { keys = a .keys .now; md5 = a .md5 .now }) (a .segment .now) (a .out .now) (a .state) (o .result) (o .ensures) Passed g (c .refused .ensures) in (
+    let e = answers (record { form = a .form; keys = a .keys .now; md5 = a .md5 .now }) (a .segment .now) (a .out .now) (a .state) (o .result) (o .ensures) Passed g (c .refused .ensures) in (
       e,
       (
-        outputs (record { keys = a .keys .now; md5 = a .md5 .now }) (a .segment .now) (a .out .now) (a .state) (o .result) (o .ensures) Passed g refl,
-        signed-numbered (tables (record { keys = a .keys .now; md5 = a .md5 .now })) (a .segment .now) (a .out .now) (a .state) e,
+        outputs (record { form = a .form; keys = a .keys .now; md5 = a .md5 .now }) (a .segment .now) (a .out .now) (a .state) (o .result) (o .ensures) Passed g refl,
+        signed-numbered (tables (record { form = a .form; keys = a .keys .now; md5 = a .md5 .now })) (a .segment .now) (a .out .now) (a .state) e,
       ),
     )
 
@@ -69,11 +69,11 @@ returns-3 c =
     let o = c .before .before .before .before .begin in
     let a = c .before .before .before .before .before .before .before .before .before .args in
     let g = c .before .before .outcome2 .given .1 in
-    let e = answers (record { keys = a .keys .now; md5 = a .md5 .now }) (a .segment .now) (a .out .now) (a .state) (o .result) (o .ensures) _ g (c .refused2 .ensures) in (
+    let e = answers (record { form = a .form; keys = a .keys .now; md5 = a .md5 .now }) (a .segment .now) (a .out .now) (a .state) (o .result) (o .ensures) _ g (c .refused2 .ensures) in (
       e,
       (
-        outputs (record { keys = a .keys .now; md5 = a .md5 .now }) (a .segment .now) (a .out .now) (a .state) (o .result) (o .ensures) _ g refl,
-        signed-numbered (tables (record { keys = a .keys .now; md5 = a .md5 .now })) (a .segment .now) (a .out .now) (a .state) e,
+        outputs (record { form = a .form; keys = a .keys .now; md5 = a .md5 .now }) (a .segment .now) (a .out .now) (a .state) (o .result) (o .ensures) _ g refl,
+        signed-numbered (tables (record { form = a .form; keys = a .keys .now; md5 = a .md5 .now })) (a .segment .now) (a .out .now) (a .state) e,
       ),
     )
 
@@ -81,5 +81,5 @@ pub sign-spec : {M : Type 1} → statement M
 sign-spec =
     tie.close
     (tie.spec
-    (λ c κs. search needs) (λ c. search needs) finish-requires add-t18 (λ c κs. search needs) (λ c. search needs) (λ c κs. search needs)
+    (λ c κs. search needs) (λ c. search needs) finish-requires add-t19 (λ c κs. search needs) (λ c. search needs) (λ c κs. search needs)
     (λ c. search needs) (λ c κs. search needs) (λ c. search needs) returns returns-2 returns-3)

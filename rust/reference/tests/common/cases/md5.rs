@@ -45,6 +45,7 @@ fn by_all(scene: &Scene, list: &mut List, name: &str, tables: (&[u8], &[u8]), an
     let s = Md5Scene::new();
     let mut add = |state: &[u8], call: Call| list.add_with(name, tables, state, call, answer);
     add(&scene.empty, check_table());
+    add(&scene.empty, prepared::prepare(0));
     add(&scene.a.state, active(1));
     add(&scene.a.state, active_md5());
     add(&scene.empty, judge_syn(&s.syn, 0));
@@ -73,8 +74,6 @@ pub fn bad_tables(scene: &Scene, list: &mut List) {
         by_all(scene, list, name, (&[8], md5), word(11, 0));
     };
     let after_one = |bytes: Vec<u8>| [good.bytes(), bytes].concat();
-    let full: Vec<u8> = (0..64).flat_map(|i| other(i).bytes()).collect();
-    add("a 65th entry", &[&full[..], &[9]].concat(), 12, 64);
     for kind in [0, 3, 5, 7, 8, 19, 255] {
         let of_kind = [vec![kind], other(1).bytes()[1..].to_vec()].concat();
         add("kind", &after_one(of_kind), 11, 1);
@@ -162,8 +161,28 @@ pub fn bad_tables(scene: &Scene, list: &mut List) {
     taken("both families", &[good.clone(), good6]);
     taken("beside each other", &[ports(0, 178), ports(179, 200)]);
     taken("other peers", &[other(1), other(2), other(3)]);
-    let full: Vec<Entry> = (0..64).map(other).collect();
-    taken("64", &full);
+    let many: Vec<Entry> = (0..200).map(other).collect();
+    taken("200", &many);
+}
+
+/// 1,024 entries, for as many of B's ports.
+pub fn full() -> Vec<Entry> {
+    let at = |port: u16| Entry {
+        remote: Side::host(&B4).ports(port, port),
+        ..Entry::md5(&A4, &B4)
+    };
+    (0..1_024).map(at).collect()
+}
+
+/// A 1,025th entry, after 1,024.
+pub fn too_many(list: &mut List) {
+    let (full, empty) = (table(&full()), State::default().bytes());
+    let more = [&full[..], &[9]].concat();
+    let mut check = |name: &str, md5: &[u8], answer: u64| {
+        list.add_with(name, (&[], md5), &empty, check_table(), answer);
+    };
+    check("1,024", &full, word(0, 0));
+    check("a 1,025th entry", &more, md5_word(12, 1_024));
 }
 
 /// 45, and tables that are apart.

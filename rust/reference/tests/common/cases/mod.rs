@@ -5,9 +5,11 @@ pub mod checksum;
 pub mod inputs;
 pub mod judge;
 pub mod key_ids;
+pub mod large;
 pub mod mac_lengths;
 pub mod md5;
 pub mod open;
+pub mod prepared;
 pub mod sha256;
 pub mod sign;
 pub mod table;
@@ -24,6 +26,7 @@ pub fn cases() -> Vec<Case> {
     let mut list = List(vec![]);
     table::refused(&scene, &mut list);
     table::taken(&scene, &mut list);
+    table::too_many(&scene, &mut list);
     inputs::states(&scene, &mut list);
     inputs::addresses(&scene, &mut list);
     open::active(&scene, &mut list);
@@ -53,6 +56,7 @@ pub fn cases() -> Vec<Case> {
     translation::not_hidden(&mut list);
     translation::as_seen(&mut list);
     md5::bad_tables(&scene, &mut list);
+    md5::too_many(&mut list);
     md5::both_tables(&scene, &mut list);
     md5::openings(&scene, &mut list);
     md5::bare_syn(&scene, &mut list);
@@ -63,6 +67,16 @@ pub fn cases() -> Vec<Case> {
     md5::asking(&scene, &mut list);
     md5::digests(&mut list);
     ask::ids(&scene, &mut list);
+    prepared::refused(&scene, &mut list);
+    prepared::done(&scene, &mut list);
+    prepared::read_as(&mut list);
+    prepared::not_matched(&scene, &mut list);
+    prepared::marks(&mut list);
+    prepared::not_tested_again(&scene, &mut list);
+    prepared::preparing(&scene, &mut list);
+    large::found(&scene, &mut list);
+    large::clashes(&scene, &mut list);
+    large::full(&scene, &mut list);
     list.0
 }
 

@@ -14,12 +14,6 @@ pub fn bad_tables() -> Vec<(String, Vec<u8>, Answer)> {
     };
     let after_one = |bytes: Vec<u8>| [good.bytes(), bytes].concat();
     let with_ids = |send_id: u8, recv_id: u8| good.clone().ids(send_id, recv_id).bytes();
-    let full: Vec<u8> = (0..64).flat_map(|i| with_ids(i, 100 + i)).collect();
-
-    let too_many = |behind: Vec<u8>| [full.clone(), behind].concat();
-    add("a 65th entry", too_many(with_ids(64, 164)), 12, 64);
-    add("a 65th of unknown kind", too_many(vec![9]), 12, 64);
-    add("a 65th cut", too_many(vec![4]), 12, 64);
 
     let of_kind = |kind: u8| [vec![kind], good.bytes()[1..].to_vec()].concat();
     let cut6 = good6.bytes()[..127].to_vec();
@@ -113,6 +107,49 @@ pub fn bad_tables() -> Vec<(String, Vec<u8>, Answer)> {
     list
 }
 
+/// 1,024 entries: 256 IDs, and four peers.
+pub fn full() -> Vec<Entry> {
+    let peer = |i: usize| Entry::between(&A4, &[10, 0, (i / 256) as u8, 2]);
+    let entry = |i: usize| peer(i).ids(i as u8, i as u8 ^ 1);
+    (0..1_024).map(entry).collect()
+}
+
+/// A 1,025th entry, after 1,024: by every call.
+pub fn too_many(scene: &Scene, list: &mut List) {
+    let full = full();
+    let (empty, open) = (&scene.empty, &scene.a.state);
+    let mut add = |name: &str, behind: &[u8], state: &[u8], call: Call| {
+        let table = [table(&full), behind.to_vec()].concat();
+        list.add(name, &table, state, call, (12, 1_024));
+    };
+    add("a 1,025th entry", &full[0].bytes(), empty, check_table());
+    add("a 1,025th of unknown kind", &[9], empty, check_table());
+    for call in [
+        prepared::prepare(0),
+        active(1),
+        active_md5(),
+        judge_syn(&scene.syn, 0),
+        passive(&scene.syn, 0),
+        judge(&scene.from_b),
+        sign(&scene.data),
+        ask(2),
+    ] {
+        add("a 1,025th cut", &[4], open, call);
+    }
+    list.add("1,024", &table(&full), empty, check_table(), (0, 1_024));
+    // A 65th is nothing special any more.
+    for (behind, number) in [(&[9][..], 11), (&[4], 10)] {
+        let table = [&table(&full[..64]), behind].concat();
+        list.add(
+            "64 and a bad one",
+            &table,
+            empty,
+            check_table(),
+            (number, 64),
+        );
+    }
+}
+
 /// By every call.
 pub fn refused(scene: &Scene, list: &mut List) {
     let Scene {
@@ -127,6 +164,7 @@ pub fn refused(scene: &Scene, list: &mut List) {
     } = scene;
     for (name, bad, answer) in bad_tables() {
         list.add(&name, &bad, empty, check_table(), answer);
+        list.add(&name, &bad, empty, prepared::prepare(0), answer);
         list.add(&name, &bad, &a.state, active(1), answer);
         list.add(&name, &bad, &a.state, active_md5(), answer);
         list.add(&name, &bad, empty, judge_syn(syn, 0), answer);

@@ -17,13 +17,15 @@ length-begun s = search needs
 returns : tie.Need-returns
 returns c =
     let b = c .before .before .before .before in
-    idles (take (length (b .args .table .now))) (b .args .self) (b .args .table .now) (b .args .«data» .now) _ (lt-ltb _ _ (c .before .if1 .taken)) (c .idle .ensures)
+    let g = idles (take (length (b .args .table .now))) (b .args .self) (b .args .table .now) (b .args .«data» .now) _ (lt-ltb _ _ (c .before .if1 .taken)) (c .idle .ensures) in
+    record { desk = g .0; took = g .1; room = search needs }
 
 returns-2 : tie.Need-returns-2
 returns-2 c =
     let b = c .before .before .before .before .before in
-    waits (take (length (b .args .table .now))) (b .args .self) (b .args .table .now) (b .args .«data» .now) _ (le-ltb _ _ (c .before .before .if1 .left))
-    (c .before .if2 .taken) (c .idle2 .ensures)
+    let g = waits (take (length (b .args .table .now))) (b .args .self) (b .args .table .now) (b .args .«data» .now) _ (le-ltb _ _ (c .before .before .if1 .left))
+    (c .before .if2 .taken) (c .idle2 .ensures) in
+    record { desk = g .0; took = g .1; room = search needs }
 
 slice-aggregate-hold : tie.Need-slice-aggregate-hold
 slice-aggregate-hold c = sym (length-take-le _ _ (omega (arith, c .before .before .to-take .ensures .0)))
@@ -48,12 +50,16 @@ returns-3 c =
     let t = c .before .before .before .before .before .before .before .before .to-take in
     let n = ap (λ (k : ℕ). k + t .result) (c .before .before .before .before .before .before .before .held-bytes .ensures .0) in
     let h = c .before .before .before .before .before .hold in
-    let s = le-ltb _ _ (f .if1 .left) in (
-      advances (b .args .self) (h .result) (b .args .«data» .now) (t .result) _ (length-begun b) (t .ensures .0) (t .ensures .1) (t .ensures .2) n (h .ensures)
-          (take (length (b .args .table .now))) (b .args .table .now) _ _ _ s (c .before .before .before .look .ensures),
-      takes (b .args .self) (h .result) (b .args .«data» .now) (t .result) _ (length-begun b) (t .ensures .0) (t .ensures .1) (t .ensures .2) n (h .ensures)
-          (b .args .table .now) s,
-    )
+    let s = le-ltb _ _ (f .if1 .left) in
+    record {
+      desk =
+          advances (b .args .self) (h .result) (b .args .«data» .now) (t .result) _ (length-begun b) (t .ensures .0) (t .ensures .1) (t .ensures .2) n (h .ensures)
+          (take (length (b .args .table .now))) (b .args .table .now) _ _ _ s (c .before .before .before .look .ensures);
+      took =
+          takes (b .args .self) (h .result) (b .args .«data» .now) (t .result) _ (length-begun b) (t .ensures .0) (t .ensures .1) (t .ensures .2) n (h .ensures)
+          (b .args .table .now) s;
+      room = search needs;
+    }
 
 pub advance-spec : {M : Type 1} → statement M
 advance-spec =

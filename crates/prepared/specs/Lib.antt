@@ -1,0 +1,10 @@
+pub mod Prepared
+pub mod Parts
+pub mod Form
+pub mod Scan
+pub mod ClearLaws
+pub mod CleanLaws
+pub mod ReadLaws
+pub mod ScanLaws
+pub mod ImageLaws
+pub mod HoldLaws
