@@ -9,6 +9,7 @@ use lib.Dec.{eqb, ltb}
 use borrow.Author.Tests.{lt-ltb, eq-eqb, eqb-true}
 use Rattle.octets.specs.Tests.{any}
 use Rattle.wire.specs.Header.{sourcePort, destinationPort, sequence, dataOffset, headerEnd}
+use Rattle.wire.specs.Prefix.{clearTo}
 use Rattle.checksum.specs.Checksum.{onesSum, checksumOf, checksummed}
 use Rattle.mac.specs.Cmac.{cmac}
 use Rattle.keys.specs.Algorithm.{macBytes, outputBits}
@@ -39,7 +40,7 @@ use Rattle.rules.specs.MacLaws.{length-context, length-key-1, length-key
 use Rattle.rules.specs.GrowthLaws.{above-15}
 use Rattle.rules.specs.Sentences.{NumberRow, bad, row, firstOf, badSize, judgeRows, synRows, signRows, noPlace, entriesRow}
 use Rattle.rules.specs.Sentences.{JudgeTable, SynTable, SignTable}
-use Rattle.rules.specs.Sentences.{EntryBytes, Listed}
+use Rattle.rules.specs.Sentences.{EntryBytes, Listed, Ranged}
 use Rattle.rules.specs.Sentences.{openRows, OpenActiveTable, AskTable, EntryOrder, AnswerNumbers, CountsStop, Context, Contexts, TrafficKeys}
 use Rattle.rules.specs.Sentences.{PseudoHeaders, MessageOrder, Lengths, SegmentMacs, SignedExample, CheckedExamples, PaddedExample, Covered, optionWords}
 use Rattle.rules.specs.Sentences.{SignedAs, HiddenContexts, HiddenCovered}
@@ -175,6 +176,19 @@ entry-bytes =
 pub listed-is : Listed
 unfolding numberOf
 listed-is = record { flags = refl; algorithms = refl; lengths = refl }
+
+pub ranged-is : Ranged
+unfolding numberOf width clearTo
+ranged-is =
+    record {
+      local-ports = refl;
+      remote-ports = refl;
+      prefixes-ipv4 = refl;
+      prefixes-ipv6 = refl;
+      bits-past = refl;
+      key-lengths = refl;
+      padding = refl;
+    }
 
 pub answer-numbers : AnswerNumbers
 unfolding verdictAnswer

@@ -16,6 +16,7 @@ use Rattle.mac.specs.Cmac.{cmac}
 use Rattle.keys.specs.declared.entry.Pair.{Pair}
 use Rattle.keys.specs.declared.entry.Entry.{Entry}
 use Rattle.keys.specs.declared.entry.Secret.{Secret}
+use Rattle.keys.specs.declared.entry.Side.{Side}
 use Rattle.keys.specs.declared.table.Found.{Found}
 use Rattle.keys.specs.Algorithm.{macBytes}
 use Rattle.keys.specs.Entry.{Item, knownKind, familyOf, body, secretOf, entryOf, isFamily, keyOf, allOptions}
@@ -241,6 +242,30 @@ pub record Listed : Type 0 where
   pub flags : map (λ (f : ℕ). listed f 1 12) (0 ∷ 1 ∷ 7 ∷ 8 ∷ 255 ∷ []) ≡ 0 ∷ 0 ∷ 0 ∷ 13 ∷ 13 ∷ []
   pub algorithms : map (λ (a : ℕ). listed 0 a 12) (0 ∷ 1 ∷ 2 ∷ 3 ∷ 4 ∷ []) ≡ 13 ∷ 0 ∷ 0 ∷ 0 ∷ 13 ∷ []
   pub lengths : map (λ (n : ℕ). listed 0 1 n) (3 ∷ 4 ∷ 16 ∷ 17 ∷ []) ≡ 13 ∷ 0 ∷ 0 ∷ 13 ∷ []
+
+-- 14: "low port above high"; 15: "prefix above 32 or 128, or address bits set past it"; 16: "key length 0 or above 80, or padding not
+-- zero". What a selector, a side or a secret gets for these alone; 0 is nothing.
+abbrev pub sideWith : ℕ → ℕ → ℕ → List ℕ → Side
+sideWith low high bits address = record { low = low; high = high; bits = bits; address = address }
+
+abbrev pub portsGet : Side → Side → ℕ
+portsGet local remote = K.numberOf (K.portRangeTests (record { family = 4; local = local; remote = remote }))
+
+abbrev pub prefixGets : ℕ → List ℕ → ℕ → ℕ
+prefixGets f address bits = K.numberOf (K.sideTests f (sideWith 0 0 bits address))
+
+abbrev pub keyGets : List ℕ → ℕ → ℕ
+keyGets key n = K.numberOf (K.masterKeyTests (record { flags = 0; algorithm = 1; «mac_bytes» = 12; «key_len» = n; key = key }))
+
+pub record Ranged : Type 0 where
+  pub local-ports : map (λ (n : ℕ). portsGet (sideWith n 7 0 []) (sideWith 0 0 0 [])) (6 ∷ 7 ∷ 8 ∷ []) ≡ 0 ∷ 0 ∷ 14 ∷ []
+  pub remote-ports : map (λ (n : ℕ). portsGet (sideWith 0 0 0 []) (sideWith n 7 0 [])) (6 ∷ 7 ∷ 8 ∷ []) ≡ 0 ∷ 0 ∷ 14 ∷ []
+  pub prefixes-ipv4 : map (prefixGets 4 (replicate 16 0)) (0 ∷ 32 ∷ 33 ∷ 255 ∷ []) ≡ 0 ∷ 0 ∷ 15 ∷ 15 ∷ []
+  pub prefixes-ipv6 : map (prefixGets 6 (replicate 16 0)) (0 ∷ 128 ∷ 129 ∷ 255 ∷ []) ≡ 0 ∷ 0 ∷ 15 ∷ 15 ∷ []
+  -- 64 is the second bit of its byte
+  pub bits-past : map (prefixGets 4 ((10 ∷ 64 ∷ []) ++ replicate 14 0)) (8 ∷ 9 ∷ 10 ∷ 32 ∷ []) ≡ 15 ∷ 15 ∷ 0 ∷ 0 ∷ []
+  pub key-lengths : map (keyGets (replicate 80 0)) (0 ∷ 1 ∷ 80 ∷ 81 ∷ []) ≡ 16 ∷ 0 ∷ 0 ∷ 16 ∷ []
+  pub padding : map (keyGets ((1 ∷ 2 ∷ 3 ∷ []) ++ replicate 77 0)) (2 ∷ 3 ∷ []) ≡ 16 ∷ 0 ∷ []
 
 -- Answers. "A verdict is accept with its extension, pass, or drop with a number": accept has the number 0, pass 1.
 pub record AnswerNumbers : Type 0 where
