@@ -24,7 +24,7 @@ use wire::options::Occurrence;
 
 // The outcome of every test but 29. Where it is Good, with position and RNextKeyID: the way (1 is MD5), the entry's IDs, the MAC after its
 // front, and the MAC carried, of so many bytes; else these mean nothing.
-#[derive(Drop)]
+#[derive(Clone, Copy)]
 pub struct Begun {
     pub outcome: Outcome,
     pub way: u8,

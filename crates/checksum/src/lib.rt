@@ -1,11 +1,13 @@
 // The Internet checksum, RFC 1071: the one's complement sum of octets that come in pieces, wherever they are cut.
 // Assumes nothing: every value of a sum under way may come.
+#![tactic(auto)]
+
 ghost use Rattle.std.specs.Prelude.{◌≡◌, true, false, ◌+◌, ◌≤◌, ◌^◌, length};
 ghost use Rattle.checksum.specs.Checksum.{complement};
 ghost use Rattle.checksum.specs.Running.{word_sum, folded, Congruent, begun, added, padded as padded_of};
 
 // A sum under way, with its carries brought back; and whether it ends inside a word, so that the next octet is a word's second.
-#[derive(Drop)]
+#[derive(Clone, Copy)]
 pub struct Sum {
     pub sum: u16,
     pub odd: bool,

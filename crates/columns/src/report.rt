@@ -6,7 +6,7 @@ use libc::STDOUT_FILENO;
 use wire::bytes::same;
 
 // How many results there were, and how many of them were expected.
-#[derive(Drop)]
+#[derive(Clone, Copy)]
 pub struct Tally {
     pub ok: u64,
     pub all: u64,

@@ -10,7 +10,7 @@ ghost use Rattle.compression.specs.Variables.{four};
 use crate::words::add;
 
 // The four registers.
-#[derive(Drop)]
+#[derive(Clone, Copy)]
 pub struct Four {
     pub a: u32,
     pub b: u32,

@@ -10,7 +10,7 @@ ghost use Rattle.compression.specs.Variables.{five};
 use crate::words::{add, ch, maj};
 
 // The five working variables.
-#[derive(Drop)]
+#[derive(Clone, Copy)]
 pub struct Five {
     pub a: u32,
     pub b: u32,

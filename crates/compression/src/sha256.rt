@@ -11,7 +11,7 @@ ghost use Rattle.compression.specs.Variables.{eight};
 use crate::words::{add, ch, maj};
 
 // The eight working variables.
-#[derive(Drop)]
+#[derive(Clone, Copy)]
 pub struct Eight {
     pub a: u32,
     pub b: u32,

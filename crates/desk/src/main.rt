@@ -1,12 +1,14 @@
 // The desk check of a recorded line: document 02, Ticket 1. Reads a recording from standard input, or each of the files that its arguments
 // name, in pieces of at most 64 KiB, and prints the lines that `recording` gives. docs/RECORDING.md has the form and the lines.
 // What the lines are is proved there; here bytes are read, handed on and written. Assumes nothing.
+#![tactic(auto)]
+
 use libc::{STDIN_FILENO, STDOUT_FILENO};
 use recording::desk::{Desk, TABLE_BYTES};
 use recording::line::{Line, text_of};
 
 // A desk, and whether there is more to read.
-#[derive(Drop)]
+#[derive(Clone, Copy)]
 struct Reading {
     desk: Desk,
     more: bool,

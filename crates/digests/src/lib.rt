@@ -1,6 +1,8 @@
 // The MAC library on lent bytes: docs/BOUNDARY.md, "The calls on one connection", its end. Each call gives how many bytes it wrote at the
 // front of out: 20, 20, 32, 32, 16, 16, 16. Where out is shorter, or an AES key or block has not 16 bytes, it gives 0 and writes nothing.
 // Assumes nothing.
+#![tactic(auto)]
+
 ghost use Rattle.std.specs.Prelude.{◌≡◌, ◌≤◌, ◌++◌, length, drop};
 ghost use Rattle.digests.specs.Digests.{gives, sha1_into, hmac_sha1_into, sha256_into, hmac_sha256_into, aes128_into, cmac_into, md5_into};
 

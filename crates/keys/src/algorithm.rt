@@ -5,7 +5,7 @@ ghost use Rattle.std.specs.Prelude.{◌≡◌};
 ghost use Rattle.keys.specs.Algorithm.{traffic_key_bytes_of, mac_bytes_of, output_bits_of};
 
 // Algorithm 1.
-#[derive(Drop)]
+#[derive(Clone, Copy)]
 pub struct HmacSha1_96;
 
 impl HmacSha1_96 {
@@ -17,7 +17,7 @@ impl HmacSha1_96 {
 }
 
 // Algorithm 2.
-#[derive(Drop)]
+#[derive(Clone, Copy)]
 pub struct Aes128Cmac96;
 
 impl Aes128Cmac96 {
@@ -29,7 +29,7 @@ impl Aes128Cmac96 {
 }
 
 // Algorithm 3.
-#[derive(Drop)]
+#[derive(Clone, Copy)]
 pub struct HmacSha256;
 
 impl HmacSha256 {
@@ -41,7 +41,7 @@ impl HmacSha256 {
 }
 
 // Algorithm 19, of the MD5 table alone: TCP MD5, which has no traffic keys.
-#[derive(Drop)]
+#[derive(Clone, Copy)]
 pub struct TcpMd5;
 
 impl TcpMd5 {
@@ -50,9 +50,9 @@ impl TcpMd5 {
 
 pub fn traffic_key_bytes(algorithm: u8) -> usize
     ensures number { result ≡ traffic_key_bytes_of algorithm }
-    ensures* first { do ⌜ (← (⟦HmacSha1_96::TRAFFIC_KEY_BYTES⟧).entry) ≡ traffic_key_bytes_of 1 ⌝ }
-    ensures* second { do ⌜ (← (⟦Aes128Cmac96::TRAFFIC_KEY_BYTES⟧).entry) ≡ traffic_key_bytes_of 2 ⌝ }
-    ensures* third { do ⌜ (← (⟦HmacSha256::TRAFFIC_KEY_BYTES⟧).entry) ≡ traffic_key_bytes_of 3 ⌝ }
+    ensures first { HmacSha1_96.TRAFFIC_KEY_BYTES ≡ traffic_key_bytes_of 1 }
+    ensures second { Aes128Cmac96.TRAFFIC_KEY_BYTES ≡ traffic_key_bytes_of 2 }
+    ensures third { HmacSha256.TRAFFIC_KEY_BYTES ≡ traffic_key_bytes_of 3 }
 {
     match algorithm {
         1 => HmacSha1_96::TRAFFIC_KEY_BYTES,
@@ -65,10 +65,10 @@ pub fn traffic_key_bytes(algorithm: u8) -> usize
 // The MAC's length where the entry's kind has no byte for it.
 pub fn mac_bytes(algorithm: u8) -> u8
     ensures number { result ≡ mac_bytes_of algorithm }
-    ensures* first { do ⌜ (← (⟦HmacSha1_96::MAC_BYTES⟧).entry) ≡ mac_bytes_of 1 ⌝ }
-    ensures* second { do ⌜ (← (⟦Aes128Cmac96::MAC_BYTES⟧).entry) ≡ mac_bytes_of 2 ⌝ }
-    ensures* third { do ⌜ (← (⟦HmacSha256::MAC_BYTES⟧).entry) ≡ mac_bytes_of 3 ⌝ }
-    ensures* md5 { do ⌜ (← (⟦TcpMd5::MAC_BYTES⟧).entry) ≡ mac_bytes_of 19 ⌝ }
+    ensures first { HmacSha1_96.MAC_BYTES ≡ mac_bytes_of 1 }
+    ensures second { Aes128Cmac96.MAC_BYTES ≡ mac_bytes_of 2 }
+    ensures third { HmacSha256.MAC_BYTES ≡ mac_bytes_of 3 }
+    ensures md5 { TcpMd5.MAC_BYTES ≡ mac_bytes_of 19 }
 {
     match algorithm {
         1 => HmacSha1_96::MAC_BYTES as u8,
@@ -81,9 +81,9 @@ pub fn mac_bytes(algorithm: u8) -> u8
 
 pub fn output_bits(algorithm: u8) -> u16
     ensures number { result ≡ output_bits_of algorithm }
-    ensures* first { do ⌜ (← (⟦HmacSha1_96::OUTPUT_BITS⟧).entry) ≡ output_bits_of 1 ⌝ }
-    ensures* second { do ⌜ (← (⟦Aes128Cmac96::OUTPUT_BITS⟧).entry) ≡ output_bits_of 2 ⌝ }
-    ensures* third { do ⌜ (← (⟦HmacSha256::OUTPUT_BITS⟧).entry) ≡ output_bits_of 3 ⌝ }
+    ensures first { HmacSha1_96.OUTPUT_BITS ≡ output_bits_of 1 }
+    ensures second { Aes128Cmac96.OUTPUT_BITS ≡ output_bits_of 2 }
+    ensures third { HmacSha256.OUTPUT_BITS ≡ output_bits_of 3 }
 {
     match algorithm {
         1 => HmacSha1_96::OUTPUT_BITS,

@@ -6,7 +6,7 @@ ghost use Rattle.keys.specs.Entry.{known_kind_of, family_of_lem, extra, size, wi
 ghost use Rattle.keys.specs.Entry.{sides_end_of, mac_length_of, secret_of_lem, entry_of};
 
 // One side of whom an entry matches: ports from low to high, and the addresses whose first `bits` bits are those of `address`.
-#[derive(Drop)]
+#[derive(Clone, Copy)]
 pub struct Side {
     pub low: u16,
     pub high: u16,
@@ -15,7 +15,7 @@ pub struct Side {
 }
 
 // Whom an entry matches. IPv4 (family 4) uses the first four bytes of an address field, IPv6 (family 6) all sixteen.
-#[derive(Drop)]
+#[derive(Clone, Copy)]
 pub struct Selector {
     pub family: u8,
     pub local: Side,
@@ -23,7 +23,7 @@ pub struct Selector {
 }
 
 // SendID and RecvID.
-#[derive(Drop)]
+#[derive(Clone, Copy)]
 pub struct Ids {
     pub send: u8,
     pub recv: u8,
@@ -31,7 +31,7 @@ pub struct Ids {
 
 // How an entry signs: bit 0 of the flags says that all options are covered, bits 1 and 2 that the local and the remote side's address and
 // port count as zero; the key is the first key_len bytes.
-#[derive(Drop)]
+#[derive(Clone, Copy)]
 pub struct Secret {
     pub flags: u8,
     pub algorithm: u8,
@@ -40,7 +40,7 @@ pub struct Secret {
     pub key: [u8; 80],
 }
 
-#[derive(Drop)]
+#[derive(Clone, Copy)]
 pub struct Entry {
     pub selector: Selector,
     pub ids: Ids,
@@ -48,7 +48,7 @@ pub struct Entry {
 }
 
 // A socket pair. The bytes of an address field that the family does not use mean nothing.
-#[derive(Drop)]
+#[derive(Clone, Copy)]
 pub struct Pair {
     pub family: u8,
     pub local_port: u16,

@@ -14,21 +14,21 @@ use crate::entry::{
 use wire::bytes::byte_at;
 
 // Which table: document 01's, or document 02's of RFC 2385, whose entries are of kinds 4 and 6, with flags 0, algorithm 19 and both IDs 0.
-#[derive(Drop)]
+#[derive(Clone, Copy)]
 pub enum TableKind {
     Keys,
     Md5,
 }
 
 // What the loader answers: the table is valid and has so many entries, or it is refused with a number at the entry of an index.
-#[derive(Drop)]
+#[derive(Clone, Copy)]
 pub enum Loaded {
     Valid(usize),
     Refused(u8, usize),
 }
 
 // What a search asks of an entry that matches the pair: nothing more, its SendID, or its RecvID.
-#[derive(Drop)]
+#[derive(Clone, Copy)]
 pub enum By {
     Any,
     Send(u8),
@@ -36,7 +36,7 @@ pub enum By {
 }
 
 // What a search answers. Where nothing is there, the index is 0 and the entry all zero.
-#[derive(Drop)]
+#[derive(Clone, Copy)]
 pub struct Found {
     pub there: bool,
     pub index: usize,
@@ -44,7 +44,7 @@ pub struct Found {
 }
 
 // What a search by another table's entries answers. Where nothing is there, the index is 0.
-#[derive(Drop)]
+#[derive(Clone, Copy)]
 pub struct Meeting {
     pub there: bool,
     pub index: usize,

@@ -11,7 +11,7 @@ use crate::hash_algorithm::{DIGEST_ROOM, HashAlgorithm};
 // The chaining value, the block that is begun, the count of bytes modulo 2^64. The count says how many bytes of the block are held;
 // what stands behind them means nothing, nor do the words behind those that the hash uses: they are no part of the view, and are the
 // results that the contracts leave free.
-#[derive(Drop)]
+#[derive(Clone, Copy)]
 pub struct HashContext {
     pub chain: [u32; 8],
     pub block: [u8; 64],

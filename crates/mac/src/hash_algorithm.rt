@@ -7,7 +7,7 @@ ghost use Rattle.mac.specs.Md5.{parts as md5_parts};
 ghost use Rattle.mac.specs.Hmac.{filled as filled_of};
 ghost use Rattle.mac.specs.HashContexts.{parts_of, words_of, digest_bytes_of, digest_room};
 
-#[derive(Drop)]
+#[derive(Clone, Copy)]
 pub enum HashAlgorithm {
     Sha1,
     Sha256,

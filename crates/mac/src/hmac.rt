@@ -11,7 +11,7 @@ use crate::hash_algorithm::{DIGEST_ROOM, HashAlgorithm, first_twenty};
 
 // The outer hash's chaining value after the block of its pad, and the inner hash. What HashContext leaves free is left free here too, and
 // so are the words of `outer` behind those that the hash uses.
-#[derive(Drop)]
+#[derive(Clone, Copy)]
 pub struct HmacContext {
     pub outer: [u32; 8],
     pub inner: HashContext,

@@ -1,5 +1,7 @@
 // Octets: bytes copied into a lent buffer, and numbers in network byte order (highest byte first).
 // Every other crate stands on this one. Copies and reads assume that the place lies inside the buffer; nothing else is assumed.
+#![tactic(auto)]
+
 ghost use Rattle.std.specs.Prelude.{◌≡◌, ◌+◌, ◌≤◌, length};
 ghost use Rattle.std.proofs.Math.Seq.{paste};
 ghost use Rattle.octets.specs.Octets.{be16 as be16_of, be32 as be32_of, get16, get32};

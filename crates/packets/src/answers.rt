@@ -8,7 +8,7 @@ use columns::report::{number, text};
 use rules::{Signing, Verdict};
 
 // 0 with the extension or the signed length, 1 for pass, else document 01's number.
-#[derive(Drop)]
+#[derive(Clone, Copy)]
 pub struct Answer {
     pub number: u8,
     pub value: u64,

@@ -15,7 +15,7 @@ pub const SERVER_ID: u8 = 0x54;
 
 pub const SERVER_PORT: u16 = 179;
 
-#[derive(Drop)]
+#[derive(Clone, Copy)]
 pub struct End {
     pub pair: Pair,
     pub flags: u8,

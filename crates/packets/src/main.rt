@@ -1,6 +1,8 @@
 // Runs the packets of RFC 9235 and the numbers of RFC 9187 in data/ through the calls of `tcpao`, and
 // document 01's examples that are only run. Each result is printed beside what is expected of it.
 // Nothing here is a theorem: the vectors are run and compared. Assumes nothing.
+#![tactic(auto)]
+
 mod answers;
 mod derived;
 mod ends;
@@ -14,7 +16,7 @@ use columns::lines;
 use columns::report::Tally;
 use run::Run;
 
-#[derive(Drop)]
+#[derive(Clone, Copy)]
 enum Suite {
     Rfc9235,
     Rfc9187,

@@ -2,7 +2,7 @@
 use columns::report::Tally;
 use rules::State;
 
-#[derive(Drop)]
+#[derive(Clone, Copy)]
 pub struct Run {
     pub client: State,
     pub server: State,

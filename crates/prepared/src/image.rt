@@ -10,7 +10,7 @@ use keys::entry::{Entry, entry_of};
 use keys::table::size_at;
 
 // The parts that an entry is stored in: a byte in each of four columns, a slot, a back.
-#[derive(Drop)]
+#[derive(Clone, Copy)]
 enum Part {
     Send,
     Recv,

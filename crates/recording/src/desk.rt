@@ -23,7 +23,7 @@ pub const TABLE_BYTES: usize = 64 * 129 + 1;
 // How far a recording has been read. Stage 0 is before the opening, 1 behind it, any other stopped. The first `table_length` bytes of a
 // lent buffer are the table, the first `held` ones of `begun` those of the record that is begun, and what stands behind them means
 // nothing.
-#[derive(Drop)]
+#[derive(Clone, Copy)]
 pub struct Desk {
     pub stage: u8,
     pub held: usize,
@@ -35,14 +35,14 @@ pub struct Desk {
 }
 
 // What a call gives: the desk behind the bytes that were taken, how many they are, and the line to print.
-#[derive(Drop)]
+#[derive(Clone, Copy)]
 pub struct Step {
     pub desk: Desk,
     pub took: usize,
     pub line: Line,
 }
 
-#[derive(Drop)]
+#[derive(Clone, Copy)]
 struct Told {
     desk: Desk,
     line: Line,

@@ -7,7 +7,7 @@ use rules::Verdict;
 
 // What is printed at once: nothing; the answer to a segment, with its index, number and extension; 38 and the index of a record; a number
 // alone.
-#[derive(Drop)]
+#[derive(Clone, Copy)]
 pub enum Line {
     Nothing,
     Segment(u64, u8, u32),
@@ -27,7 +27,7 @@ pub(crate) fn verdict_line(index: u64, verdict: Verdict) -> Line
 }
 
 // The digits of a number: the bytes from `from` on. What stands before them means nothing.
-#[derive(Drop)]
+#[derive(Clone, Copy)]
 struct Digits {
     bytes: [u8; 20],
     from: usize,
@@ -49,7 +49,7 @@ fn decimal(n: u64) -> Digits
 }
 
 // A line as bytes: the first `length` ones. What stands behind them means nothing.
-#[derive(Drop)]
+#[derive(Clone, Copy)]
 pub struct Text {
     pub bytes: [u8; 64],
     pub length: usize,

@@ -5,7 +5,7 @@ use crate::{key_tables, rows, script, segments};
 use rules::{Judged, State};
 use tables::BYTES;
 
-#[derive(Drop)]
+#[derive(Clone, Copy)]
 pub struct Ends {
     pub client: State,
     pub server: State,

@@ -1,6 +1,8 @@
 // The demonstration: a client and a server open a connection just below the rollover of the sequence numbers, exchange segments
 // across it out of order, twice and with forgeries between, change a key, and end alike in another order of arrival (document 01,
 // "Positions", "A connection's life"; demand 3). Nothing here is a theorem: the calls are run, and what they gave is printed and compared.
+#![tactic(auto)]
+
 mod alike;
 mod ends;
 mod key_tables;

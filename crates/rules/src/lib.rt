@@ -2,11 +2,13 @@
 // the code is in `states`, `checks` and `tcpao`. Document 01, "Positions", "A connection's life", "Numbers given back"; document 02,
 // Ticket 9.
 // Every value of these types is a value that a call may get: no field is an enum, and nothing is assumed of it.
+#![tactic(auto)]
+
 use keys::entry::Pair;
 use tables::Index;
 
 // The position of a sequence number, or none (document 01, "Positions").
-#[derive(Drop)]
+#[derive(Clone, Copy)]
 pub enum Place {
     At(u64),
     Nowhere,
@@ -17,7 +19,7 @@ pub const NO_INDEX: Index = Index { table: 0, entry: 0 };
 
 // What the tests of an arriving or outgoing segment come to: its position and RNextKeyID; pass; or document 01's or 02's number, with the
 // entry's table and index beside 10 to 17 and 45, and zeros beside every other number.
-#[derive(Drop)]
+#[derive(Clone, Copy)]
 pub enum Outcome {
     Good(u64, u8),
     Passed,
@@ -25,14 +27,14 @@ pub enum Outcome {
 }
 
 // Of which sides of a segment address and port count as zero under the MAC (document 02, Ticket 10).
-#[derive(Drop)]
+#[derive(Clone, Copy)]
 pub struct Hidden {
     pub source: bool,
     pub destination: bool,
 }
 
 // "A verdict is accept with its extension, pass, or drop with a number."
-#[derive(Drop)]
+#[derive(Clone, Copy)]
 pub enum Verdict {
     Accept(u32),
     Pass,
@@ -41,7 +43,7 @@ pub enum Verdict {
 
 // What is fixed while a connection stays open: the way it was opened, the pair as this end holds it, and both ISNs. Stage 1 is open, any
 // other opening; way 1 is TCP MD5 (RFC 2385), any other TCP-AO.
-#[derive(Drop)]
+#[derive(Clone, Copy)]
 pub struct Connection {
     pub stage: u8,
     pub way: u8,
@@ -56,7 +58,7 @@ pub const SLOTS: usize = 13;
 // A connection's state. `sent` is the reference of the direction that this end signs, `seen` that of the arriving one; `send_id` is the
 // outgoing key's SendID (current_key), `ask_id` the RecvID asked of the peer (rnext_key). `drops` counts the drops 20 to 29,
 // 40, 46 and 47.
-#[derive(Drop)]
+#[derive(Clone, Copy)]
 pub struct State {
     pub conn: Connection,
     pub sent: u64,
@@ -68,7 +70,7 @@ pub struct State {
 }
 
 // "The new state stands beside it." The index is an entry's where a table is refused (10 to 17, 45), else zeros.
-#[derive(Drop)]
+#[derive(Clone, Copy)]
 pub struct Judged {
     pub verdict: Verdict,
     pub index: Index,
@@ -76,20 +78,20 @@ pub struct Judged {
 }
 
 // What a bare SYN gets that is judged without a state.
-#[derive(Drop)]
+#[derive(Clone, Copy)]
 pub struct SynJudged {
     pub verdict: Verdict,
     pub index: Index,
 }
 
 // What signing answers: how many bytes were written, or the number of its refusal.
-#[derive(Drop)]
+#[derive(Clone, Copy)]
 pub enum Signing {
     Signed(usize),
     Refused(u8),
 }
 
-#[derive(Drop)]
+#[derive(Clone, Copy)]
 pub struct Signed {
     pub answer: Signing,
     pub index: Index,
@@ -97,13 +99,13 @@ pub struct Signed {
 }
 
 // What an active opening and the operator's call answer.
-#[derive(Drop)]
+#[derive(Clone, Copy)]
 pub enum Done {
     Done,
     Refused(u8),
 }
 
-#[derive(Drop)]
+#[derive(Clone, Copy)]
 pub struct Settled {
     pub answer: Done,
     pub index: Index,

@@ -1,6 +1,8 @@
 // What calls ask of the tables lent to them: the key table and, beside it, the MD5 table of document 02, Ticket 9; or both in one prepared
 // table, Ticket 8. Form 0 says that the two buffers are the tables' own bytes, any other value that `keys` is a prepared table. Any bytes
 // may come as either.
+#![tactic(auto)]
+
 ghost use Rattle.std.specs.Prelude.{◌≡◌, length};
 ghost use Rattle.keys.specs.Entry.{entries};
 ghost use Rattle.keys.specs.Table.{found, answers};
@@ -17,7 +19,7 @@ use prepared::stored::MAX_ENTRIES;
 pub const BYTES: u8 = 0;
 
 // Which entry a number of the tables names: table 0 is the key table, table 1 the MD5 table; entries are counted from 0.
-#[derive(Drop)]
+#[derive(Clone, Copy)]
 pub struct Index {
     pub table: u8,
     pub entry: usize,
@@ -25,7 +27,7 @@ pub struct Index {
 
 // What the tables answer: both are taken, and the key table has so many entries (of `prepare`: so many bytes were written); or they are
 // refused with a number at an entry.
-#[derive(Drop)]
+#[derive(Clone, Copy)]
 pub enum Admitted {
     Valid(usize),
     Refused(u8, Index),

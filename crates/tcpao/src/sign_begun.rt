@@ -26,7 +26,7 @@ use traffic::flow::Flow;
 // The outcome: a number, or the position with the asked RecvID. Where it is Good: the way (1 is MD5); how many bytes signing adds; the
 // signed header with zeros for MAC and checksum, in an array that has room for the longest; the MAC after its front, to be cut to so many
 // bytes; and the checksum's sum after the pseudo-header. Else these mean nothing.
-#[derive(Drop)]
+#[derive(Clone, Copy)]
 pub struct SignBegun {
     pub outcome: Outcome,
     pub way: u8,

@@ -5,7 +5,7 @@ ghost use Rattle.octets.specs.Octets.{bytes16, bytes32};
 ghost use Rattle.traffic.specs.Assembled.{Pushed, none};
 
 // The parts are the first `len` bytes; behind them are zeros.
-#[derive(Drop)]
+#[derive(Clone, Copy)]
 pub struct Assembled {
     pub bytes: [u8; 104],
     pub len: usize,

@@ -18,7 +18,7 @@ use mac::hmac::HmacContext;
 // Only the context that `algorithm` names means anything, and for 19 (TCP MD5) the inner hash of `hmac` and the first `key_len` bytes of
 // `key`. The others are no part of the view, and neither is which of the numbers other than 1, 3 and 19 `algorithm` is, nor what
 // HmacContext and CmacContext leave free: the contracts leave these of a result free.
-#[derive(Drop)]
+#[derive(Clone, Copy)]
 pub struct MacContext {
     pub algorithm: u8,
     pub key_len: u8,

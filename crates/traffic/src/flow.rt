@@ -12,7 +12,7 @@ use keys::entry::Secret;
 use rules::Hidden;
 
 // IPv4 uses the first four bytes of an address field; what stands behind them means nothing.
-#[derive(Drop)]
+#[derive(Clone, Copy)]
 pub struct Flow {
     pub family: u8,
     pub source: [u8; 16],

@@ -1,6 +1,8 @@
 // Runs the published vectors in data/ and prints, one line each, what was computed and whether it
 // is what the document expects. Nothing here is a theorem: the vectors are run and compared.
 // Assumes nothing.
+#![tactic(auto)]
+
 mod pieces;
 mod report;
 mod suites;
@@ -9,7 +11,7 @@ use columns::lines;
 use columns::report::{Tally, place};
 use mac::hash_algorithm::HashAlgorithm;
 
-#[derive(Drop)]
+#[derive(Clone, Copy)]
 enum Suite {
     Hash(HashAlgorithm),
     Hmac(HashAlgorithm),

@@ -8,7 +8,7 @@ use crate::bytes::byte_at;
 use crate::options::{Options, of_segment};
 
 // What a segment's header says, read once; `len` is the whole segment's length, as it is or as it was announced.
-#[derive(Drop)]
+#[derive(Clone, Copy)]
 pub struct Header {
     pub len: usize,
     // Where the header ends, in bytes.

@@ -8,34 +8,34 @@ ghost use Rattle.wire.specs.OptionSteps.{length_at_lem, step_at_lem, noted as no
 use crate::header::header_end;
 
 // How many options of a kind there are, where the first stands in the area, and how long it is; all 0 where there is none.
-#[derive(Drop)]
+#[derive(Clone, Copy)]
 pub struct Occurrence {
     pub count: usize,
     pub at: usize,
     pub len: usize,
 }
 
-#[derive(Drop)]
+#[derive(Clone, Copy)]
 pub struct Seen {
     pub md5: Occurrence,
     pub ao: Occurrence,
 }
 
-#[derive(Drop)]
+#[derive(Clone, Copy)]
 pub enum Options {
     Malformed,
     Found(Seen),
 }
 
 // The length byte of one option.
-#[derive(Drop)]
+#[derive(Clone, Copy)]
 enum Length {
     Is(usize),
     Wrong,
 }
 
 // One option: its length, by kind.
-#[derive(Drop)]
+#[derive(Clone, Copy)]
 enum Step {
     End,
     Nop,
