@@ -2,10 +2,12 @@
 // Assumes nothing.
 ghost use Rattle.std.specs.Prelude.{◌≡◌, ◌+◌, ◌*◌, ◌/◌, ◌<◌, ◌≤◌, length, replicate};
 ghost use Rattle.std.proofs.Math.Seq.{paste};
-ghost use Rattle.io.specs.Counts.{IsPrefixLen};
 ghost use Rattle.octets.specs.Octets.{get32};
+ghost use Rattle.columns.specs.Counts.{IsPrefixLen};
 ghost use Rattle.columns.specs.Hex.{within as within_of, is_digit_of, digit as digit_of, figure as figure_of, all_digits_of};
 ghost use Rattle.columns.specs.Hex.{bytes, spells as spells_of, fits as fits_of, count, filled};
+
+use std::io::Print;
 
 fn within(low: u8, high: u8, c: u8) -> bool
     ensures { result ≡ within_of low high c }
@@ -143,19 +145,19 @@ pub fn word(text: &[u8]) -> u32
 }
 
 // Writes bytes to standard output, two digits to a byte.
-pub fn print(s: &[u8]) {
+pub fn print(rt: &impl Print, s: &[u8]) {
     let mut i = 0;
     while i < s.len() {
-        print_byte(s[i]);
+        print_byte(rt, s[i]);
         i += 1;
     }
 }
 
-fn print_byte(b: u8) {
-    io::print_hex(libc::STDOUT_FILENO, b as u64, 2);
+fn print_byte(rt: &impl Print, b: u8) {
+    let _ = print!(rt; "{b:02x}");
 }
 
 // Writes a number of four bytes likewise.
-pub fn print_word(x: u32) {
-    io::print_hex(libc::STDOUT_FILENO, x as u64, 8);
+pub fn print_word(rt: &impl Print, x: u32) {
+    let _ = print!(rt; "{x:08x}");
 }

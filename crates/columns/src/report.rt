@@ -2,7 +2,7 @@
 ghost use Rattle.std.specs.Prelude.{◌≡◌, ◌+◌, ◌%◌, ◌^◌, false, if◌then◌else◌};
 ghost use Rattle.wire.specs.Bytes.{same_bytes};
 
-use libc::STDOUT_FILENO;
+use std::io::Print;
 use wire::bytes::same;
 
 // How many results there were, and how many of them were expected.
@@ -29,53 +29,54 @@ impl Tally {
         }
     }
 
-    pub fn print(self) {
-        number(self.ok);
-        text(b" of ");
-        number(self.all);
-        text(b" ok\n");
+    pub fn print(self, rt: &impl Print) {
+        number(rt, self.ok);
+        text(rt, b" of ");
+        number(rt, self.all);
+        text(rt, b" ok\n");
     }
 }
 
-pub fn text(s: &[u8]) {
-    io::write_all(STDOUT_FILENO, s);
+// A write that fails is passed over, here and below: what was to be printed is not there, and all else goes on as it would.
+pub fn text(rt: &impl Print, s: &[u8]) {
+    let _ = rt.write_all(s);
 }
 
 // In decimal.
-pub fn number(n: u64) {
-    io::print_decimal(STDOUT_FILENO, n);
+pub fn number(rt: &impl Print, n: u64) {
+    let _ = rt.print(n);
 }
 
 // Where a line stands: file, colon, number.
-pub fn place(file: &[u8], line: u64) {
-    text(file);
-    text(b":");
-    number(line);
-    text(b" ");
+pub fn place(rt: &impl Print, file: &[u8], line: u64) {
+    text(rt, file);
+    text(rt, b":");
+    number(rt, line);
+    text(rt, b" ");
 }
 
 // A line that was not expected: it counts as one that came out otherwise.
-pub fn unreadable(line: &[u8]) -> bool
+pub fn unreadable(rt: &impl Print, line: &[u8]) -> bool
     ensures { result ≡ false }
 {
-    text(b"CANNOT BE READ: ");
-    text(line);
-    text(b"\n");
+    text(rt, b"CANNOT BE READ: ");
+    text(rt, line);
+    text(rt, b"\n");
     false
 }
 
 // What was computed, and whether it is what was expected.
-pub fn result(got: &[u8], want: &[u8]) -> bool
+pub fn result(rt: &impl Print, got: &[u8], want: &[u8]) -> bool
     ensures { result ≡ same_bytes got.now want.now }
 {
-    crate::hex::print(got);
+    crate::hex::print(rt, got);
     let ok = same(got, want);
     if ok {
-        text(b" ok\n");
+        text(rt, b" ok\n");
     } else {
-        text(b" DIFFERS, expected ");
-        crate::hex::print(want);
-        text(b"\n");
+        text(rt, b" DIFFERS, expected ");
+        crate::hex::print(rt, want);
+        text(rt, b"\n");
     }
     ok
 }

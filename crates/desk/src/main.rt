@@ -3,9 +3,13 @@
 // What the lines are is proved there; here bytes are read, handed on and written. Assumes nothing.
 #![tactic(auto)]
 
-use libc::{STDIN_FILENO, STDOUT_FILENO};
 use recording::desk::{Desk, TABLE_BYTES};
 use recording::line::{Line, text_of};
+use std::env::FillError;
+use std::fmt::Write;
+use std::io::{Eprint, ErrorKind, Input, Print, Read};
+use std::rt::{Env, Files};
+use std::{fmt, fs, io};
 
 // A desk, and whether there is more to read.
 #[derive(Clone, Copy)]
@@ -14,22 +18,57 @@ struct Reading {
     more: bool,
 }
 
-fn print(line: Line) {
+// A write that fails is passed over, here and below.
+fn print(rt: &impl Print, line: Line) {
     let text = text_of(line);
     let bytes = text.bytes;
     let n = text.length;
-    io::write_all(STDOUT_FILENO, &bytes[..n]);
+    let _ = rt.write_all(&bytes[..n]);
+}
+
+// Room for the system's words of an error, which are fewer than 256 bytes, and its number behind them. What is past it is left out.
+#[derive(Drop)]
+struct Words {
+    bytes: [u8; 320],
+    length: usize,
+}
+
+impl fmt::Write for Words {
+    fn write_str(&mut self, s: &str) -> fmt::Result {
+        for b in s.bytes() {
+            if self.length < 320 {
+                self.bytes[self.length] = b;
+                self.length += 1;
+            }
+        }
+        Ok(())
+    }
+}
+
+// On standard error, a line of what failed and why: the system's words alone, without the error's number behind them.
+fn fail(rt: &impl Eprint, what: &str, error: &io::Error) {
+    let mut words = Words {
+        bytes: [0; 320],
+        length: 0,
+    };
+    let _ = write!(words, "{error}");
+    let n = words.length.min(320);
+    let text = std::str::from_utf8(&words.bytes[..n]).unwrap_or("");
+    let _ = match text.split_once(" (os error ") {
+        Some((alone, _)) => eprintln!(rt; "{what}: {alone}"),
+        None => eprintln!(rt; "{what}: {text}"),
+    };
 }
 
 // One call of `advance` for a record, and its line.
-fn piece(desk: Desk, table: &mut [u8], bytes: &[u8]) -> Desk {
+fn piece(rt: &impl Print, desk: Desk, table: &mut [u8], bytes: &[u8]) -> Desk {
     let mut now = desk;
     let mut at: usize = 0;
     while at < bytes.len() {
         let step = now.advance(table, &bytes[at..]);
         let next = step.desk;
         let line = step.line;
-        print(line);
+        print(rt, line);
         now = next;
         at = at + step.took;
     }
@@ -38,29 +77,41 @@ fn piece(desk: Desk, table: &mut [u8], bytes: &[u8]) -> Desk {
 
 // Reads once. After the last line nothing more is read. Where a read fails, its reason is written to standard error, and the recording
 // counts as ended there.
-fn read_some(fd: i32, name: &[u8], desk: Desk, table: &mut [u8]) -> Reading {
-    let mut bytes = io::large_buffer();
-    let got = libc::read(fd, &mut bytes);
-    if got < 0 {
-        os::fail(name);
+fn read_some(
+    rt: &(impl Print + Eprint),
+    input: &mut impl Read,
+    name: &str,
+    desk: Desk,
+    table: &mut [u8],
+) -> Reading {
+    let mut bytes = [0u8; 65536];
+    let n = match input.read(&mut bytes) {
+        Ok(n) => n,
+        Err(error) => {
+            fail(rt, name, &error);
+            0
+        }
+    };
+    if n == 0 {
         return Reading { desk, more: false };
     }
-    if got == 0 {
-        return Reading { desk, more: false };
-    }
-    let n = io::count(got, &bytes);
-    let next = piece(desk, table, &bytes[..n]);
+    let next = piece(rt, desk, table, &bytes[..n]);
     let more = next.stage <= 1;
     Reading { desk: next, more }
 }
 
 // A proved loop has to end, and nothing says that a recording does. So the loop counts its turns down, from a number that no run uses up.
-fn read_all(fd: i32, name: &[u8], table: &mut [u8]) -> Desk {
+fn read_all(
+    rt: &(impl Print + Eprint),
+    input: &mut impl Read,
+    name: &str,
+    table: &mut [u8],
+) -> Desk {
     let mut desk = Desk::new();
     let mut more = true;
     let mut turns = u64::MAX;
     while turns > 0 && more {
-        let reading = read_some(fd, name, desk, table);
+        let reading = read_some(rt, input, name, desk, table);
         let next = reading.desk;
         desk = next;
         more = reading.more;
@@ -69,45 +120,60 @@ fn read_all(fd: i32, name: &[u8], table: &mut [u8]) -> Desk {
     desk
 }
 
-fn check(fd: i32, name: &[u8]) {
+fn check(rt: &(impl Print + Eprint), input: &mut impl Read, name: &str) {
     let mut table = [0u8; TABLE_BYTES];
-    print(read_all(fd, name, &mut table).finish());
+    print(rt, read_all(rt, input, name, &mut table).finish());
 }
 
-fn check_file(name: &[u8]) {
-    let fd = os::open_read(name);
-    if fd < 0 {
-        os::fail(name);
-        return;
+fn check_file(rt: &(impl Files + Print + Eprint), name: &str) {
+    match fs::open(rt, name) {
+        Ok(mut file) => check(rt, &mut file, name),
+        Err(error) => fail(rt, name, &error),
     }
-    check(fd, name);
-    libc::close(fd);
 }
 
-// With more than one file, the lines of each stand behind its name.
-fn argument(i: usize, titled: bool) {
-    let mut name = io::buffer();
-    let n = os::arg(i, &mut name);
-    if os::errno() != 0 {
-        os::fail(b"argument");
-        return;
-    }
+// With more than one file, the lines of each stand behind its name. A path is text, so an argument that is none names no file.
+fn argument(rt: &(impl Env + Files + Print + Eprint), i: usize, titled: bool) {
+    let mut buffer = [0u8; 4096];
+    let n = match rt.arg(i, &mut buffer) {
+        Ok(n) => n,
+        Err(_) => {
+            fail(rt, "argument", &io::Error::from_raw_os_error(NAME_TOO_LONG));
+            return;
+        }
+    };
+    let name = &buffer[..n];
     if titled {
-        io::write_all(STDOUT_FILENO, &name[..n]);
-        io::write_all(STDOUT_FILENO, b"\n");
+        let _ = rt.write_all(name);
+        let _ = rt.write_all(b"\n");
     }
-    check_file(&name[..n]);
+    match std::str::from_utf8(name) {
+        Ok(name) => check_file(rt, name),
+        Err(_) => fail(rt, "argument", &io::Error::from(ErrorKind::InvalidFilename)),
+    }
 }
 
-fn main() {
-    let count = os::arg_count();
-    if count < 2 {
-        check(STDIN_FILENO, b"standard input");
+// Linux's number of this error.
+const NAME_TOO_LONG: i32 = 36;
+
+fn is_there(rt: &impl Env, i: usize) -> bool {
+    let mut none = [0u8; 0];
+    match rt.arg(i, &mut none) {
+        Err(FillError::NotPresent) => false,
+        _ => true,
+    }
+}
+
+fn main(rt: HostRuntime) {
+    if !is_there(&rt, 1) {
+        check(&rt, &mut rt.reader(), "standard input");
         return;
     }
-    let mut i: usize = 1;
-    while i < count {
-        argument(i, 2 < count);
-        i += 1;
+    let titled = is_there(&rt, 2);
+    for i in 1..usize::MAX {
+        if !is_there(&rt, i) {
+            break;
+        }
+        argument(&rt, i, titled);
     }
 }

@@ -6,6 +6,7 @@ ghost use Rattle.rules.specs.Answers.{verdict_answer, signing_answer};
 
 use columns::report::{number, text};
 use rules::{Signing, Verdict};
+use std::io::Print;
 
 // 0 with the extension or the signed length, 1 for pass, else document 01's number.
 #[derive(Clone, Copy)]
@@ -55,28 +56,28 @@ fn same(a: Answer, b: Answer) -> bool
 }
 
 // `what` says what the value beside 0 is.
-fn print(what: &[u8], a: Answer) {
+fn print(rt: &impl Print, what: &[u8], a: Answer) {
     if a.number == 0 {
-        text(what);
-        number(a.value);
+        text(rt, what);
+        number(rt, a.value);
     } else {
-        text(b"number ");
-        number(a.number as u64);
+        text(rt, b"number ");
+        number(rt, a.number as u64);
     }
 }
 
 // What came out beside what was expected.
-pub fn compared(what: &[u8], got: Answer, want: Answer) -> bool
+pub fn compared(rt: &impl Print, what: &[u8], got: Answer, want: Answer) -> bool
     ensures { result ≡ (eqb got.number want.number && eqb got.value want.value) }
 {
-    print(what, got);
-    text(b", expected ");
-    print(what, want);
+    print(rt, what, got);
+    text(rt, b", expected ");
+    print(rt, what, want);
     let ok = same(got, want);
     if ok {
-        text(b" ok\n");
+        text(rt, b" ok\n");
     } else {
-        text(b" DIFFERS\n");
+        text(rt, b" DIFFERS\n");
     }
     ok
 }

@@ -11,6 +11,7 @@ use columns::hex;
 use columns::lines::column;
 use columns::report::{Tally, text};
 use keys::entry::Pair;
+use std::io::Print;
 
 // RFC 9235's IPv4 addresses, all options covered, HMAC-SHA-1-96.
 pub fn client() -> End {
@@ -53,7 +54,7 @@ pub fn opened(tally: Tally) -> Run {
     }
 }
 
-fn signed_and_judged(number: u32, extension: u8, run: Run) -> Run {
+fn signed_and_judged(rt: &impl Print, number: u32, extension: u8, run: Run) -> Run {
     let e = client();
     let plain = header(e.pair, number, 5, ACK);
     let mut out = [0u8; 36];
@@ -62,16 +63,22 @@ fn signed_and_judged(number: u32, extension: u8, run: Run) -> Run {
     let v = judged.verdict;
     let c = signed.state;
     let s = judged.state;
-    text(b"RFC 9187 ");
-    hex::print_word(number);
-    text(b" ");
-    run.counted(compared(b"accept extension ", of_verdict(v), good(extension as u64)))
-        .with_client(c)
-        .with_server(s)
+    text(rt, b"RFC 9187 ");
+    hex::print_word(rt, number);
+    text(rt, b" ");
+    run.counted(compared(
+        rt,
+        b"accept extension ",
+        of_verdict(v),
+        good(extension as u64),
+    ))
+    .with_client(c)
+    .with_server(s)
 }
 
-pub fn numbered(line: &[u8], run: Run) -> Run {
+pub fn numbered(rt: &impl Print, line: &[u8], run: Run) -> Run {
     signed_and_judged(
+        rt,
         hex::word(column(line, 1)),
         hex::figure(column(line, 0)),
         run,

@@ -15,6 +15,7 @@ use columns::report::{result, text};
 use keys::algorithm::traffic_key_bytes;
 use keys::entry::Pair;
 use rules::{State, Verdict};
+use std::io::Print;
 use wire::header;
 
 fn family(address: &[u8]) -> u8 {
@@ -37,39 +38,40 @@ fn receiver(line: &[u8], segment: &[u8]) -> End {
     ends::end_of(pair, flags, algorithm)
 }
 
-fn title(line: &[u8]) {
-    text(b"RFC 9235 ");
-    text(column(line, 0));
+fn title(rt: &impl Print, line: &[u8]) {
+    text(rt, b"RFC 9235 ");
+    text(rt, column(line, 0));
     if hex::figure(column(line, 1)) == 1 {
-        text(b" HMAC-SHA-1-96 ");
+        text(rt, b" HMAC-SHA-1-96 ");
     } else {
-        text(b" AES-128-CMAC-96 ");
+        text(rt, b" AES-128-CMAC-96 ");
     }
 }
 
 // The key as computed, in its algorithm's length, and whether it is the line's.
-fn key_expected(line: &[u8], e: End) -> bool {
+fn key_expected(rt: &impl Print, line: &[u8], e: End) -> bool {
     let mut want = [0u8; 20];
     let n = hex::read(column(line, 5), &mut want);
     let got = traffic_key(e, hex::word(column(line, 3)), hex::word(column(line, 4)));
-    title(line);
-    text(b"traffic key ");
+    title(rt, line);
+    text(rt, b"traffic key ");
     result(
+        rt,
         ends::front(&got, traffic_key_bytes(e.algorithm)),
         &want[..n],
     )
 }
 
 // Every packet is to be accepted with extension 0.
-fn expected(line: &[u8], call: &[u8], v: Verdict) -> bool {
-    title(line);
-    text(call);
-    compared(b"accept extension ", of_verdict(v), good(0))
+fn expected(rt: &impl Print, line: &[u8], call: &[u8], v: Verdict) -> bool {
+    title(rt, line);
+    text(rt, call);
+    compared(rt, b"accept extension ", of_verdict(v), good(0))
 }
 
 // A bare SYN is judged without a state, and opens the server with the ISN of the SYN+ACK in the next
 // line. The client that sent it is opened too, for the SYN+ACK to arrive at.
-fn opening(line: &[u8], answer: &[u8], e: End, segment: &[u8], run: Run) -> Run {
+fn opening(rt: &impl Print, line: &[u8], answer: &[u8], e: End, segment: &[u8], run: Run) -> Run {
     let checked = ends::judge_syn(e, segment);
     let opened = ends::open_passive(e, segment, hex::word(column(answer, 3)));
     let client = ends::open_active(ends::mirrored(e), header::sequence(segment));
@@ -77,17 +79,17 @@ fn opening(line: &[u8], answer: &[u8], e: End, segment: &[u8], run: Run) -> Run 
     let passive = opened.verdict;
     let c = client.state;
     let s = opened.state;
-    run.counted(expected(line, b"judge_syn ", stateless))
-        .counted(expected(line, b"open_passive ", passive))
+    run.counted(expected(rt, line, b"judge_syn ", stateless))
+        .counted(expected(rt, line, b"open_passive ", passive))
         .with_client(c)
         .with_server(s)
 }
 
-fn at_server(line: &[u8], e: End, segment: &[u8], run: Run) -> Run {
+fn at_server(rt: &impl Print, line: &[u8], e: End, segment: &[u8], run: Run) -> Run {
     let judged = ends::judge(e, segment, run.server);
     let v = judged.verdict;
     let s = judged.state;
-    run.counted(expected(line, b"judge at the server ", v))
+    run.counted(expected(rt, line, b"judge at the server ", v))
         .with_server(s)
 }
 
@@ -96,17 +98,17 @@ fn is_open(q: State) -> bool {
     conn.stage == 1
 }
 
-fn at_client(line: &[u8], e: End, segment: &[u8], run: Run) -> Run {
+fn at_client(rt: &impl Print, line: &[u8], e: End, segment: &[u8], run: Run) -> Run {
     let q = run.client;
     let judged = ends::judge(e, segment, q);
     let v = judged.verdict;
     let s = judged.state;
     if is_open(q) {
         return run
-            .counted(expected(line, b"judge at the client ", v))
+            .counted(expected(rt, line, b"judge at the client ", v))
             .with_client(s);
     }
-    run.counted(expected(line, b"judge at the opening client ", v))
+    run.counted(expected(rt, line, b"judge at the opening client ", v))
         .with_client(s)
 }
 
@@ -129,33 +131,33 @@ fn verdict(e: End, segment: &[u8], run: Run) -> Verdict {
 }
 
 // Document 02, Ticket 5: with one bit of its checksum changed a packet is dropped with 40.
-fn wrong_checksum(line: &[u8], e: End, segment: &[u8], run: Run) -> Run {
+fn wrong_checksum(rt: &impl Print, line: &[u8], e: End, segment: &[u8], run: Run) -> Run {
     let v = verdict(e, segment, run);
-    title(line);
-    text(b"(");
-    text(column(line, 9));
-    text(b") a bit of the checksum changed ");
-    run.counted(compared(b"accept extension ", of_verdict(v), bad(40)))
+    title(rt, line);
+    text(rt, b"(");
+    text(rt, column(line, 9));
+    text(rt, b") a bit of the checksum changed ");
+    run.counted(compared(rt, b"accept extension ", of_verdict(v), bad(40)))
 }
 
-fn arrived(line: &[u8], answer: &[u8], e: End, segment: &[u8], run: Run) -> Run {
+fn arrived(rt: &impl Print, line: &[u8], answer: &[u8], e: End, segment: &[u8], run: Run) -> Run {
     if is_bare_syn(segment) {
-        return opening(line, answer, e, segment, run);
+        return opening(rt, line, answer, e, segment, run);
     }
     if ends::is_server(e) {
-        return at_server(line, e, segment, run);
+        return at_server(rt, line, e, segment, run);
     }
-    at_client(line, e, segment, run)
+    at_client(rt, line, e, segment, run)
 }
 
 // `answer` is the next line.
-pub fn packet(line: &[u8], answer: &[u8], run: Run) -> Run {
+pub fn packet(rt: &impl Print, line: &[u8], answer: &[u8], run: Run) -> Run {
     let mut segment = [0u8; 256];
     let n = hex::read(column(line, 8), &mut segment);
     let e = receiver(line, ends::front(&segment, n));
     let mut wrong = segment;
     wrong[17] = wrong[17] ^ 1;
-    let keyed = run.counted(key_expected(line, e));
-    let dropped = wrong_checksum(line, e, ends::front(&wrong, n), keyed);
-    arrived(line, answer, e, ends::front(&segment, n), dropped)
+    let keyed = run.counted(key_expected(rt, line, e));
+    let dropped = wrong_checksum(rt, line, e, ends::front(&wrong, n), keyed);
+    arrived(rt, line, answer, e, ends::front(&segment, n), dropped)
 }

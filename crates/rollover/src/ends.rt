@@ -3,6 +3,7 @@ use crate::storage::{lay, put_word, word};
 use crate::verdicts::coded;
 use crate::{key_tables, rows, script, segments};
 use rules::{Judged, State};
+use std::io::Print;
 use tables::BYTES;
 
 #[derive(Clone, Copy)]
@@ -63,8 +64,8 @@ fn sent(wire: &mut [u8], places: &mut [u64], no: u8, ends: Ends) -> Ends {
 }
 
 // The server's operator asks that the client sign under key 2.
-fn asked(ends: Ends) -> Ends {
-    rows::asking();
+fn asked(rt: &impl Print, ends: Ends) -> Ends {
+    rows::asking(rt);
     let t = key_tables::table(false);
     let no_md5 = [0u8; 0];
     let s = tcpao::operator::ask(BYTES, &t, &no_md5, key_tables::CLIENT_2, ends.server);
@@ -82,6 +83,7 @@ pub fn judged(client: bool, segment: &[u8], state: State) -> Judged {
 
 // Judges one arrival, keeps its verdict, and prints it in the first run.
 fn arrived(
+    rt: &impl Print,
     wire: &[u8],
     places: &[u64],
     verdicts: &mut [u64],
@@ -97,12 +99,20 @@ fn arrived(
     let state = j.state;
     put_word(verdicts, no as usize, code);
     if show {
-        rows::arrival(no, segment, word(places, no as usize), code, state.send_id);
+        rows::arrival(
+            rt,
+            no,
+            segment,
+            word(places, no as usize),
+            code,
+            state.send_id,
+        );
     }
     with_state(client, state, ends)
 }
 
 fn after(
+    rt: &impl Print,
     event: u8,
     wire: &mut [u8],
     places: &mut [u64],
@@ -111,15 +121,16 @@ fn after(
     ends: Ends,
 ) -> Ends {
     if event < script::SEND {
-        return arrived(wire, places, verdicts, show, event, ends);
+        return arrived(rt, wire, places, verdicts, show, event, ends);
     }
     if event == script::ASK {
-        return asked(ends);
+        return asked(rt, ends);
     }
     sent(wire, places, event - script::SEND, ends)
 }
 
 fn run(
+    rt: &impl Print,
     events: &[u8],
     wire: &mut [u8],
     places: &mut [u64],
@@ -132,27 +143,37 @@ fn run(
     while i < events.len() {
         let event = events[i];
         i += 1;
-        let e = after(event, wire, places, verdicts, show, ends);
+        let e = after(rt, event, wire, places, verdicts, show, ends);
         ends = e;
     }
     ends
 }
 
 pub fn first_run(
+    rt: &impl Print,
     wire: &mut [u8; 1088],
     places: &mut [u64; 17],
     verdicts: &mut [u64; 17],
     start: Ends,
 ) -> Ends {
-    run(&script::FIRST_RUN, wire, places, verdicts, true, start)
+    run(rt, &script::FIRST_RUN, wire, places, verdicts, true, start)
 }
 
 // Only arrivals: the segments are those of the first run.
 pub fn second_run(
+    rt: &impl Print,
     wire: &mut [u8; 1088],
     places: &mut [u64; 17],
     verdicts: &mut [u64; 17],
     start: Ends,
 ) -> Ends {
-    run(&script::SECOND_RUN, wire, places, verdicts, false, start)
+    run(
+        rt,
+        &script::SECOND_RUN,
+        wire,
+        places,
+        verdicts,
+        false,
+        start,
+    )
 }

@@ -15,17 +15,17 @@ mod storage;
 mod verdicts;
 mod words;
 
-fn main() {
-    report::title();
-    let start = opening::open();
+fn main(rt: HostRuntime) {
+    report::title(&rt);
+    let start = opening::open(&rt);
     let mut wire = [0u8; 1088];
     let mut places = [0u64; 17];
     let mut first = [0u64; 17];
     let mut second = [0u64; 17];
-    rows::first_title();
-    let one = ends::first_run(&mut wire, &mut places, &mut first, start);
-    report::counts(one);
-    let two = ends::second_run(&mut wire, &mut places, &mut second, start);
-    report::verdicts(&first, &second);
-    report::ends(one, two);
+    rows::first_title(&rt);
+    let one = ends::first_run(&rt, &mut wire, &mut places, &mut first, start);
+    report::counts(&rt, one);
+    let two = ends::second_run(&rt, &mut wire, &mut places, &mut second, start);
+    report::verdicts(&rt, &first, &second);
+    report::ends(&rt, one, two);
 }

@@ -3,6 +3,7 @@ use crate::ends::Ends;
 use crate::verdicts::coded;
 use crate::{ends, key_tables, rows, segments};
 use rules::State;
+use std::io::Print;
 use tables::BYTES;
 
 // Both ISNs lie just below the rollover.
@@ -39,17 +40,17 @@ fn signed(client: bool, number: u32, flags: u8, state: State, out: &mut [u8; 36]
 }
 
 // The SYN is first judged without a state.
-fn judge_syn(syn: &[u8; 36]) {
+fn judge_syn(rt: &impl Print, syn: &[u8; 36]) {
     let t = key_tables::table(false);
     let no_md5 = [0u8; 0];
     let source = key_tables::address(true);
     let destination = key_tables::address(false);
     let c = tcpao::judge::judge_syn(BYTES, &t, &no_md5, &source, &destination, syn, true);
     let v = c.verdict;
-    rows::opening(true, b"SYN, no state yet    ", syn, coded(v), 0);
+    rows::opening(rt, true, b"SYN, no state yet    ", syn, coded(v), 0);
 }
 
-fn passive(syn: &[u8; 36]) -> State {
+fn passive(rt: &impl Print, syn: &[u8; 36]) -> State {
     let t = key_tables::table(false);
     let no_md5 = [0u8; 0];
     let source = key_tables::address(true);
@@ -66,15 +67,23 @@ fn passive(syn: &[u8; 36]) -> State {
     );
     let v = j.verdict;
     let state = j.state;
-    rows::opening(true, b"SYN, opens           ", syn, coded(v), state.send_id);
+    rows::opening(
+        rt,
+        true,
+        b"SYN, opens           ",
+        syn,
+        coded(v),
+        state.send_id,
+    );
     state
 }
 
-fn answered(syn_ack: &[u8; 36], waiting: State) -> State {
+fn answered(rt: &impl Print, syn_ack: &[u8; 36], waiting: State) -> State {
     let j = ends::judged(true, syn_ack, waiting);
     let v = j.verdict;
     let state = j.state;
     rows::opening(
+        rt,
         false,
         b"SYN+ACK, opens       ",
         syn_ack,
@@ -84,19 +93,19 @@ fn answered(syn_ack: &[u8; 36], waiting: State) -> State {
     state
 }
 
-pub fn open() -> Ends {
+pub fn open(rt: &impl Print) -> Ends {
     let mut syn = [0u8; 36];
     let mut syn_ack = [0u8; 36];
-    rows::opening_title();
+    rows::opening_title(rt);
     let waiting = signed(true, CLIENT_ISN, segments::SYN, active(), &mut syn);
-    judge_syn(&syn);
+    judge_syn(rt, &syn);
     let server = signed(
         false,
         SERVER_ISN,
         segments::SYN_ACK,
-        passive(&syn),
+        passive(rt, &syn),
         &mut syn_ack,
     );
-    let client = answered(&syn_ack, waiting);
+    let client = answered(rt, &syn_ack, waiting);
     Ends { client, server }
 }

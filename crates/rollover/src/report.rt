@@ -5,131 +5,143 @@ use crate::storage::word;
 use crate::words::{decimal, four, key, position, text, two, verdict, what};
 use crate::{key_tables, script};
 use rules::{SLOTS, State};
+use std::io::Print;
 use tables::{Admitted, BYTES};
 
 // How many entries a valid table has.
-fn entries(client: bool) {
+fn entries(rt: &impl Print, client: bool) {
     let t = key_tables::table(client);
     let no_md5 = [0u8; 0];
     let answer = tcpao::operator::check_table(BYTES, &t, &no_md5);
     match answer {
-        Admitted::Valid(n) => decimal(n as u64),
-        Admitted::Refused(_, _) => text(b"no valid"),
+        Admitted::Valid(n) => decimal(rt, n as u64),
+        Admitted::Refused(_, _) => text(rt, b"no valid"),
     }
 }
 
-pub fn title() {
+pub fn title(rt: &impl Print) {
     text(
+        rt,
         b"TCP-AO across the rollover: a client and a server exchange signed segments while their 32-bit sequence numbers\n\
         pass ffffffff. Whatever the order of arrival, each end finds where a segment truly lies, written extension:number.\n\n\
         Key 1 is HMAC-SHA-1-96, with KeyID 61 from the client and 84 from the server.\n\
         Key 2 is AES-128-CMAC-96, with KeyID 62 from the client and 85 from the server.\n\
         Entries in the key tables: ",
     );
-    entries(true);
-    text(b" at the client, ");
-    entries(false);
-    text(b" at the server, each the mirror of one at the other end.\n\n");
+    entries(rt, true);
+    text(rt, b" at the client, ");
+    entries(rt, false);
+    text(
+        rt,
+        b" at the server, each the mirror of one at the other end.\n\n",
+    );
 }
 
-fn drops(d: [u64; SLOTS]) {
+fn drops(rt: &impl Print, d: [u64; SLOTS]) {
     let mut i = 0;
     while i < SLOTS {
-        four(d[i]);
+        four(rt, d[i]);
         i += 1;
     }
 }
 
-fn row(name: &[u8], s: State) {
+fn row(rt: &impl Print, name: &[u8], s: State) {
     let d = s.drops;
-    text(name);
-    four(s.accepted);
-    text(b"       ");
-    drops(d);
-    text(b"  ");
-    position(s.seen);
-    text(b"  ");
-    key(s.send_id);
+    text(rt, name);
+    four(rt, s.accepted);
+    text(rt, b"       ");
+    drops(rt, d);
+    text(rt, b"  ");
+    position(rt, s.seen);
+    text(rt, b"  ");
+    key(rt, s.send_id);
 }
 
-fn columns() {
+fn columns(rt: &impl Print) {
     text(
+        rt,
         b"              accepted  drops  20  21  22  23  24  25  26  27  28  29  40  46  47  reference   signs\n",
     );
 }
 
-pub fn counts(ends: Ends) {
+pub fn counts(rt: &impl Print, ends: Ends) {
     text(
+        rt,
         b"\nAfter the first run: the counts, the reference of the arriving direction, the key that the end signs under.\n",
     );
-    columns();
-    row(b"client            ", ends.client);
-    row(b"\nserver            ", ends.server);
-    text(b"\n");
+    columns(rt);
+    row(rt, b"client            ", ends.client);
+    row(rt, b"\nserver            ", ends.server);
+    text(rt, b"\n");
 }
 
 // What a comparison gave.
-fn same(yes: bool) {
+fn same(rt: &impl Print, yes: bool) {
     if yes {
-        text(b"  the same\n");
+        text(rt, b"  the same\n");
     } else {
-        text(b"  DIFFERS\n");
+        text(rt, b"  DIFFERS\n");
     }
 }
 
-fn both_verdicts(no: u8, first: u64, second: u64) {
-    text(b" ");
-    two(no as u64);
-    text(b"  ");
-    what(no);
-    verdict(first);
-    verdict(second);
-    same(same_number(first, second));
+fn both_verdicts(rt: &impl Print, no: u8, first: u64, second: u64) {
+    text(rt, b" ");
+    two(rt, no as u64);
+    text(rt, b"  ");
+    what(rt, no);
+    verdict(rt, first);
+    verdict(rt, second);
+    same(rt, same_number(first, second));
 }
 
-fn listed(no: u8) {
-    text(b" ");
-    decimal(no as u64);
+fn listed(rt: &impl Print, no: u8) {
+    text(rt, b" ");
+    decimal(rt, no as u64);
 }
 
-fn order(list: &[u8]) {
+fn order(rt: &impl Print, list: &[u8]) {
     let mut i = 0;
     while i < list.len() {
-        listed(list[i]);
+        listed(rt, list[i]);
         i += 1;
     }
 }
 
-fn second_title() {
-    text(b"\nSecond run: the same arrivals, from the same opening, in another order:");
-    order(&script::SECOND_RUN);
+fn second_title(rt: &impl Print) {
     text(
+        rt,
+        b"\nSecond run: the same arrivals, from the same opening, in another order:",
+    );
+    order(rt, &script::SECOND_RUN);
+    text(
+        rt,
         b".\nThe verdicts of both runs, in the order of sending:\n\
         No.  what                 first run                     second run\n",
     );
 }
 
-pub fn verdicts(first: &[u64; 17], second: &[u64; 17]) {
-    second_title();
+pub fn verdicts(rt: &impl Print, first: &[u64; 17], second: &[u64; 17]) {
+    second_title(rt);
     let mut no: u8 = 1;
     while no <= script::LAST {
-        both_verdicts(no, word(first, no as usize), word(second, no as usize));
+        both_verdicts(rt, no, word(first, no as usize), word(second, no as usize));
         no += 1;
     }
 }
 
 // The state after the second run, compared with that after the first.
-fn compared(name: &[u8], first: State, second: State) {
-    row(name, second);
-    same(ended_alike(first, second));
+fn compared(rt: &impl Print, name: &[u8], first: State, second: State) {
+    row(rt, name, second);
+    same(rt, ended_alike(first, second));
 }
 
-pub fn ends(first: Ends, second: Ends) {
-    text(b"\nAfter the second run, compared with the first:\n");
-    columns();
-    compared(b"client            ", first.client, second.client);
-    compared(b"server            ", first.server, second.server);
+pub fn ends(rt: &impl Print, first: Ends, second: Ends) {
+    text(rt, b"\nAfter the second run, compared with the first:\n");
+    columns(rt);
+    compared(rt, b"client            ", first.client, second.client);
+    compared(rt, b"server            ", first.server, second.server);
     text(
+        rt,
         b"\nDemand 3 (docs/CLAIMS.md) is proved of every order: where no other arrival verifies under a key, each true segment is\n\
         accepted with its extension, and the reference and how many were accepted and dropped in all are the same. Here the\n\
         drops agree one by one too, since each forgery and the damaged copy fail at the same test in both orders, and the\n\

@@ -2,48 +2,49 @@
 // width. Assumes nothing.
 use crate::storage::part;
 use crate::{key_tables, script};
-use libc::STDOUT_FILENO;
+use std::io::Print;
 
-pub fn text(s: &[u8]) {
-    io::write_all(STDOUT_FILENO, s);
+// A write that fails is passed over, here and below.
+pub fn text(rt: &impl Print, s: &[u8]) {
+    let _ = rt.write_all(s);
 }
 
-pub fn decimal(n: u64) {
-    io::print_decimal(STDOUT_FILENO, n);
+pub fn decimal(rt: &impl Print, n: u64) {
+    let _ = rt.print(n);
 }
 
-pub fn hex(n: u64) {
-    io::print_hex(STDOUT_FILENO, n, 8);
+pub fn hex(rt: &impl Print, n: u64) {
+    let _ = print!(rt; "{n:08x}");
 }
 
 // A number in two places, and in four.
-pub fn two(n: u64) {
+pub fn two(rt: &impl Print, n: u64) {
     if n < 10 {
-        text(b" ");
+        text(rt, b" ");
     }
-    decimal(n);
+    decimal(rt, n);
 }
 
-pub fn four(n: u64) {
+pub fn four(rt: &impl Print, n: u64) {
     if n < 100 {
-        text(b" ");
+        text(rt, b" ");
     }
-    text(b" ");
-    two(n);
+    text(rt, b" ");
+    two(rt, n);
 }
 
 // A 64-bit position: extension, colon, number.
-pub fn position(x: u64) {
-    decimal(x / 4294967296);
-    text(b":");
-    hex(x % 4294967296);
+pub fn position(rt: &impl Print, x: u64) {
+    decimal(rt, x / 4294967296);
+    text(rt, b":");
+    hex(rt, x % 4294967296);
 }
 
-pub fn direction(from_client: bool) {
+pub fn direction(rt: &impl Print, from_client: bool) {
     if from_client {
-        text(b"  to server      ");
+        text(rt, b"  to server      ");
     } else {
-        text(b"  to client      ");
+        text(rt, b"  to client      ");
     }
 }
 
@@ -56,23 +57,23 @@ const KINDS: [u8; 102] = *b"data             \
     forged number of ";
 
 // What a numbered segment is; all but data name the segment that they are made from.
-pub fn what(no: u8) {
+pub fn what(rt: &impl Print, no: u8) {
     let kind = script::kind(no);
     let at = kind as usize * 17;
-    text(part(&KINDS, at, 17));
+    text(rt, part(&KINDS, at, 17));
     if kind == script::DATA {
-        text(b"    ");
+        text(rt, b"    ");
     } else {
-        two(std::num::wrapping_sub_u64(no as u64, 1));
-        text(b"  ");
+        two(rt, std::num::wrapping_sub_u64(no as u64, 1));
+        text(rt, b"  ");
     }
 }
 
-pub fn key(id: u8) {
+pub fn key(rt: &impl Print, id: u8) {
     match key_tables::key_of(id) {
-        1 => text(b"key 1"),
-        2 => text(b"key 2"),
-        _ => text(b"none "),
+        1 => text(rt, b"key 1"),
+        2 => text(rt, b"key 2"),
+        _ => text(rt, b"none "),
     }
 }
 
@@ -97,24 +98,24 @@ fn reason(number: u8) -> u8 {
     std::num::wrapping_sub_u8(number, 20)
 }
 
-fn dropped(number: u8) {
-    text(b"drop ");
-    two(number as u64);
-    text(b": ");
+fn dropped(rt: &impl Print, number: u8) {
+    text(rt, b"drop ");
+    two(rt, number as u64);
+    text(rt, b": ");
     let at = reason(number) as usize * 21;
-    text(part(&REASONS, at, 21));
+    text(rt, part(&REASONS, at, 21));
 }
 
 // A verdict as `verdicts` keeps it.
-pub fn verdict(code: u64) {
+pub fn verdict(rt: &impl Print, code: u64) {
     let number = code % 256;
     if number == 0 {
-        text(b"accept, extension ");
-        decimal(code / 4294967296);
-        text(b"           ");
+        text(rt, b"accept, extension ");
+        decimal(rt, code / 4294967296);
+        text(rt, b"           ");
     } else if number == 1 {
-        text(b"pass                          ");
+        text(rt, b"pass                          ");
     } else {
-        dropped(number as u8);
+        dropped(rt, number as u8);
     }
 }

@@ -17,20 +17,20 @@ other : (c : ℕ) → within 48 57 c ≡ false → within 97 102 c ≡ false →
 unfolding digit
 other c g h = (rw (g, h) refl, omega arith)
 
-sub-result : tie.Need-overflow-sub-result
-sub-result c = omega (arith, within_low 48 57 c.before.before.args.c (sym c.before.within.ensures ∙ c.if1.true))
+sub-result : tie.Need-overflow_sub-result
+sub-result c = omega (arith, within_low 48 57 c.before.before.args.c (sym c.before.within.ensures ∙ c.if-within.true))
 
-returns : tie.Need-returns
-returns c = decimal _ (sym c.before.within.ensures ∙ c.if1.true)
+returns : tie.Need-returns-then-within
+returns c = decimal _ (sym c.before.within.ensures ∙ c.if-within.true)
 
-sub-result-2 : tie.Need-overflow-sub-result-2
-sub-result-2 c = omega (arith, within_low 97 102 c.before.before.before.before.args.c (sym c.before.within2.ensures ∙ c.if2.true))
+sub-result-2 : tie.Need-overflow_sub-result-then-within-2
+sub-result-2 c = omega (arith, within_low 97 102 c.before.before.before.before.args.c (sym c.before.within-2.ensures ∙ c.if-within-2.true))
 
-returns-2 : tie.Need-returns-2
-returns-2 c = letter _ (sym c.before.before.before.within.ensures ∙ c.before.before.if1.false) (sym c.before.within2.ensures ∙ c.if2.true)
+returns-2 : tie.Need-returns-then-within-2
+returns-2 c = letter _ (sym c.before.before.before.within.ensures ∙ c.before.before.if-within.false) (sym c.before.within-2.ensures ∙ c.if-within-2.true)
 
-returns-3 : tie.Need-returns-3
-returns-3 c = other _ (sym c.before.before.before.within.ensures ∙ c.before.before.if1.false) (sym c.before.within2.ensures ∙ c.if2.false)
+returns-3 : tie.Need-returns
+returns-3 c = other _ (sym c.before.before.before.within.ensures ∙ c.before.before.if-within.false) (sym c.before.within-2.ensures ∙ c.if-within-2.false)
 
-pub digit-spec : {M : Type 1} → statement M
-digit-spec = tie.close (tie.spec (λ c κs. search rules) sub-result returns (λ c κs. search rules) sub-result-2 returns-2 returns-3)
+pub digit_spec : {M : Type 1} → statement M
+digit_spec = tie.close (tie.spec (λ c κs. search rules) sub-result returns (λ c κs. search rules) sub-result-2 returns-2 returns-3)

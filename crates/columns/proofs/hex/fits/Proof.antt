@@ -12,11 +12,11 @@ no : (t : List ℕ) (n : ℕ) → spells t ≡ false → false ≡ fits t n
 unfolding fits
 no t n h = rw h refl
 
-returns : tie.Need-returns
-returns c = yes _ _ (sym c.before.spells.ensures ∙ c.if1.true)
+returns : tie.Need-returns-then-spells
+returns c = yes _ _ (sym c.before.spells.ensures ∙ c.if-spells.true)
 
-returns-2 : tie.Need-returns-2
-returns-2 c = no _ _ (sym c.before.spells.ensures ∙ c.if1.false)
+returns-2 : tie.Need-returns-else-spells
+returns-2 c = no _ _ (sym c.before.spells.ensures ∙ c.if-spells.false)
 
-pub fits-spec : {M : Type 1} → statement M
-fits-spec = tie.close (tie.spec (λ c κs. search rules) returns returns-2)
+pub fits_spec : {M : Type 1} → statement M
+fits_spec = tie.close (tie.spec (λ c κs. search rules) returns returns-2)

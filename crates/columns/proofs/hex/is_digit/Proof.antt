@@ -9,11 +9,11 @@ first a b r p q = rw (sym p ∙ q) refl
 second : (a b r s : Bool) → r ≡ a → r ≡ false → s ≡ b → s ≡ (a || b)
 second a b r s p q t = rw (sym p ∙ q) t
 
-returns : tie.Need-returns
-returns c = first _ _ _ c.before.within.ensures c.if1.true
+returns : tie.Need-returns-then-within
+returns c = first _ _ _ c.before.within.ensures c.if-within.true
 
-returns-2 : tie.Need-returns-2
-returns-2 c = second _ _ _ _ c.before.before.within.ensures c.before.if1.false c.within2.ensures
+returns-2 : tie.Need-returns
+returns-2 c = second _ _ _ _ c.before.before.within.ensures c.before.if-within.false c.within-2.ensures
 
-pub is-digit-spec : {M : Type 1} → statement M
-is-digit-spec = tie.close (tie.spec (λ c κs. search rules) returns (λ c κs. search rules) returns-2)
+pub is_digit_spec : {M : Type 1} → statement M
+is_digit_spec = tie.close (tie.spec (λ c κs. search rules) returns (λ c κs. search rules) returns-2)

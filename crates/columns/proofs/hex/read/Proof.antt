@@ -2,7 +2,7 @@
 use Rattle.std.proofs.Common.{◌≡◌, ℕ, ◌/◌, ◌≤◌, Bool, true, false, ◌&&◌, leb, List, length, sym, refl, ap, ◌∙◌, arith, length-take-le, rules, leb-true}
 use mathlib.Core.Bool.{false≢true}
 use lib.Seq.{paste, length-paste}
-use Rattle.io.specs.Counts.{IsPrefixLen}
+use Rattle.columns.specs.Counts.{IsPrefixLen}
 use Rattle.columns.specs.Hex.{bytes, spells, fits, count, filled}
 use Rattle.columns.proofs.Spelling.{length-bytes}
 use Rattle.columns.proofs.hex.read.Statement.{statement}
@@ -29,13 +29,13 @@ unfolding count filled
 kept t o h = (rw h refl, (rw h refl, (omega arith, refl)))
 
 decode-requires : tie.Need-decode-requires
-decode-requires c κs = room _ _ (sym c.before.before.fits2.ensures ∙ c.before.if1.true)
+decode-requires c κs = room _ _ (sym c.before.before.fits.ensures ∙ c.before.if-fits.true)
 
-returns : tie.Need-returns
-returns c = done _ _ _ (sym c.before.before.before.before.before.fits2.ensures ∙ c.before.before.before.before.if1.true) c.before.before.decode.ensures
+returns : tie.Need-returns-then-fits
+returns c = done _ _ _ (sym c.before.before.before.before.before.fits.ensures ∙ c.before.before.before.before.if-fits.true) c.before.before.decode.ensures
 
-returns-2 : tie.Need-returns-2
-returns-2 c = kept _ _ (sym c.before.fits2.ensures ∙ c.if1.false)
+returns-2 : tie.Need-returns-else-fits
+returns-2 c = kept _ _ (sym c.before.fits.ensures ∙ c.if-fits.false)
 
 pub read_spec : {M : Type 1} → statement M
 read_spec = tie.close (tie.spec (λ c κs. search rules) decode-requires (λ c. search rules) returns returns-2)

@@ -20,17 +20,17 @@ odd : (t : List ℕ) → (length t ≡ 1 → ⊥) → (length t ≡ 0 → ⊥) �
 unfolding spells
 odd t g h k = rw (ne_eqb (length t) 1 g, ne_eqb (length t) 0 h, ne_eqb (length t % 2) 0 k) refl
 
-returns : tie.Need-returns
-returns c = short _ c.before.if1.true
+returns : tie.Need-returns-then-text-eq1
+returns c = short _ c.before.if-text-eq1.true
 
-returns-2 : tie.Need-returns-2
-returns-2 c = none _ c.before.if1.false c.if2.true
+returns-2 : tie.Need-returns-then-text-eq0
+returns-2 c = none _ c.before.if-text-eq1.false c.if-text-eq0.true
 
-returns-3 : tie.Need-returns-3
-returns-3 c = even _ _ c.before.before.before.if1.false c.before.before.if2.false c.before.if3.true c.all_digits.ensures
+returns-3 : tie.Need-returns-then-text-eq0-2
+returns-3 c = even _ _ c.before.before.before.if-text-eq1.false c.before.before.if-text-eq0.false c.before.if-text-eq0-2.true c.all_digits.ensures
 
-returns-4 : tie.Need-returns-4
-returns-4 c = odd _ c.before.before.if1.false c.before.if2.false c.if3.false
+returns-4 : tie.Need-returns-else-text-eq0-2
+returns-4 c = odd _ c.before.before.if-text-eq1.false c.before.if-text-eq0.false c.if-text-eq0-2.false
 
-pub spells-spec : {M : Type 1} → statement M
-spells-spec = tie.close (tie.spec (λ c. search rules) returns returns-2 (λ c κs. search rules) returns-3 returns-4)
+pub spells_spec : {M : Type 1} → statement M
+spells_spec = tie.close (tie.spec (λ c. search rules) returns returns-2 (λ c κs. search rules) returns-3 returns-4)

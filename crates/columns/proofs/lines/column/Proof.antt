@@ -5,10 +5,10 @@ use Rattle.columns.proofs.Columns.{column-next, column-last}
 use Rattle.columns.proofs.lines.column.Statement.{statement}
 use Rattle.columns.proofs.lines.column.Tie as tie
 
-abbrev invariant-loop : tie.invariant-loop
+abbrev invariant-loop : tie.invariant-loop-j
 invariant-loop line k at₀ j₀ at j = (at ≤ length line) × (j ≤ k) × (column k line ≡ column (k - j) (drop at line))
 
-abbrev decreases-loop : tie.decreases-loop
+abbrev decreases-loop : tie.decreases-loop-j
 decreases-loop line k at₀ j₀ at j = k - j
 
 first : (s : List ℕ) (k : ℕ) → column k s ≡ column (k - 0) s
@@ -23,20 +23,20 @@ next s at e n k j h p q r =
 last : (s : List ℕ) (at e k j : ℕ) → k - j ≡ 0 → e ≡ at + before 32 (drop at s) → column k s ≡ column (k - j) (drop at s) → take (e - at) (drop at s) ≡ column k s
 last s at e k j h p r = column-last s at e p ∙ sym (r ∙ ap (λ (m : ℕ). column m (drop at s)) h)
 
-loop-again : tie.Need-loop-preserved invariant-loop decreases-loop
+loop-again : tie.Need-loop-j-preserved invariant-loop decreases-loop
 loop-again c =
-    let l = c.before.before.before.loop in
+    let l = c.before.before.before.loop-j in
     let a = c.before.before.before.before.before.args in
-    (omega arith, omega arith, next a.line.now l.at _ _ a.k l.j c.before.before.loop-test.true c.before.find.ensures.0 c.past.ensures l.invariant.2)
+    (omega arith, omega arith, next a.line.now l.at _ _ a.k l.j c.before.before.loop-j-test.true c.before.find-e.ensures.0 c.past-at.ensures l.invariant.2)
 
 returns : tie.Need-returns invariant-loop decreases-loop
 returns c =
-    let l = c.before.before.before.loop in
+    let l = c.before.before.before.loop-j in
     let a = c.before.before.before.before.before.args in
-    last a.line.now l.at _ a.k l.j (omega arith) c.before.find2.ensures.0 l.invariant.2
+    last a.line.now l.at _ a.k l.j (omega arith) c.before.find-e-2.ensures.0 l.invariant.2
 
-pub column-spec : {M : Type 1} → statement M
-column-spec =
+pub column_spec : {M : Type 1} → statement M
+column_spec =
     tie.close
     (tie.spec invariant-loop decreases-loop
     (λ c. let a = c.before.args in (omega arith, omega arith, first a.line.now a.k))

@@ -1,5 +1,5 @@
 -- `rollover::alike::ended_alike` meets its contract: each way out rewrites with the tests that led there. Assumes nothing.
-use Rattle.std.proofs.Common.{◌≡◌, ℕ, Bool, false, ◌&&◌, eqb, refl, rules, eq-eqb, ne_eqb}
+use Rattle.std.proofs.Common.{◌≡◌, Bool, false, refl, rules, eq-eqb, ne_eqb}
 use Rattle.rules.specs.declared.State.{State}
 use Rattle.rollover.specs.Alike.{same, alike}
 use Rattle.rollover.proofs.alike.ended_alike.Statement.{statement}
@@ -21,19 +21,19 @@ by-drops : (q r : State) (b : Bool) → q.accepted ≡ r.accepted → q.seen ≡
 unfolding alike
 by-drops q r b g h k e = rw (eq-eqb q.accepted r.accepted g, eq-eqb q.seen r.seen h, eq-eqb q.send_id r.send_id k) e
 
-returns : tie.Need-returns
-returns c = by_count _ _ c.if1.true
+returns : tie.Need-returns-then-a-b
+returns c = by_count _ _ c.if-a-b.true
 
-returns-2 : tie.Need-returns-2
-returns-2 c = by-reference _ _ c.before.before.before.if1.false c.if2.true
+returns-2 : tie.Need-returns-then-a-b-2
+returns-2 c = by-reference _ _ c.before.before.before.if-a-b.false c.if-a-b-2.true
 
-returns-3 : tie.Need-returns-3
-returns-3 c = by_key _ _ c.before.before.before.before.before.before.if1.false c.before.before.before.if2.false c.if3.true
+returns-3 : tie.Need-returns-then-a-b-3
+returns-3 c = by_key _ _ c.before.before.before.before.before.before.if-a-b.false c.before.before.before.if-a-b-2.false c.if-a-b-3.true
 
-returns-4 : tie.Need-returns-4
+returns-4 : tie.Need-returns
 returns-4 c =
     let t = c.before.before.before in
-    by-drops _ _ _ t.before.before.before.before.before.before.if1.false t.before.before.before.if2.false t.if3.false c.same-drops.ensures
+    by-drops _ _ _ t.before.before.before.before.before.before.if-a-b.false t.before.before.before.if-a-b-2.false t.if-a-b-3.false c.same_drops.ensures
 
-pub ended-alike-spec : {M : Type 1} → statement M
-ended-alike-spec = tie.close (tie.spec returns returns-2 returns-3 (λ c κs. search rules) returns-4)
+pub ended_alike_spec : {M : Type 1} → statement M
+ended_alike_spec = tie.close (tie.spec returns returns-2 returns-3 (λ c κs. search rules) returns-4)

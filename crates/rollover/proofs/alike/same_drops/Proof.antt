@@ -1,13 +1,13 @@
 -- `rollover::alike::same_drops` meets its contract. The invariant: the whole answer is that of what is left. Assumes nothing.
-use Rattle.std.proofs.Common.{◌≡◌, ℕ, ◌+◌, ◌-◌, ◌<◌, ◌≤◌, true, false, ◌&&◌, eqb, List, length, get_or, drop, refl, ◌∙◌, ap₂, add-one, arith, drop_of_length-le, drop-cons, rules, eq-eqb, ne_eqb}
+use Rattle.std.proofs.Common.{◌≡◌, ℕ, ◌+◌, ◌-◌, ◌<◌, ◌≤◌, true, false, ◌&&◌, eqb, List, length, get_or, drop, refl, ◌∙◌, add-one, arith, drop_of_length-le, drop-cons, rules, eq-eqb, ne_eqb}
 use Rattle.rollover.specs.Alike.{same}
 use Rattle.rollover.proofs.alike.same_drops.Statement.{statement}
 use Rattle.rollover.proofs.alike.same_drops.Tie as tie
 
-abbrev invariant-loop : tie.invariant-loop
+abbrev invariant-loop : tie.invariant-loop-i
 invariant-loop a b i₀ i = (i ≤ 13) × (same a b ≡ same (drop i a) (drop i b))
 
-abbrev decreases-loop : tie.decreases-loop
+abbrev decreases-loop : tie.decreases-loop-i
 decreases-loop a b i₀ i = 13 - i
 
 at : (a b : List ℕ) (i : ℕ) → i < length a → i < length b → same (drop i a) (drop i b) ≡ (eqb (get_or a i 0) (get_or b i 0) && same (drop (i + 1) a) (drop (i + 1) b))
@@ -24,31 +24,31 @@ end : (a b : List ℕ) (i : ℕ) → length a ≤ i → length b ≤ i → same 
 unfolding same
 end a b i h k e = rw (e, drop_of_length-le a h, drop_of_length-le b k) refl
 
-returns : tie.Need-returns invariant-loop decreases-loop
+returns : tie.Need-returns-then-a-i invariant-loop decreases-loop
 returns c =
-    let l = c.before.before.loop in
+    let l = c.before.before.loop-i in
     let a = c.before.before.before.args in
-    let h : length a.t1 ≡ 13 = search rules in
-    let k : length a.t2 ≡ 13 = search rules in
-    differ a.t1 a.t2 l.i (omega arith) (omega arith) c.if1.true l.invariant.1
+    let h : length a.a ≡ 13 = search rules in
+    let k : length a.b ≡ 13 = search rules in
+    differ a.a a.b l.i (omega arith) (omega arith) c.if-a-i.true l.invariant.1
 
-loop-again : tie.Need-loop-preserved invariant-loop decreases-loop
+loop-again : tie.Need-loop-i-preserved invariant-loop decreases-loop
 loop-again c =
-    let l = c.before.before.loop in
+    let l = c.before.before.loop-i in
     let a = c.before.before.before.args in
-    let h : length a.t1 ≡ 13 = search rules in
-    let k : length a.t2 ≡ 13 = search rules in
-    (omega arith, next a.t1 a.t2 l.i (omega arith) (omega arith) c.if1.false l.invariant.1)
+    let h : length a.a ≡ 13 = search rules in
+    let k : length a.b ≡ 13 = search rules in
+    (omega arith, next a.a a.b l.i (omega arith) (omega arith) c.if-a-i.false l.invariant.1)
 
-returns-2 : tie.Need-returns-2 invariant-loop decreases-loop
+returns-2 : tie.Need-returns invariant-loop decreases-loop
 returns-2 c =
-    let l = c.before.loop in
+    let l = c.before.loop-i in
     let a = c.before.before.args in
-    let h : length a.t1 ≡ 13 = search rules in
-    let k : length a.t2 ≡ 13 = search rules in
-    end a.t1 a.t2 l.i (omega arith) (omega arith) l.invariant.1
+    let h : length a.a ≡ 13 = search rules in
+    let k : length a.b ≡ 13 = search rules in
+    end a.a a.b l.i (omega arith) (omega arith) l.invariant.1
 
-pub same-drops-spec : {M : Type 1} → statement M
-same-drops-spec =
+pub same_drops_spec : {M : Type 1} → statement M
+same_drops_spec =
     tie.close
     (tie.spec invariant-loop decreases-loop (λ c. (omega arith, refl)) (λ c. search rules) (λ c. search rules) (λ c. search rules) (λ c. search rules) returns (λ c. search rules) (λ c. search rules) loop-again returns-2)

@@ -19,16 +19,16 @@ drops : (v : Verdict) (n : ℕ) → v ≡ Drop n → n ≡ code v
 unfolding code verdict_answer
 drops v n h = rw h (omega arith)
 
-returns : tie.Need-returns
-returns c = accepts _ _ c.before.v.given.1
+returns : tie.Need-returns-in-Accept
+returns c = accepts _ _ c.in-Accept.is
 
-returns-2 : tie.Need-returns-2
-returns-2 c = passes _ c.enum_told.given.1
+returns-2 : tie.Need-returns-in-Pass
+returns-2 c = passes _ c.in-Pass.is
 
-returns-3 : tie.Need-returns-3
-returns-3 c = drops _ _ c.before.v2.given.1
+returns-3 : tie.Need-returns-in-Drop
+returns-3 c = drops _ _ c.in-Drop.is
 
-pub coded-spec : {M : Type 1} → statement M
-coded-spec =
+pub coded_spec : {M : Type 1} → statement M
+coded_spec =
     tie.close
     (tie.spec (λ c. search rules) (λ c. search rules) (λ c. search rules) (λ c. search rules) (λ c. search rules) (λ c. search rules) returns returns-2 returns-3)

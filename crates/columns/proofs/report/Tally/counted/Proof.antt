@@ -11,7 +11,7 @@ bit false = refl
 returns : tie.Need-returns
 returns c =
     let a = c.before.before.args in
-    (λ i. record { ok = c.before.wrapping-add-u64.ensures i; all = c.wrapping-add-u642.ensures i })
+    (λ i. record { ok = c.before.wrapping_add_u64.ensures i; all = c.wrapping_add_u64-2.ensures i })
     ∙ (λ i. record { ok = (a.self.ok + bit a.ok i) % 2 ^ 64; all = (a.self.all + 1) % 2 ^ 64 })
 
 pub counted_spec : {M : Type 1} → statement M
