@@ -101,13 +101,13 @@ check_table_export t = answers (word (table_answer t.answer))
 unfoldable pub prepare_export : (keys md5 out : List ℕ) → Export
 prepare_export k m out = fills (word (table_answer (prepare_answer k m (length out)))) (prepare_output k m out)
 
-unfoldable pub open_active_export : Tables → (local remote : List ℕ) (local_port_of remote_port_of isn send_id_of : ℕ) (state : List ℕ) → Export
-open_active_export t local remote local_port_of remote_port_of isn send_id_of b =
-    after_opened_actively b (opened_actively t local remote local_port_of remote_port_of isn send_id_of)
+unfoldable pub open_active_export : Tables → (local remote : List ℕ) (local_port remote_port isn send_id : ℕ) (state : List ℕ) → Export
+open_active_export t local remote local_port remote_port isn send_id b =
+    after_opened_actively b (opened_actively t local remote local_port remote_port isn send_id)
 
-unfoldable pub open_active_md5_export : Tables → (local remote : List ℕ) (local_port_of remote_port_of isn : ℕ) (state : List ℕ) → Export
-open_active_md5_export t local remote local_port_of remote_port_of isn b =
-    after_opened_actively b (opened_actively_md5 t local remote local_port_of remote_port_of isn)
+unfoldable pub open_active_md5_export : Tables → (local remote : List ℕ) (local_port remote_port isn : ℕ) (state : List ℕ) → Export
+open_active_md5_export t local remote local_port remote_port isn b =
+    after_opened_actively b (opened_actively_md5 t local remote local_port remote_port isn)
 
 unfoldable pub judge_syn_export : Tables → (source destination segment : List ℕ) (setting : ℕ) → Export
 judge_syn_export t source destination segment setting =
@@ -123,5 +123,5 @@ judge_export t source destination segment b = after_judged b (judged t (arrival_
 unfoldable pub sign_export : Tables → (segment out state : List ℕ) → Export
 sign_export t segment out b = after_signed b (output t segment out (decode_of b)) out (signed t segment out (decode_of b))
 
-unfoldable pub ask_export : Tables → (recv_id_of : ℕ) (state : List ℕ) → Export
-ask_export t recv_id_of b = after_asked b (asked t recv_id_of (decode_of b))
+unfoldable pub ask_export : Tables → (recv_id : ℕ) (state : List ℕ) → Export
+ask_export t recv_id b = after_asked b (asked t recv_id (decode_of b))

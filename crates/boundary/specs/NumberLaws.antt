@@ -1,16 +1,16 @@
 -- Every call's number and value fit their bits, and the number tells what it should: the statements of Numbers.antt, proved. Assumes
 -- nothing.
 use Rattle.std.specs.Prelude.{ℕ, ◌^◌, ◌%◌, ◌≤◌, ◌<◌, ◌≡◌, refl, Bool, true, false, cond, not, ◌&&◌, ◌||◌, List, length, eqb, ltb, leb}
-use Rattle.std.proofs.Common.{subst, ◌∙◌, arith, ltb-true, leb-true, lt-ltb, ne_eqb, eqb-true}
+use Rattle.std.proofs.Common.{subst, ◌∙◌, arith, ltb-true, lt-ltb, ne_eqb, eqb-true}
 use Rattle.std.proofs.Math.Path.{subst⁻¹}
 use Rattle.keys.specs.declared.entry.Pair.{Pair}
-use Rattle.keys.specs.MatchLaws.{and-true}
+use Rattle.keys.proofs.MatchLaws.{and-true}
 use Rattle.tables.specs.declared.Index.{Index}
 use Rattle.tables.specs.declared.Admitted.{Admitted}
 use Rattle.tables.specs.declared.Admitted.TheVariants.{Valid, Refused}
-use Rattle.tables.specs.ValidLaws.{valid-count}
+use Rattle.tables.proofs.ValidLaws.{valid-count}
 use Rattle.tables.specs.Preparing.{prepared_length, prepare_answer}
-use Rattle.tables.specs.Tables.{Tables, no_index, admitted, max_entries, send_entry, md5_entry, any_entry}
+use Rattle.tables.specs.Tables.{no_index, admitted, max_entries, send_entry, md5_entry, any_entry}
 use Rattle.rules.specs.declared.Outcome.{Outcome}
 use Rattle.rules.specs.declared.Outcome.TheVariants.{Good, Passed, Bad}
 use Rattle.rules.specs.declared.Verdict.{Verdict}
@@ -29,13 +29,13 @@ use Rattle.rules.specs.Calls.{syn_is_md5, refuse, is_refused, refusal, verdict_o
 use Rattle.rules.specs.Calls.{judged_syn, opened_passively, unrefused, settled_by_lem, open_tests, opened_with, opened_actively, opened_md5_with, opened_actively_md5}
 use Rattle.rules.specs.Calls.{ask_tests, asked}
 use Rattle.rules.specs.Calls.{outgoing, sign_tests, check_sign, signed}
-use Rattle.rules.specs.GroupLaws.{unknown-passes}
-use Rattle.rules.specs.SigningLaws.{signs-good}
+use Rattle.rules.proofs.GroupLaws.{unknown-passes}
+use Rattle.rules.proofs.SigningLaws.{signs-good}
 use Rattle.rules.specs.History.{judge, sign, ask}
 use Rattle.rules.specs.Refusals.{on, judge_syn_of, open_passively, open_actively, open_actively_md5, by_verdict, by_signing}
 use Rattle.rules.specs.Lent.{Lent, tables}
 use Rattle.rules.specs.GivenNumbers.{among, table_numbers, Bounded, is_pass}
-use Rattle.rules.specs.GivenNumberLaws.{among-every, checked-within, refused-bounds, table-bounds, judge-never-passes}
+use Rattle.rules.proofs.GivenNumberLaws.{among-every, checked-within, refused-bounds, table-bounds, judge-never-passes}
 use Rattle.states.specs.Layout.{is_state_of}
 use Rattle.boundary.specs.Word.{word, of_judged, of_signed, of_settled}
 use Rattle.boundary.specs.WordLaws.{reads}
@@ -219,16 +219,16 @@ asked-fits t id q =
 
 pub active-fits : ActiveFits
 unfolding opened_actively
-active-fits t local remote local_port_of remote_port_of isn send_id_of = go (pair_of_lem local remote local_port_of remote_port_of)
+active-fits t local remote local_port remote_port isn send_id = go (pair_of_lem local remote local_port remote_port)
   where
-    go : (p : Pair) → Fits (of_settled (opened_with (tables t) local remote p isn send_id_of))
+    go : (p : Pair) → Fits (of_settled (opened_with (tables t) local remote p isn send_id))
     go p =
-        let l = open_tests (tables t) local remote (send_entry (tables t) p send_id_of) in
+        let l = open_tests (tables t) local remote (send_entry (tables t) p send_id) in
         settles (first l unrefused) empty _ (settled-fits l (rw (refusal-fits t)))
 
 pub active-md5-fits : ActiveMd5Fits
 unfolding opened_actively_md5
-active-md5-fits t local remote local_port_of remote_port_of isn = go (pair_of_lem local remote local_port_of remote_port_of)
+active-md5-fits t local remote local_port remote_port isn = go (pair_of_lem local remote local_port remote_port)
   where
     go : (p : Pair) → Fits (of_settled (opened_md5_with (tables t) local remote p isn))
     go p =
@@ -288,14 +288,14 @@ number-tells (judge_syn_of t a strict) =
 number-tells (open_passively t a isn strict) =
     verdict-tells (opened_passively (tables t) a isn strict).verdict (opened_passively (tables t) a isn strict).index
     (λ n e. (refused-bounds (open_passively t a isn strict) n e).0)
-number-tells (open_actively t local remote local_port_of remote_port_of isn send_id_of) =
-    done-tells (opened_actively (tables t) local remote local_port_of remote_port_of isn send_id_of).answer
-    (opened_actively (tables t) local remote local_port_of remote_port_of isn send_id_of).index
-    (λ n e. (refused-bounds (open_actively t local remote local_port_of remote_port_of isn send_id_of) n e).0)
-number-tells (open_actively_md5 t local remote local_port_of remote_port_of isn) =
-    done-tells (opened_actively_md5 (tables t) local remote local_port_of remote_port_of isn).answer
-    (opened_actively_md5 (tables t) local remote local_port_of remote_port_of isn).index
-    (λ n e. (refused-bounds (open_actively_md5 t local remote local_port_of remote_port_of isn) n e).0)
+number-tells (open_actively t local remote local_port remote_port isn send_id) =
+    done-tells (opened_actively (tables t) local remote local_port remote_port isn send_id).answer
+    (opened_actively (tables t) local remote local_port remote_port isn send_id).index
+    (λ n e. (refused-bounds (open_actively t local remote local_port remote_port isn send_id) n e).0)
+number-tells (open_actively_md5 t local remote local_port remote_port isn) =
+    done-tells (opened_actively_md5 (tables t) local remote local_port remote_port isn).answer
+    (opened_actively_md5 (tables t) local remote local_port remote_port isn).index
+    (λ n e. (refused-bounds (open_actively_md5 t local remote local_port remote_port isn) n e).0)
 
 fitting : {a : Answer} → Fits a → (a.number < 2 ^ 8) × (a.table < 2 ^ 8)
 fitting f = (f.number, f.table)
@@ -312,10 +312,10 @@ number_fits (on (sign t s out) q) = fitting (signed-fits t s out q)
 number_fits (on (ask t id) q) = fitting (asked-fits t id q)
 number_fits (judge_syn_of t a strict) = judging _ _ (judged_syn-fits t a strict)
 number_fits (open_passively t a isn strict) = judging _ _ (opened-fits t a isn strict)
-number_fits (open_actively t local remote local_port_of remote_port_of isn send_id_of) =
-    fitting (active-fits t local remote local_port_of remote_port_of isn send_id_of)
-number_fits (open_actively_md5 t local remote local_port_of remote_port_of isn) =
-    fitting (active-md5-fits t local remote local_port_of remote_port_of isn)
+number_fits (open_actively t local remote local_port remote_port isn send_id) =
+    fitting (active-fits t local remote local_port remote_port isn send_id)
+number_fits (open_actively_md5 t local remote local_port remote_port isn) =
+    fitting (active-md5-fits t local remote local_port remote_port isn)
 
 low_bits : (a : Answer) → a.number < 2 ^ 8 → word a % 2 ^ 8 ≡ a.number
 unfolding word

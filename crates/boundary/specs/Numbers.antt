@@ -68,12 +68,12 @@ abbrev pub AskedFits : Type 0
 AskedFits = (lent : Lent) (id : ℕ) (q : State) → Fits (of_settled (asked (tables lent) id q))
 
 abbrev pub ActiveFits : Type 0
-ActiveFits = (lent : Lent) (local remote : List ℕ) (local_port_of remote_port_of isn send_id_of : ℕ)
-    → Fits (of_settled (opened_actively (tables lent) local remote local_port_of remote_port_of isn send_id_of))
+ActiveFits = (lent : Lent) (local remote : List ℕ) (local_port remote_port isn send_id : ℕ)
+    → Fits (of_settled (opened_actively (tables lent) local remote local_port remote_port isn send_id))
 
 abbrev pub ActiveMd5Fits : Type 0
-ActiveMd5Fits = (lent : Lent) (local remote : List ℕ) (local_port_of remote_port_of isn : ℕ)
-    → Fits (of_settled (opened_actively_md5 (tables lent) local remote local_port_of remote_port_of isn))
+ActiveMd5Fits = (lent : Lent) (local remote : List ℕ) (local_port remote_port isn : ℕ)
+    → Fits (of_settled (opened_actively_md5 (tables lent) local remote local_port remote_port isn))
 
 -- "of `sign` the signed length"
 abbrev pub SignedFits : Type 0
@@ -93,10 +93,10 @@ answer_of (on (sign lent s out) q) = of_signed (signed (tables lent) s out q)
 answer_of (on (ask lent id) q) = of_settled (asked (tables lent) id q)
 answer_of (judge_syn_of lent a strict) = of_syn_judged (judged_syn (tables lent) a strict)
 answer_of (open_passively lent a isn strict) = of_judged (opened_passively (tables lent) a isn strict)
-answer_of (open_actively lent local remote local_port_of remote_port_of isn send_id_of) =
-    of_settled (opened_actively (tables lent) local remote local_port_of remote_port_of isn send_id_of)
-answer_of (open_actively_md5 lent local remote local_port_of remote_port_of isn) =
-    of_settled (opened_actively_md5 (tables lent) local remote local_port_of remote_port_of isn)
+answer_of (open_actively lent local remote local_port remote_port isn send_id) =
+    of_settled (opened_actively (tables lent) local remote local_port remote_port isn send_id)
+answer_of (open_actively_md5 lent local remote local_port remote_port isn) =
+    of_settled (opened_actively_md5 (tables lent) local remote local_port remote_port isn)
 
 abbrev pub signs : Signing → Bool
 signs (S.Signed n) = true
@@ -108,18 +108,18 @@ is_done (on (sign lent s out) q) = signs (signed (tables lent) s out q).answer
 is_done (on (ask lent id) q) = opens (asked (tables lent) id q).answer
 is_done (judge_syn_of lent a strict) = accepts (judged_syn (tables lent) a strict).verdict
 is_done (open_passively lent a isn strict) = accepts (opened_passively (tables lent) a isn strict).verdict
-is_done (open_actively lent local remote local_port_of remote_port_of isn send_id_of) =
-    opens (opened_actively (tables lent) local remote local_port_of remote_port_of isn send_id_of).answer
-is_done (open_actively_md5 lent local remote local_port_of remote_port_of isn) =
-    opens (opened_actively_md5 (tables lent) local remote local_port_of remote_port_of isn).answer
+is_done (open_actively lent local remote local_port remote_port isn send_id) =
+    opens (opened_actively (tables lent) local remote local_port remote_port isn send_id).answer
+is_done (open_actively_md5 lent local remote local_port remote_port isn) =
+    opens (opened_actively_md5 (tables lent) local remote local_port remote_port isn).answer
 
 -- only a bare SYN that is judged without a state can pass
 abbrev pub is_passed : Request → Bool
 is_passed (on c q) = false
 is_passed (judge_syn_of lent a strict) = is_pass (judged_syn (tables lent) a strict).verdict
 is_passed (open_passively lent a isn strict) = is_pass (opened_passively (tables lent) a isn strict).verdict
-is_passed (open_actively lent local remote local_port_of remote_port_of isn send_id_of) = false
-is_passed (open_actively_md5 lent local remote local_port_of remote_port_of isn) = false
+is_passed (open_actively lent local remote local_port remote_port isn send_id) = false
+is_passed (open_actively_md5 lent local remote local_port remote_port isn) = false
 
 -- an answer's number n tells these two
 pub record Tells (n : ℕ) (done passed : Bool) : Type 0 where

@@ -43,14 +43,14 @@ PassivelyPassed = (t : Tables) (source destination segment : List ℕ) (isn sett
     → (open_passive_export t source destination segment isn setting b).state ≡ replicate state_bytes 0
 
 abbrev pub ActivelyRefused : Type 0
-ActivelyRefused = (t : Tables) (local remote : List ℕ) (local_port_of remote_port_of isn send_id_of : ℕ) (b : List ℕ) (n : ℕ)
-    → (opened_actively t local remote local_port_of remote_port_of isn send_id_of).answer ≡ D.Refused n
-    → (open_active_export t local remote local_port_of remote_port_of isn send_id_of b).state ≡ b
+ActivelyRefused = (t : Tables) (local remote : List ℕ) (local_port remote_port isn send_id : ℕ) (b : List ℕ) (n : ℕ)
+    → (opened_actively t local remote local_port remote_port isn send_id).answer ≡ D.Refused n
+    → (open_active_export t local remote local_port remote_port isn send_id b).state ≡ b
 
 abbrev pub ActivelyMd5Refused : Type 0
-ActivelyMd5Refused = (t : Tables) (local remote : List ℕ) (local_port_of remote_port_of isn : ℕ) (b : List ℕ) (n : ℕ)
-    → (opened_actively_md5 t local remote local_port_of remote_port_of isn).answer ≡ D.Refused n
-    → (open_active_md5_export t local remote local_port_of remote_port_of isn b).state ≡ b
+ActivelyMd5Refused = (t : Tables) (local remote : List ℕ) (local_port remote_port isn : ℕ) (b : List ℕ) (n : ℕ)
+    → (opened_actively_md5 t local remote local_port remote_port isn).answer ≡ D.Refused n
+    → (open_active_md5_export t local remote local_port remote_port isn b).state ≡ b
 
 -- Preparing that is refused.
 abbrev pub PrepareRefused : Type 0

@@ -7,11 +7,11 @@ use Rattle.tables.specs.Preparing.{prepare_output}
 use Rattle.rules.specs.declared.State.{State}
 use Rattle.rules.specs.Connection.{arrival_of, is_open_of, is_counted, empty}
 use Rattle.rules.specs.Calls.{opened_actively, opened_actively_md5, asked, signed, output}
-use Rattle.rules.specs.Lent.{Lent, tables}
+use Rattle.rules.specs.Lent.{tables}
 use Rattle.rules.specs.History.{judge, sign, ask}
 use Rattle.rules.specs.Refusals.{on, by_verdict, by_signing, one_more_of}
-use Rattle.rules.specs.RefusalLaws.{refusal, passed-empty}
-use Rattle.rules.specs.GivenNumberLaws.{judge-never-passes}
+use Rattle.rules.proofs.RefusalLaws.{refusal, passed-empty}
+use Rattle.rules.proofs.GivenNumberLaws.{judge-never-passes}
 use Rattle.states.specs.Layout.{is_state_of, state_bytes, decode_of, word_bytes, rows, joined, encode_of}
 use Rattle.states.specs.LayoutLaws.{encode-decode}
 use Rattle.boundary.specs.Exports.{changed, state_after, settles, opens, state_where, strictly}
@@ -55,13 +55,13 @@ passively-passed t source destination segment isn setting b h e =
 
 pub actively-refused : ActivelyRefused
 unfolding open_active_export
-actively-refused t local remote local_port_of remote_port_of isn send_id_of b n e =
-    closed b (opened_actively t local remote local_port_of remote_port_of isn send_id_of).state _ (ap opens e)
+actively-refused t local remote local_port remote_port isn send_id b n e =
+    closed b (opened_actively t local remote local_port remote_port isn send_id).state _ (ap opens e)
 
 pub actively-md5-refused : ActivelyMd5Refused
 unfolding open_active_md5_export
-actively-md5-refused t local remote local_port_of remote_port_of isn b n e =
-    closed b (opened_actively_md5 t local remote local_port_of remote_port_of isn).state _ (ap opens e)
+actively-md5-refused t local remote local_port remote_port isn b n e =
+    closed b (opened_actively_md5 t local remote local_port remote_port isn).state _ (ap opens e)
 
 -- a state that is left alone is written as the bytes that it was read from
 alike : (b : List ℕ) → Octets b → (q : State) (c : Bool) (m : State) → q ≡ cond c m (decode_of b) → state_after b q ≡ state_where b c m

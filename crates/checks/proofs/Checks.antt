@@ -12,27 +12,27 @@ use borrow.Author.Tests.{eqb-true, not-false}
 use Rattle.wire.specs.Header.{source_port_of, destination_port_of, sequence, well_sized_of}
 use Rattle.keys.specs.Entry.{width}
 use Rattle.keys.specs.Table.{nobody}
-use Rattle.keys.specs.MatchLaws.{or-true, and-true}
+use Rattle.keys.proofs.MatchLaws.{or-true, and-true}
 use Rattle.keys.specs.declared.entry.Pair.{Pair}
 use Rattle.keys.specs.declared.table.Found.{Found}
 use Rattle.tables.specs.declared.Admitted.{Admitted}
 use Rattle.tables.specs.declared.Admitted.TheVariants.{Valid, Refused}
 use Rattle.tables.specs.Tables.{Tables, tables_of, recv_entry, md5_entry}
-use Rattle.tables.specs.ValidLaws.{taken-held}
-use Rattle.tables.specs.SearchLaws.{recv-proper, recv-nobody}
+use Rattle.tables.proofs.ValidLaws.{taken-held}
+use Rattle.tables.proofs.SearchLaws.{recv-proper, recv-nobody}
 use Rattle.rules.specs.declared.Connection.{Connection}
 use Rattle.rules.specs.declared.Place.{Place}
 use Rattle.rules.specs.declared.Place.TheVariants.{At}
 use Rattle.rules.specs.declared.Outcome.{Outcome}
 use Rattle.octets.specs.Tests.{first}
 use Rattle.octets.specs.TestLaws.{NoneApplies, none-split, each_gives}
-use Rattle.rules.specs.GroupLaws.{sized_of}
+use Rattle.rules.proofs.GroupLaws.{sized_of}
 use Rattle.rules.specs.Mac.{Flow}
 use Rattle.rules.specs.Connection.{sized, arrival_of, arrival_pair_of, arriving, arriving_syn, place_on_lem, is_md5_of}
 use Rattle.rules.specs.Calls.{is_refused, refuse, key_tests, md5_tests, good_by, address_tests, table_tests, input_tests, state_tests, family_tests}
 use Rattle.rules.specs.Calls.{length_tests, sum_tests, syn_missing_of, syn_unknown_of, syn_is_md5}
 use Rattle.rules.specs.Segment.{key_id_of}
-use Rattle.rules.specs.PositionLaws.{place-md5}
+use Rattle.rules.proofs.PositionLaws.{place-md5}
 use Rattle.checks.specs.Groups.{intact_tests, arriving_on}
 use Rattle.checks.specs.GroupLaws.{is_final, refusal-final}
 use Rattle.checks.specs.Begin.{Begins, by_ao, by_md5_of, Keyed, KeyedByWay, KeyedSyn, KeyedSynByWay}
@@ -155,8 +155,8 @@ module _ (a b : List ℕ) (e : sized a b ≡ true) where
       λ i. record {
         source = take_at a (replicate (16 - length a) 0) _ w.0 i;
         destination = take_at b (replicate (16 - length b) 0) _ w.1 i;
-        source_port_of = source_port_of s;
-        destination_port_of = destination_port_of s;
-        source_isn_of = sequence s;
-        destination_isn_of = 0;
+        source_port = source_port_of s;
+        destination_port = destination_port_of s;
+        source_isn = sequence s;
+        destination_isn = 0;
       }

@@ -2,7 +2,8 @@
 use Prim.Native.Nat.{ℕ}
 use mathlib.Core.Path.{◌≡◌, refl, sym, ap, subst, transport, ◌∙◌}
 use mathlib.Core.Bool.{Bool}
-use mathlib.Core.List.{List, [], ◌∷◌, ◌++◌}
+use mathlib.Core.Logic.{inl, inr}
+use mathlib.Core.List.{[], ◌∷◌, ◌++◌}
 use lib.ListN.{length}
 use Rattle.wire.specs.Header.{sequence, header_of_lem}
 use Rattle.wire.specs.declared.header.Header.{Header}
@@ -11,7 +12,7 @@ use Rattle.tables.specs.Tables.{Tables}
 use Rattle.rules.specs.declared.Connection.{Connection}
 use Rattle.rules.specs.declared.Place.TheVariants.{At}
 use Rattle.rules.specs.declared.Outcome.{Outcome}
-use Rattle.rules.specs.declared.Outcome.TheVariants.{Good}
+use Rattle.rules.specs.declared.Outcome.TheVariants.{Good, Passed, Bad}
 use Rattle.octets.specs.Tests.{first}
 use Rattle.octets.specs.TestLaws.{NoneApplies, first-none, first-append, first-joined}
 use Rattle.rules.specs.Connection.{Arrival, arrival_pair_of, arriving_syn, place_on_lem, is_md5_of}
@@ -22,6 +23,12 @@ use Rattle.checks.specs.Begin.{Expected, Begins, expected, Judges, expected_syn,
 use Rattle.checks.specs.BeginLaws.{nothing-begins}
 use Rattle.checks.specs.declared.begun.Begun.{Begun}
 use Rattle.checks.proofs.Checks.{early-final, early-syn-final, early-input, flow-back}
+
+-- what is no Good is one of the others
+pub no-good : (o : Outcome) → ((x r : ℕ) → o ≡ Good x r → ⊥) → Else o
+no-good (Good x r) h = absurd (h x r refl)
+no-good Passed h = inl refl
+no-good (Bad n i) h = inr refl
 
 -- the groups, cut at the code's seams
 module _ (g : Groups) (o : Outcome) where

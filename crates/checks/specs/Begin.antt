@@ -1,6 +1,6 @@
 -- Judging that has begun (src/begun.rt): what a value of the code's Begun stands for, once every test but 29 is made. A reader need
 -- not believe these: the calls cite the crate `rules` alone.
-use Rattle.std.specs.Prelude.{ℕ, ◌≤◌, min, ◌≡◌, Bool, true, false, cond, List, length, take}
+use Rattle.std.specs.Prelude.{ℕ, ◌≤◌, min, ◌≡◌, Bool, false, cond, List, length, take}
 use Rattle.wire.specs.Bytes.{same_bytes}
 use Rattle.wire.specs.Header.{sequence, header_end_of}
 use Rattle.keys.specs.declared.entry.Entry.{Entry}
@@ -14,7 +14,8 @@ use Rattle.rules.specs.declared.Outcome.TheVariants.{Good, Passed, Bad}
 use Rattle.octets.specs.Tests.{first}
 use Rattle.rules.specs.Mac.{Flow, arriving_hidden_of}
 use Rattle.rules.specs.Segment.{ao_at, key_id_of, mac_in, digest_in}
-use Rattle.rules.specs.Connection.{Arrival, arrival_pair_of, arriving, arriving_syn, place_on_lem, extension_of_lem, is_md5_of, ao_way, md5_way}
+use Rattle.rules.specs.Connection.{Arrival, arrival_pair_of, arriving, arriving_syn, place_on_lem, extension_of_lem, is_md5_of, ao_way}
+use Rattle.rules.specs.Connection.{md5_way}
 use Rattle.rules.specs.Calls.{refuse, key_tests, md5_tests, good_by, judge_groups, syn_missing_of, syn_unknown_of, syn_is_md5, syn_groups}
 use Rattle.traffic.specs.MacContext.{MacView, mac_view, mac_absorb, mac_finished, fronted_by, digested_by}
 use Rattle.checks.specs.Groups.{until_mac}
@@ -68,11 +69,13 @@ pub record Begins (o : Outcome) (w : ℕ → Expected) (b : Begun) : Type 0 wher
 -- with a state: by the way of the connection
 abbrev pub expected : Tables → Connection → List ℕ → ℕ → Expected
 expected t l s =
-    cond (is_md5_of l) (by_md5_of (md5_entry t l.pair).entry (arriving l s) s) (by_ao (recv_entry t l.pair (key_id_of s)).entry (arriving l s) s)
+    cond (is_md5_of l) (by_md5_of (md5_entry t l.pair).entry (arriving l s) s)
+    (by_ao (recv_entry t l.pair (key_id_of s)).entry (arriving l s) s)
 
 abbrev pub Judges : Tables → Connection → ℕ → Arrival → Begun → Type 0
 Judges t l reference a b =
-    Begins (first (until_mac (judge_groups t l reference a)) (good_by (is_md5_of l) (place_on_lem l reference (sequence a.segment)) a.segment))
+    Begins (first (until_mac (judge_groups t l reference a))
+    (good_by (is_md5_of l) (place_on_lem l reference (sequence a.segment)) a.segment))
     (expected t l a.segment) b
 
 -- of a bare SYN without one: by the table that matches

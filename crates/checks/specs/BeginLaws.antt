@@ -19,13 +19,13 @@ use Rattle.rules.specs.Digest.{segment_digest}
 use Rattle.rules.specs.Segment.{ao_at, key_id_of}
 use Rattle.rules.specs.Connection.{Arrival, arrival_pair_of, arriving, arriving_syn, place_on_lem, value, extension_of_lem, is_md5_of}
 use Rattle.rules.specs.Calls.{refuse, mac_tests, digest_tests, Groups, in_order, judge_groups, check, syn_unknown_of, syn_is_md5, syn_groups, check_syn_of}
-use Rattle.rules.specs.GroupLaws.{unknown-passes}
+use Rattle.rules.proofs.GroupLaws.{unknown-passes}
 use Rattle.traffic.specs.MacContext.{mac_view, mac_absorb, mac_finished}
 use Rattle.traffic.specs.TagLaws.{tagged, tag-mac}
 use Rattle.traffic.specs.DigestLaws.{digest-is}
 use Rattle.checks.specs.Groups.{until_mac}
 use Rattle.checks.specs.GroupLaws.{is_final, final-kept, refusal-final}
-use Rattle.checks.specs.Begin.{Expected, by_ao, by_md5_of, Ready, Begins, Judges, expected_syn, JudgesSyn, mac_length_of, agrees, ended}
+use Rattle.checks.specs.Begin.{Expected, by_ao, by_md5_of, Ready, Begins, Judges, JudgesSyn, mac_length_of, agrees, ended}
 use Rattle.checks.specs.declared.begun.Begun.{Begun}
 
 -- a number that was given begins nothing

@@ -6,14 +6,11 @@ use Rattle.wire.specs.Options.{is_malformed, ao_in, md5_in}
 use Rattle.wire.specs.declared.options.Options.{Options}
 use Rattle.wire.specs.declared.header.Header.{Header}
 use Rattle.keys.specs.declared.entry.Pair.{Pair}
-use Rattle.rules.specs.declared.Place.{Place}
 use Rattle.rules.specs.declared.Outcome.{Outcome}
-use Rattle.rules.specs.declared.Outcome.TheVariants.{Good}
 use Rattle.rules.specs.declared.Connection.{Connection}
 use Rattle.octets.specs.Tests.{Test, test, tests, joined}
 use Rattle.rules.specs.Mac.{Flow}
-use Rattle.rules.specs.Segment.{rnext_key_id}
-use Rattle.rules.specs.Connection.{Arrival, local_address, remote_address, is_open_of, value}
+use Rattle.rules.specs.Connection.{Arrival, local_address, remote_address, is_open_of}
 use Rattle.rules.specs.Calls.{refuse, length_tests, sum_tests, Groups}
 
 -- 20, then 40: whether the segment came whole
@@ -63,12 +60,12 @@ until_mac g = joined (g.input ∷ g.size ∷ g.sum ∷ g.form ∷ g.arrival ∷ 
 
 -- "'source' is whoever sent the segment": our remote side
 abbrev pub arriving_on : Pair → ℕ → ℕ → Flow
-arriving_on p source_isn_of destination_isn_of =
+arriving_on p source_isn destination_isn =
     record {
       source = remote_address p;
       destination = local_address p;
-      source_port_of = p.remote_port;
-      destination_port_of = p.local_port;
-      source_isn_of = source_isn_of;
-      destination_isn_of = destination_isn_of;
+      source_port = p.remote_port;
+      destination_port = p.local_port;
+      source_isn = source_isn;
+      destination_isn = destination_isn;
     }

@@ -14,8 +14,8 @@ use Rattle.octets.specs.Each.{Octets}
 use Rattle.checksum.specs.declared.Sum.{Sum}
 use Rattle.checksum.specs.Checksum.{word}
 use Rattle.checksum.specs.Running.{word_sum, after, folded, added}
-use Rattle.checksum.specs.FoldLaws.{folded-word, folded-same, folded-later, folded-high}
-use Rattle.checksum.specs.ChecksumLaws.{after-length}
+use Rattle.checksum.proofs.FoldLaws.{folded-word, folded-same, folded-later, folded-high}
+use Rattle.checksum.proofs.ChecksumLaws.{after-length}
 
 -- two words side by side fold to their sum
 side_by_side : (a b c d n : ℕ) → a < 256 → b < 256 → c < 256 → d < 256

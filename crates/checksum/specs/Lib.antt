@@ -1,4 +1,2 @@
 pub mod Checksum
 pub mod Running
-pub mod FoldLaws
-pub mod ChecksumLaws

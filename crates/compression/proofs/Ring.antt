@@ -1,6 +1,6 @@
 -- A message schedule kept in sixteen words: FIPS 180-4 §6.1.3. Each word behind the first sixteen is mixed of four of the sixteen before it.
 -- Over any such rule for the next word: SHA-1's and SHA-256's. Assumes nothing.
-use Rattle.std.proofs.Common.{◌≡◌, ℕ, zero, suc, ◌+◌, ◌-◌, ◌*◌, ◌%◌, ◌<◌, ◌≤◌, Bool, true, false, ltb, List, [], ◌∷◌, ◌++◌, length, get_or, drop, set, sym, refl, ap, ◌∙◌, ap₂, append_assoc, append-nil, arith, length-append, length-drop, get_or-drop, drop-cons, drop-drop, get_or-append-add, ltb-false, ltb-true}
+use Rattle.std.proofs.Common.{◌≡◌, ℕ, zero, suc, ◌+◌, ◌-◌, ◌%◌, ◌<◌, ◌≤◌, Bool, true, false, ltb, List, [], ◌∷◌, ◌++◌, length, get_or, drop, set, sym, refl, ap, ◌∙◌, ap₂, append_assoc, append-nil, arith, length-append, length-drop, get_or-drop, drop-cons, drop-drop, get_or-append-add, ltb-false, ltb-true}
 use lib.ListN.{get_or-append}
 use lib.Seq.{drop-append-le, set_at, drop-length}
 use Rattle.compression.specs.Schedule.{extended, following, ring}

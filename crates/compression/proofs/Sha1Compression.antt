@@ -1,5 +1,5 @@
 -- SHA-1's schedule and rounds, as src/sha1.rt comes to them: FIPS 180-4 §6.1.2 with sixteen words of the schedule. Assumes nothing.
-use Rattle.std.proofs.Common.{◌≡◌, ℕ, ◌+◌, ◌/◌, List, length, get_or, sym, ap, ◌∙◌, arith}
+use Rattle.std.proofs.Common.{◌≡◌, ℕ, ◌/◌, List, length, get_or, sym, ap, ◌∙◌, arith}
 use lib.Bits.{bit_xor}
 use Rattle.compression.specs.Words.{ROTL}
 use Rattle.compression.specs.Schedule.{extended, following, rounds}

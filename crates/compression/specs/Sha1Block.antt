@@ -27,7 +27,8 @@ initial = 0x6745_2301 ∷ 0xefcd_ab89 ∷ 0x98ba_dcfe ∷ 0x1032_5476 ∷ 0xc3d2
 
 -- §6.1.2, step 1: W_t of the words before it, from t = 16 on; and the message schedule W_0 .. W_79 of the first sixteen, w
 abbrev pub next : List ℕ → ℕ → ℕ
-next W t = ROTL 1 (bit_xor (bit_xor (bit_xor (slice_index W (t - 3)) (slice_index W (t - 8))) (slice_index W (t - 14))) (slice_index W (t - 16)))
+next W t =
+    ROTL 1 (bit_xor (bit_xor (bit_xor (slice_index W (t - 3)) (slice_index W (t - 8))) (slice_index W (t - 14))) (slice_index W (t - 16)))
 
 unfoldable pub schedule : List ℕ → List ℕ
 schedule w = extended next 64 w
@@ -67,4 +68,5 @@ compress h m = compress_words h (words 16 m)
 
 -- the message digest: H_0 to H_4, the highest byte of each first
 unfoldable pub digest : List ℕ → List ℕ
-digest h = bytes32 (slice_index h 0) ++ bytes32 (slice_index h 1) ++ bytes32 (slice_index h 2) ++ bytes32 (slice_index h 3) ++ bytes32 (slice_index h 4)
+digest h = bytes32 (slice_index h 0) ++ bytes32 (slice_index h 1) ++ bytes32 (slice_index h 2)
+    ++ bytes32 (slice_index h 3) ++ bytes32 (slice_index h 4)

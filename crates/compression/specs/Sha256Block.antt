@@ -39,14 +39,17 @@ initial = 0x6a09_e667 ∷ 0xbb67_ae85 ∷ 0x3c6e_f372 ∷ 0xa54f_f53a ∷ 0x510e
 -- §6.2.2, step 1: W_t of the words 2, 7, 15 and 16 places before it, from t = 16 on; and the message schedule W_0 .. W_63 of the first
 -- sixteen, w
 abbrev pub next : List ℕ → ℕ → ℕ
-next W t = add32 (add32 (add32 (sigma1 (slice_index W (t - 2))) (slice_index W (t - 7))) (sigma0 (slice_index W (t - 15)))) (slice_index W (t - 16))
+next W t =
+    add32 (add32 (add32 (sigma1 (slice_index W (t - 2))) (slice_index W (t - 7)))
+    (sigma0 (slice_index W (t - 15)))) (slice_index W (t - 16))
 
 unfoldable pub schedule : List ℕ → List ℕ
 schedule w = extended next 48 w
 
 -- Step 2: the working variables a to h
 abbrev pub variables : List ℕ → List ℕ
-variables h = slice_index h 0 ∷ slice_index h 1 ∷ slice_index h 2 ∷ slice_index h 3 ∷ slice_index h 4 ∷ slice_index h 5 ∷ slice_index h 6 ∷ slice_index h 7 ∷ []
+variables h = slice_index h 0 ∷ slice_index h 1 ∷ slice_index h 2 ∷ slice_index h 3
+    ∷ slice_index h 4 ∷ slice_index h 5 ∷ slice_index h 6 ∷ slice_index h 7 ∷ []
 
 -- Step 3: one round on the working variables a to h, with the values k of K_t and w of W_t; and round t
 abbrev pub T1 : ℕ → ℕ → ℕ → ℕ → ℕ → ℕ → ℕ

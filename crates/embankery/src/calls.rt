@@ -3,7 +3,8 @@
 ghost use Rattle.std.specs.Prelude.{◌≡◌};
 ghost use Rattle.tables.specs.Tables.{tables_of};
 ghost use Rattle.boundary.specs.Exports.{answers, fills, leaves, writes, check_table_export, prepare_export, open_active_export};
-ghost use Rattle.boundary.specs.Exports.{open_active_md5_export, judge_syn_export, open_passive_export, judge_export, sign_export, ask_export};
+ghost use Rattle.boundary.specs.Exports.{open_active_md5_export, judge_syn_export, open_passive_export, judge_export, sign_export};
+ghost use Rattle.boundary.specs.Exports.{ask_export};
 
 // How many key entries, or 10 to 17 and 45 with the entry's table and index, or 44.
 #[unsafe(no_mangle)]

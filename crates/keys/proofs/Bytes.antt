@@ -13,8 +13,8 @@ use Rattle.wire.specs.Prefix.{agree}
 use Rattle.wire.specs.PrefixLaws.{agree-take, agree-by}
 use Rattle.keys.specs.Algorithm.{mac_bytes_of}
 use Rattle.keys.specs.Entry.{known_kind_of, family_of_lem, extra, size, width, padded, sides_end_of, mac_length_of}
-use Rattle.keys.specs.EntryLaws.{width-le, body_is, known-size}
-use Rattle.keys.specs.WalkLaws.{tail, tail-is}
+use Rattle.keys.proofs.EntryLaws.{width-le, body_is, known-size}
+use Rattle.keys.proofs.WalkLaws.{tail, tail-is}
 
 -- an address of the family has w bytes
 

@@ -3,3 +3,12 @@ pub mod Bytes
 pub mod Tests
 pub mod Walk
 pub mod Marks
+pub mod PlaceLaws
+pub mod EntryLaws
+pub mod FaultLaws
+pub mod FormedLaws
+pub mod FoundLaws
+pub mod LoadLaws
+pub mod MatchLaws
+pub mod MirrorLaws
+pub mod WalkLaws

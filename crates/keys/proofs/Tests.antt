@@ -16,8 +16,8 @@ use Rattle.wire.specs.Prefix.{agree, clear_past_of}
 use Rattle.keys.specs.Entry.{family_of_lem, width, padded, side_of, selector_of_lem}
 use Rattle.keys.specs.Match.{fixed, meet, overlap}
 use Rattle.keys.specs.Table.{number_of, zeros, side_tests}
-use Rattle.keys.specs.FaultLaws.{lacks, number-none, number_past, number-given}
-use Rattle.keys.specs.WalkLaws.{tail}
+use Rattle.keys.proofs.FaultLaws.{lacks, number-none, number_past, number-given}
+use Rattle.keys.proofs.WalkLaws.{tail}
 use Rattle.keys.proofs.Bytes.{agree-padded}
 use Rattle.keys.specs.declared.entry.Side.{Side}
 use Rattle.keys.specs.declared.entry.Selector.{Selector}

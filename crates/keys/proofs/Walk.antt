@@ -12,14 +12,14 @@ use lib.Dec.{leb, eqb}
 use borrow.Author.Tests.{eq-eqb, ne_eqb, le-leb, lt-leb}
 use Rattle.octets.specs.Tests.{Test, test}
 use Rattle.keys.specs.Entry.{known_kind_of, extra, size, ids_of, selector_of_lem, entry_of, Item, item, item_at, sound, items, entries}
-use Rattle.keys.specs.EntryLaws.{kind-is, items_at, items-end, sound-inside, entries_next}
+use Rattle.keys.proofs.EntryLaws.{kind-is, items_at, items-end, sound-inside, entries_next}
 use Rattle.keys.specs.Match.{overlap, share, clash}
 use Rattle.keys.specs.Table.{number_of, kind_listed_of, entry_tests, clashing, item_tests, load_tests, refusing, loaded_from, loaded}
 use Rattle.keys.specs.Table.{nobody, found, any_of, meets, meets_any_of, place_of}
-use Rattle.keys.specs.FoundLaws.{any_found}
-use Rattle.keys.specs.FaultLaws.{number_past, entry-lacks, listed-known, item-good}
-pub use Rattle.keys.specs.WalkLaws.{tail-whole, size_at, size-past}
-use Rattle.keys.specs.WalkLaws.{tail, tail-is, entry_at, sound-there, size-sound, size-inside, entries-cut, entries-on, entries_over}
+use Rattle.keys.proofs.FoundLaws.{any_found}
+use Rattle.keys.proofs.FaultLaws.{number_past, entry-lacks, listed-known, item-good}
+pub use Rattle.keys.proofs.WalkLaws.{tail-whole, size_at, size-past}
+use Rattle.keys.proofs.WalkLaws.{tail, tail-is, entry_at, sound-there, size-sound, size-inside, entries-cut, entries-on, entries_over}
 use Rattle.keys.proofs.Tests.{given, passing}
 use Rattle.keys.specs.declared.entry.Ids.{Ids}
 use Rattle.keys.specs.declared.entry.Selector.{Selector}

@@ -1,7 +1,8 @@
 -- What a table's bytes mean, the key table's or the MD5 table's: document 01, "Key table (house bytes)", and document 02, Tickets 4, 9
 -- and 10. A later kind of entry moves this file.
 -- Any list of bytes has a meaning: a byte that is not there counts as 0, and the numbers 10 to 17 (specs/Table.antt) say what is refused.
-use Rattle.std.specs.Prelude.{ℕ, zero, suc, ◌+◌, ◌*◌, ◌-◌, ◌/◌, ◌%◌, Bool, cond, ◌&&◌, ◌||◌, List, [], ◌∷◌, ◌++◌, length, get_or, take, drop, replicate, leb, eqb}
+use Rattle.std.specs.Prelude.{ℕ, zero, suc, ◌+◌, ◌*◌, ◌-◌, ◌/◌, ◌%◌, Bool, cond, ◌&&◌, ◌||◌, List, [], ◌∷◌, ◌++◌, length, get_or, take}
+use Rattle.std.specs.Prelude.{drop, replicate, leb, eqb}
 use Rattle.octets.specs.Octets.{get16}
 use Rattle.keys.specs.Algorithm.{mac_bytes_of}
 use Rattle.keys.specs.declared.entry.Side.{Side}

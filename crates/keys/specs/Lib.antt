@@ -1,16 +1,7 @@
 pub mod Algorithm
 pub mod Entry
-pub mod EntryLaws
-pub mod WalkLaws
 pub mod Match
-pub mod MatchLaws
 pub mod Table
 pub mod Places
 pub mod Clash
-pub mod FaultLaws
-pub mod PlaceLaws
-pub mod LoadLaws
-pub mod FormedLaws
-pub mod FoundLaws
 pub mod Mirror
-pub mod MirrorLaws

@@ -2,7 +2,8 @@
 -- Document 01, "Key table (house bytes)" and "Numbers given back"; document 02, Ticket 9: "with a table of its own in a form that you
 -- document, under refusals 10 to 17". The MD5 table has the key table's entry bytes.
 -- Nothing here reads bytes: specs/Entry.antt says what they mean.
-use Rattle.std.specs.Prelude.{ℕ, zero, suc, ◌+◌, ◌*◌, Bool, true, false, cond, not, ◌&&◌, ◌||◌, List, [], ◌∷◌, ◌++◌, drop, replicate, ltb, eqb}
+use Rattle.std.specs.Prelude.{ℕ, zero, suc, ◌+◌, ◌*◌, Bool, true, false, cond, not, ◌&&◌, ◌||◌, List, [], ◌∷◌, ◌++◌, drop, replicate, ltb}
+use Rattle.std.specs.Prelude.{eqb}
 use Rattle.octets.specs.Tests.{Test, test, first}
 use Rattle.wire.specs.Prefix.{clear_past_of}
 use Rattle.keys.specs.Entry.{width, Item, items}

@@ -8,8 +8,8 @@ use lib.ListN.{length, get_or, take, drop, length-append}
 use lib.Seq.{paste, paste-zero, take-paste, drop-paste, take-length, drop-drop}
 use Rattle.octets.specs.Octets.{bytes16}
 use Rattle.keys.specs.Entry.{size, entry_of, item_at, sound, entries}
-use Rattle.keys.specs.EntryLaws.{sound-inside}
-use Rattle.keys.specs.WalkLaws.{tail, tail-whole, entry_at, size_at, sound-there, size-inside, entries-cut, entries-on, entries_over}
+use Rattle.keys.proofs.EntryLaws.{sound-inside}
+use Rattle.keys.proofs.WalkLaws.{tail, tail-whole, entry_at, size_at, sound-there, size-inside, entries-cut, entries-on, entries_over}
 use Rattle.keys.specs.declared.entry.Entry.{Entry}
 use Rattle.prepared.specs.Prepared.{send_part, recv_part, bits_part, mark_of, mark_part, stored_address_of, ports_part, slot, back, joined, columns, image, prepared_bytes}
 use Rattle.prepared.specs.Parts.{part_bytes_of, part_of, put}

@@ -11,9 +11,9 @@ use lib.Dec.{leb, eqb}
 use borrow.Author.Tests.{eq-eqb, ne_eqb, eqb-true, lt-leb, le-leb, leb-true, leb-false, lt-ltb, le-ltb}
 use Rattle.octets.specs.Each.{Octets}
 use Rattle.keys.specs.Entry.{width}
-use Rattle.keys.specs.EntryLaws.{width-le}
+use Rattle.keys.proofs.EntryLaws.{width-le}
 use Rattle.keys.specs.Match.{fixed, matches}
-use Rattle.keys.specs.MatchLaws.{and-true}
+use Rattle.keys.proofs.MatchLaws.{and-true}
 use Rattle.keys.specs.Table.{nobody, hit as hit_at, found, has_id_of, answers}
 use Rattle.keys.specs.declared.entry.Entry.{Entry}
 use Rattle.keys.specs.declared.entry.Pair.{Pair}

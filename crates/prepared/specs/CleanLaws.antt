@@ -11,9 +11,9 @@ use Rattle.wire.specs.Prefix.{bit, clear_past_of}
 use Rattle.wire.specs.PrefixLaws.{clear-bit, clear-all}
 use Rattle.keys.specs.Clash.{Family, Passed, Formed}
 use Rattle.keys.specs.Entry.{width}
-use Rattle.keys.specs.FormedLaws.{Proper, KeyProper, Md5Proper}
+use Rattle.keys.proofs.FormedLaws.{Proper, KeyProper, Md5Proper}
 use Rattle.keys.specs.Match.{fixed}
-use Rattle.keys.specs.MatchLaws.{and-true}
+use Rattle.keys.proofs.MatchLaws.{and-true}
 use Rattle.keys.specs.Table.{zeros, secret_tests, md5_tests, port_range_tests, side_tests, master_key_tests}
 use Rattle.keys.specs.declared.entry.Side.{Side}
 use Rattle.keys.specs.declared.entry.Entry.{Entry}

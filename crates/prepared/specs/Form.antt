@@ -1,5 +1,5 @@
 -- What a prepared table is, as statements: document 02, Ticket 8. ReadLaws, HoldLaws and ImageLaws prove them.
-use Rattle.std.specs.Prelude.{ℕ, ◌≤◌, ◌<◌, true, ◌≡◌, List, [], ◌∷◌, ◌++◌, length, replicate}
+use Rattle.std.specs.Prelude.{ℕ, ◌≤◌, true, ◌≡◌, List, [], ◌∷◌, ◌++◌, length, replicate}
 use Rattle.octets.specs.Each.{Each, Octets}
 use Rattle.keys.specs.Clash.{Formed}
 use Rattle.keys.specs.Entry.{entries}
@@ -36,7 +36,8 @@ Md5sHeld = (b : List ℕ) (i : ℕ) (e : Entry) → Octets b → At (md5_part b)
 -- and there are as many as the counts say, where it is not refused
 abbrev pub Counted : Type 0
 Counted = (b : List ℕ) → fits b ≡ true
-    → (length (key_part b) ≡ key_count_of b) × (length (md5_part b) ≡ md5_count b) × (key_count_of b ≤ max_entries) × (md5_count b ≤ max_entries)
+    → (length (key_part b) ≡ key_count_of b) × (length (md5_part b) ≡ md5_count b)
+    × (key_count_of b ≤ max_entries) × (md5_count b ≤ max_entries)
 
 -- what is written from valid bytes is not refused, and has the entries that the bytes mean
 pub record ReadBack (k m : List ℕ) : Type 0 where

@@ -16,14 +16,14 @@ use Rattle.wire.specs.PrefixLaws.{clear-bit}
 use Rattle.keys.specs.Algorithm.{mac_bytes_of}
 use Rattle.keys.specs.Clash.{Family, Formed, Listed, Sound}
 use Rattle.keys.specs.Entry.{known_kind_of, extra, family_of_lem, size, width, padded, side_of, selector_of_lem, ids_of, sides_end_of}
-use Rattle.keys.specs.Entry.{mac_length_of, secret_of_lem, entry_of, item, sound, items, entries_of, entries}
-use Rattle.keys.specs.EntryLaws.{width-le, body_is, items_at, items-end}
-use Rattle.keys.specs.EntryLaws.{take-octets, drop-octets, zeros-octets, append-octets, cons-octets}
-use Rattle.keys.specs.FaultLaws.{listed-sound}
-use Rattle.keys.specs.FormedLaws.{Proper}
-use Rattle.keys.specs.LoadLaws.{formed-valid}
-use Rattle.keys.specs.MatchLaws.{SideFields, Fields}
-use Rattle.keys.specs.PlaceLaws.{each_at, Apart}
+use Rattle.keys.specs.Entry.{mac_length_of, secret_of_lem, entry_of, item, items, entries_of, entries}
+use Rattle.keys.proofs.EntryLaws.{width-le, body_is, items_at, items-end}
+use Rattle.keys.proofs.EntryLaws.{take-octets, drop-octets, zeros-octets, append-octets, cons-octets}
+use Rattle.keys.proofs.FaultLaws.{listed-sound}
+use Rattle.keys.proofs.FormedLaws.{Proper}
+use Rattle.keys.proofs.LoadLaws.{formed-valid}
+use Rattle.keys.proofs.MatchLaws.{SideFields, Fields}
+use Rattle.keys.proofs.PlaceLaws.{each_at, Apart}
 use Rattle.keys.specs.Table.{loaded}
 use Rattle.keys.specs.declared.entry.Side.{Side}
 use Rattle.keys.specs.declared.entry.Secret.{Secret}

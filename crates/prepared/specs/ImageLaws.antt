@@ -14,10 +14,10 @@ use Rattle.octets.specs.Octets.{be16}
 use Rattle.wire.specs.Prefix.{clear_past_of}
 use Rattle.keys.specs.Clash.{Formed}
 use Rattle.keys.specs.Entry.{body, width, family_of_lem, side_of, selector_of_lem, entry_of, item, sound, items, entries_of, entries}
-use Rattle.keys.specs.EntryLaws.{Shape, width-le, entries-shape, entries-fields}
-use Rattle.keys.specs.FormedLaws.{proper-of, key-proper, md5-proper, md5-digests}
-use Rattle.keys.specs.LoadLaws.{valid-formed}
-use Rattle.keys.specs.MatchLaws.{Fields}
+use Rattle.keys.proofs.EntryLaws.{Shape, width-le, entries-shape, entries-fields}
+use Rattle.keys.proofs.FormedLaws.{proper-of, key-proper, md5-proper, md5-digests}
+use Rattle.keys.proofs.LoadLaws.{valid-formed}
+use Rattle.keys.proofs.MatchLaws.{Fields}
 use Rattle.keys.specs.Table.{loaded}
 use Rattle.keys.specs.declared.entry.Entry.{Entry}
 use Rattle.keys.specs.declared.table.TableKind.{TableKind}

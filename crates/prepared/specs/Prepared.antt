@@ -5,7 +5,8 @@
 -- "A prepared table with a count or an entry that valid bytes could not hold is refused with 44": every stored byte string reads as an
 -- entry that valid bytes could hold, since what a table refuses with 11 or 13 to 16 is brought to a value that it does not refuse. So 44
 -- is left for the counts and the length.
-use Rattle.std.specs.Prelude.{ℕ, zero, suc, ◌+◌, ◌*◌, ◌-◌, ◌/◌, ◌%◌, ◌^◌, max, min, Bool, cond, ◌&&◌, List, [], ◌∷◌, ◌++◌, length, get_or, take, drop, replicate, leb, eqb}
+use Rattle.std.specs.Prelude.{ℕ, zero, suc, ◌+◌, ◌*◌, ◌-◌, ◌/◌, ◌%◌, ◌^◌, max, min, Bool, cond, ◌&&◌, List, [], ◌∷◌, ◌++◌, length, get_or}
+use Rattle.std.specs.Prelude.{take, drop, replicate, leb, eqb}
 use Rattle.octets.specs.Octets.{get16, bytes16}
 use Rattle.keys.specs.Entry.{width}
 use Rattle.keys.specs.Match.{fixed}

@@ -6,7 +6,7 @@ use Rattle.std.proofs.Math.Path.{refl}
 use Rattle.std.proofs.Common.{ap, arith, length-take, length-drop, leb-true, eqb-true}
 use Rattle.octets.specs.Each.{Each}
 use Rattle.keys.specs.Clash.{Formed}
-use Rattle.keys.specs.MatchLaws.{and-true}
+use Rattle.keys.proofs.MatchLaws.{and-true}
 use Rattle.keys.specs.declared.entry.Entry.{Entry}
 use Rattle.keys.specs.declared.table.TableKind.{TableKind}
 use Rattle.keys.specs.declared.table.TableKind.TheVariants.{Keys, Md5}

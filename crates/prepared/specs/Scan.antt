@@ -1,6 +1,7 @@
 -- How a search goes over the columns and slots: which entries can answer, and what a scan has passed. No reader needs this to know what a
 -- prepared table means; the searches' contracts (src/stored.rt) say that by Prepared.antt alone.
-use Rattle.std.specs.Prelude.{ℕ, ◌+◌, ◌*◌, ◌-◌, ◌/◌, ◌%◌, ◌^◌, ◌≤◌, ◌<◌, max, min, Bool, true, false, cond, ◌&&◌, ◌||◌, ◌≡◌, List, get_or, leb, ltb, eqb}
+use Rattle.std.specs.Prelude.{ℕ, ◌+◌, ◌*◌, ◌-◌, ◌/◌, ◌%◌, ◌^◌, ◌≤◌, ◌<◌, max, min, Bool, true, false, cond, ◌&&◌, ◌||◌, ◌≡◌, List, get_or}
+use Rattle.std.specs.Prelude.{leb, ltb, eqb}
 use Rattle.octets.specs.Octets.{get16, get32}
 use Rattle.keys.specs.Match.{fixed, matches}
 use Rattle.keys.specs.Table.{has_id_of}
@@ -65,13 +66,15 @@ possible limit mark bits m = ltb bits limit || eqb m mark
 -- of entry i of n, the remote address behind its first bits, and the local one
 unfoldable pub alike : List ℕ → ℕ → ℕ → ℕ → ℕ → ℕ → ℕ → Bool
 alike t n high low upper lower i =
-    near_back_of (slot_at t n i) (bits_at t n i) (mark_at t n i) high low && near_local_of (get_or (slot_at t n i) 0 0) (back_at t n i) upper lower
+    near_back_of (slot_at t n i) (bits_at t n i) (mark_at t n i) high low
+    && near_local_of (get_or (slot_at t n i) 0 0) (back_at t n i) upper lower
 
 -- entry i of n can match a pair with these ports and a remote address with these first bytes
 unfoldable pub nearby : List ℕ → ℕ → ℕ → ℕ → ℕ → ℕ → ℕ → ℕ → Bool
 nearby t n limit mark remote local high i =
     possible limit mark (bits_at t n i) (mark_at t n i)
-    && (port_in_lem (slot_at t n i) 16 remote && (port_in_lem (slot_at t n i) 20 local && near_front_of (slot_at t n i) (bits_at t n i) high))
+    && (port_in_lem (slot_at t n i) 16 remote && (port_in_lem (slot_at t n i) 20 local
+    && near_front_of (slot_at t n i) (bits_at t n i) high))
 
 -- and with these addresses
 unfoldable pub close : List ℕ → ℕ → ℕ → ℕ → ℕ → ℕ → ℕ → ℕ → ℕ → ℕ → ℕ → Bool
@@ -103,7 +106,8 @@ NoneNamed ids bits marks id limit mark r =
 
 -- entry i of n has the ID, as it is stored, and matches the pair
 unfoldable pub hit : By → Pair → List ℕ → ℕ → ℕ → Bool
-hit by p t n i = has_id_of by (front_ids (front_at_lem t n i)) && matches (clean_selector (raw_selector (front_at_lem t n i) (back_at t n i))) p
+hit by p t n i = has_id_of by (front_ids (front_at_lem t n i))
+    && matches (clean_selector (raw_selector (front_at_lem t n i) (back_at t n i))) p
 
 -- r is the first entry from i on and before `end` that passes, or `end` if none does
 pub record First (test : ℕ → Bool) (i end r : ℕ) : Type 0 where

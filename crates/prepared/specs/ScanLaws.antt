@@ -19,9 +19,9 @@ use Rattle.octets.specs.Octets.{be16, be32}
 use Rattle.wire.specs.Prefix.{bit, agree}
 use Rattle.wire.specs.PrefixLaws.{agree-bit}
 use Rattle.keys.specs.Entry.{width}
-use Rattle.keys.specs.EntryLaws.{width-le, take-octets, drop-octets, zeros-octets, append-octets, cons-octets}
+use Rattle.keys.proofs.EntryLaws.{width-le, take-octets, drop-octets, zeros-octets, append-octets, cons-octets}
 use Rattle.keys.specs.Match.{fixed, holding, holds, matching, matches}
-use Rattle.keys.specs.MatchLaws.{every_true, and-true}
+use Rattle.keys.proofs.MatchLaws.{every_true, and-true}
 use Rattle.keys.specs.Table.{nobody, hit as hit_at, found, has_id_of, answers}
 use Rattle.keys.specs.declared.entry.Pair.{Pair}
 use Rattle.keys.specs.declared.entry.Side.{Side}

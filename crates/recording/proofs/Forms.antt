@@ -1,7 +1,7 @@
 -- How long a record is, and what is wrong with it, by its kind.
 use Rattle.std.proofs.Common.{◌≡◌, ℕ, ◌+◌, ◌%◌, ◌<◌, ◌≤◌, Bool, true, false, cond, not, ◌&&◌, ◌||◌, eqb, ltb, List, length, get_or, sym, refl, ap, ◌∙◌, mod-lt, arith, ltb-false, eq-eqb, ne_eqb, eqb-true}
 use borrow.Author.Tests.{eqb-false}
-use Rattle.octets.specs.Octets.{be16, get16}
+use Rattle.octets.specs.Octets.{be16}
 use Rattle.recording.specs.Recording.{kind_of, record_bytes_of, entry_length, used_length, placed, faulty}
 
 pub bytes-1 : (k : ℕ) → k ≡ 1 → record_bytes_of k ≡ 131

@@ -1,5 +1,5 @@
 -- The bytes of the record that is begun: how many are taken, and where they are held.
-use Rattle.std.proofs.Common.{◌≡◌, ℕ, zero, suc, ◌+◌, ◌-◌, ◌%◌, ◌<◌, ◌≤◌, min, Bool, true, false, cond, eqb, ltb, List, [], ◌∷◌, ◌++◌, length, get_or, take, drop, sym, refl, ap, ◌∙◌, subst, mod-eq_of_lt, arith, length-append, length-take, length-take-le, take_all, get_or-take, le-ltb, lt-ltb, eq-eqb, ne_eqb}
+use Rattle.std.proofs.Common.{◌≡◌, ℕ, zero, suc, ◌+◌, ◌-◌, ◌%◌, ◌<◌, ◌≤◌, min, true, false, ltb, List, [], ◌∷◌, ◌++◌, length, get_or, take, sym, refl, ap, ◌∙◌, subst, mod-eq_of_lt, arith, length-take-le, get_or-take, ne_eqb}
 use mathlib.Core.Path.{subst⁻¹}
 use lib.Seq.{paste, take-paste, take-length}
 use Rattle.recording.specs.declared.desk.Desk as C
@@ -7,8 +7,8 @@ use Rattle.recording.specs.declared.desk.Step.{Step}
 use Rattle.recording.specs.declared.line.Line.{Line}
 use Rattle.recording.specs.declared.line.Line.TheVariants.{Nothing, Fault}
 use Rattle.recording.specs.Lines.{line_text}
-use Rattle.recording.specs.Recording.{Desk, kind_of, record_bytes_of, is_stopped, with_held, stopped, faulty, settled, looked, absorb, finished}
-use Rattle.recording.specs.RecordingLaws.{absorb-stopped, absorb-part, looked-faulty, looked-short, looked-whole}
+use Rattle.recording.specs.Recording.{kind_of, record_bytes_of, with_held, stopped, faulty, settled, looked, absorb, finished}
+use Rattle.recording.proofs.RecordingLaws.{absorb-stopped, absorb-part, looked-faulty, looked-short, looked-whole}
 use Rattle.recording.specs.Views.{desk_view, held_count, Given, record_part, taken}
 use Rattle.recording.specs.Held.{Holds}
 use Rattle.recording.proofs.Forms.{bytes-range}

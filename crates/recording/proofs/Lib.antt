@@ -3,3 +3,9 @@ pub mod Settling
 pub mod Holding
 pub mod Spelling
 pub mod Openings
+pub mod ViewLaws
+pub mod RecordingLaws
+pub mod LiveLaws
+pub mod TableLaws
+pub mod KeptLaws
+pub mod RunLaws

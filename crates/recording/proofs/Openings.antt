@@ -1,6 +1,5 @@
 -- The opening record: the fields that were read, and the first number that applies.
-use Rattle.std.proofs.Common.{◌≡◌, ℕ, ◌+◌, ◌-◌, ◌≤◌, Bool, true, false, not, List, [], length, get_or, take, drop, replicate, sym, refl, ap, ◌∙◌, append-nil, arith, length-drop, length-take, length-take-le, take_all}
-use native.Mathlib.Nat.{add-sub_cancel_left}
+use Rattle.std.proofs.Common.{◌≡◌, ℕ, ◌+◌, ◌-◌, ◌≤◌, Bool, true, false, not, List, length, get_or, take, drop, replicate, sym, ap, ◌∙◌, append-nil, arith, length-drop, length-take-le, take_all}
 use lib.Seq.{paste}
 use Rattle.octets.specs.Octets.{get16, get32}
 use Rattle.keys.specs.declared.entry.Pair.{Pair}

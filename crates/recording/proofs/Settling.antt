@@ -1,5 +1,5 @@
 -- What a record that is whole makes of the desk: the views of the results, field by field.
-use Rattle.std.proofs.Common.{◌≡◌, ℕ, ◌+◌, ◌-◌, ◌%◌, ◌^◌, ◌<◌, ◌≤◌, min, Bool, true, false, cond, leb, List, [], ◌∷◌, ◌++◌, length, get_or, take, drop, sym, refl, ap, ◌∙◌, append-nil, arith, length-drop, take-append-drop, length-take, length-take-le, take_all, take-take, eq-eqb, ne_eqb, leb-false, leb-true}
+use Rattle.std.proofs.Common.{◌≡◌, ℕ, ◌+◌, ◌-◌, ◌%◌, ◌≤◌, min, Bool, true, false, leb, List, [], ◌++◌, length, get_or, take, drop, sym, refl, ap, ◌∙◌, append-nil, arith, length-drop, take-append-drop, length-take-le, take_all, take-take, eq-eqb, ne_eqb, leb-false, leb-true}
 use native.Mathlib.Nat.{zero-mod}
 use lib.Seq.{paste, take-paste, drop-paste, take-append-add}
 use Rattle.tables.specs.declared.Index.{Index}

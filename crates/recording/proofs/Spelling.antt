@@ -1,5 +1,5 @@
 -- Numbers and lines as text.
-use Rattle.std.proofs.Common.{◌≡◌, ℕ, zero, suc, ◌+◌, ◌-◌, ◌/◌, ◌%◌, ◌<◌, ◌≤◌, Bool, true, false, cond, ltb, List, [], ◌∷◌, ◌++◌, length, get_or, take, drop, set, sym, refl, ap, ◌∙◌, append_assoc, append-nil, arith, length-drop, length-set, take_all, drop-cons, get_or-set_same, drop-set-lt, ltb-false, ltb-true, le-ltb, lt-ltb}
+use Rattle.std.proofs.Common.{◌≡◌, ℕ, suc, ◌+◌, ◌-◌, ◌/◌, ◌%◌, ◌<◌, ◌≤◌, Bool, true, false, ltb, List, [], ◌∷◌, ◌++◌, length, take, drop, set, sym, refl, ap, ◌∙◌, append_assoc, append-nil, arith, length-drop, length-set, take_all, drop-cons, get_or-set_same, drop-set-lt, ltb-true, le-ltb, lt-ltb}
 use lib.Seq.{paste, take-paste, take-length, drop-length}
 use Rattle.recording.specs.declared.line.Line.TheVariants.{Segment, Fault, Refused}
 use Rattle.recording.specs.Lines.{digits, decimal, line_text}

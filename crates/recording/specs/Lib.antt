@@ -2,10 +2,4 @@ pub mod Lines
 pub mod Recording
 pub mod Views
 pub mod Held
-pub mod ViewLaws
-pub mod RecordingLaws
 pub mod Live
-pub mod LiveLaws
-pub mod TableLaws
-pub mod KeptLaws
-pub mod RunLaws

@@ -17,7 +17,7 @@ use Rattle.recording.specs.declared.desk.Step.{Step}
 use Rattle.recording.specs.declared.line.Line.{Line}
 use Rattle.recording.specs.declared.line.Line.TheVariants.{Fault, Refused}
 use Rattle.recording.specs.Lines.{verdict_line_of, line_text}
-use Rattle.recording.specs.Recording.{kind_of, record_bytes_of, entry_length, entry_bytes, used_length, segment_bytes, next, Desk, is_stopped}
+use Rattle.recording.specs.Recording.{kind_of, entry_length, entry_bytes, used_length, segment_bytes, next, Desk, is_stopped}
 use Rattle.recording.specs.Recording.{desk_entries, desk_tables, open_pair_of, open_outcome_of, open_state_of, arrival_from}
 use Rattle.recording.specs.Recording.{absorb, text_of, desk_text}
 use Rattle.recording.specs.Views.{Fresh, Advanced, Ended}

@@ -1,6 +1,7 @@
 -- What a recording means: document 02, Ticket 1, "Desk check of a recorded line", with document 01's numbers. A recording is any list of
 -- bytes. It is read byte by byte, so that where it is cut into pieces says nothing.
-use Rattle.std.specs.Prelude.{ℕ, ◌+◌, ◌%◌, ◌^◌, Bool, cond, not, ◌&&◌, ◌||◌, List, [], ◌∷◌, ◌++◌, length, take, drop, ◌==◌, nat_le, nat_lt, slice_index}
+use Rattle.std.specs.Prelude.{ℕ, ◌+◌, ◌%◌, ◌^◌, Bool, cond, not, ◌&&◌, ◌||◌, List, [], ◌∷◌, ◌++◌, length, take, drop, ◌==◌, nat_le, nat_lt}
+use Rattle.std.specs.Prelude.{slice_index}
 use Rattle.octets.specs.Octets.{get16, get32}
 use Rattle.octets.specs.Tests.{Test, test, first}
 use Rattle.keys.specs.declared.entry.Pair.{Pair}

@@ -1,5 +1,5 @@
 -- What the code's desk means: every value of the struct, with any buffer beside it that holds its table, is a desk. Assumes nothing.
-use Rattle.std.specs.Prelude.{◌≡◌, ℕ, ◌+◌, ◌-◌, ◌%◌, min, cond, List, [], ◌++◌, length, take, drop, slice_index}
+use Rattle.std.specs.Prelude.{◌≡◌, ℕ, ◌-◌, ◌%◌, min, cond, List, [], ◌++◌, length, take, drop, slice_index}
 use Rattle.recording.specs.declared.line.Line.{Line}
 use Rattle.recording.specs.declared.line.Text.{Text}
 use Rattle.recording.specs.declared.desk.Desk as C

@@ -4,7 +4,8 @@
 ghost use Rattle.std.specs.Prelude.{◌≡◌, ℕ, ◌+◌, ◌<◌, ◌≤◌, min, false, List, length, take};
 ghost use Rattle.rules.specs.Calls.{judged as judged_of};
 ghost use Rattle.recording.specs.Recording.{record_bytes_of, kind_of, entry_length, used_length, faulty as faulty_of};
-ghost use Rattle.recording.specs.Recording.{stopped, entered, at_opening_of, opened_by_lem, open_outcome_of, desk_tables, arrival_from, judged_on};
+ghost use Rattle.recording.specs.Recording.{stopped, entered, at_opening_of, opened_by_lem, open_outcome_of, desk_tables, arrival_from};
+ghost use Rattle.recording.specs.Recording.{judged_on};
 ghost use Rattle.recording.specs.Recording.{with_held, settled, looked};
 ghost use Rattle.recording.specs.Views.{held_count, Given, record_part, Fresh, Advanced, Ended};
 ghost use Rattle.recording.specs.Held.{Holds};

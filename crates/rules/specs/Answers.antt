@@ -7,7 +7,7 @@ use Rattle.wire.specs.declared.options.Options.TheVariants as O
 use Rattle.tables.specs.declared.Index.{Index}
 use Rattle.tables.specs.declared.Admitted.{Admitted}
 use Rattle.tables.specs.declared.Admitted.TheVariants.{Valid, Refused}
-use Rattle.tables.specs.Tables.{Tables, no_index, send_entry, md5_entry}
+use Rattle.tables.specs.Tables.{Tables, send_entry, md5_entry}
 use Rattle.rules.specs.declared.Place.{Place}
 use Rattle.rules.specs.declared.Place.TheVariants.{At, Nowhere}
 use Rattle.rules.specs.declared.Outcome.{Outcome}
@@ -96,13 +96,14 @@ abbrev pub syn_number : Tables → Arrival → Bool → Answer
 syn_number t a strict = outcome_answer extension_of_lem (check_syn_of t a strict)
 
 -- an active opening and asking have no value
-abbrev pub opened_number : Tables → (local remote : List ℕ) (local_port_of remote_port_of send_id_of : ℕ) → Answer
-opened_number t local remote local_port_of remote_port_of send_id_of =
-    outcome_answer (λ x. 0) (first (open_tests t local remote (send_entry t (pair_of_lem local remote local_port_of remote_port_of) send_id_of)) unrefused)
+abbrev pub opened_number : Tables → (local remote : List ℕ) (local_port remote_port send_id : ℕ) → Answer
+opened_number t local remote local_port remote_port send_id =
+    outcome_answer (λ x. 0)
+    (first (open_tests t local remote (send_entry t (pair_of_lem local remote local_port remote_port) send_id)) unrefused)
 
-abbrev pub opened_md5_number : Tables → (local remote : List ℕ) (local_port_of remote_port_of : ℕ) → Answer
-opened_md5_number t local remote local_port_of remote_port_of =
-    outcome_answer (λ x. 0) (first (open_tests t local remote (md5_entry t (pair_of_lem local remote local_port_of remote_port_of))) unrefused)
+abbrev pub opened_md5_number : Tables → (local remote : List ℕ) (local_port remote_port : ℕ) → Answer
+opened_md5_number t local remote local_port remote_port =
+    outcome_answer (λ x. 0) (first (open_tests t local remote (md5_entry t (pair_of_lem local remote local_port remote_port))) unrefused)
 
 abbrev pub asked_number : Tables → ℕ → Connection → Answer
 asked_number t id l = outcome_answer (λ x. 0) (first (ask_tests t id l) unrefused)

@@ -23,17 +23,19 @@ use Rattle.rules.specs.declared.Judged.{Judged}
 use Rattle.rules.specs.declared.SynJudged.{SynJudged}
 use Rattle.rules.specs.declared.Signing.TheVariants as S
 use Rattle.rules.specs.declared.Signed.{Signed}
-use Rattle.rules.specs.declared.Done.{Done}
 use Rattle.rules.specs.declared.Done.TheVariants as D
 use Rattle.rules.specs.declared.Settled.{Settled}
 use Rattle.octets.specs.Tests.{Test, test, tests, joined, first}
 use Rattle.rules.specs.Mac.{Flow, leaving_hidden_of, arriving_hidden_of, segment_mac}
 use Rattle.rules.specs.Checksum.{sums_right, with_checksum_of}
 use Rattle.rules.specs.Digest.{segment_digest}
-use Rattle.rules.specs.Segment.{malformed, ao, md5, ao_at, key_id_of, rnext_key_id, mac_in, digest_in, is_bare_syn_of, option_bytes, signed_with}
+use Rattle.rules.specs.Segment.{malformed, ao, md5, ao_at, key_id_of, rnext_key_id, mac_in, digest_in, is_bare_syn_of, option_bytes}
+use Rattle.rules.specs.Segment.{signed_with}
 use Rattle.rules.specs.Segment.{md5_option_bytes, digested_with}
-use Rattle.rules.specs.Connection.{sized, pair_of_lem, Arrival, arrival_pair_of, local_address, remote_address, is_open_of, is_md5_of, ao_way, md5_way}
-use Rattle.rules.specs.Connection.{arriving, leaving, arriving_syn, place_on_lem, located, value, extension_of_lem, next_key_of, opened, opening}
+use Rattle.rules.specs.Connection.{sized, pair_of_lem, Arrival, arrival_pair_of, local_address, remote_address, is_open_of, is_md5_of}
+use Rattle.rules.specs.Connection.{ao_way, md5_way}
+use Rattle.rules.specs.Connection.{arriving, leaving, arriving_syn, place_on_lem, located, value, extension_of_lem, next_key_of, opened}
+use Rattle.rules.specs.Connection.{opening}
 use Rattle.rules.specs.Connection.{empty, with_accepted_of, with_counted_of, with_drop_of, with_sent_of, with_asked_of}
 
 abbrev pub refuse : ℕ → Outcome
@@ -281,7 +283,8 @@ opened_passively t a isn strict =
     record {
       verdict = verdict_of_lem (check_syn_of t a strict);
       index = index_of (check_syn_of t a strict);
-      state = opened_by_lem t (arrival_pair_of a) isn (recv_entry t (arrival_pair_of a) (key_id_of a.segment)).entry (check_syn_of t a strict);
+      state = opened_by_lem t (arrival_pair_of a) isn (recv_entry t (arrival_pair_of a) (key_id_of a.segment)).entry
+          (check_syn_of t a strict);
     }
 
 -- Opening actively, and asking. No test of these calls gives pass.
@@ -300,13 +303,13 @@ abbrev pub open_tests : Tables → List ℕ → List ℕ → Found → List (Tes
 open_tests t local remote found = address_tests local remote ++ (table_tests t ++ (test (refuse 35) (not found.there) ∷ []))
 
 abbrev pub opened_with : Tables → List ℕ → List ℕ → Pair → ℕ → ℕ → Settled
-opened_with t local remote p isn send_id_of =
-    settled_by_lem (first (open_tests t local remote (send_entry t p send_id_of)) unrefused) empty
-    (opening ao_way p isn send_id_of (send_entry t p send_id_of).entry.ids.recv)
+opened_with t local remote p isn send_id =
+    settled_by_lem (first (open_tests t local remote (send_entry t p send_id)) unrefused) empty
+    (opening ao_way p isn send_id (send_entry t p send_id).entry.ids.recv)
 
 unfoldable pub opened_actively : Tables → List ℕ → List ℕ → ℕ → ℕ → ℕ → ℕ → Settled
-opened_actively t local remote local_port_of remote_port_of isn send_id_of =
-    opened_with t local remote (pair_of_lem local remote local_port_of remote_port_of) isn send_id_of
+opened_actively t local remote local_port remote_port isn send_id =
+    opened_with t local remote (pair_of_lem local remote local_port remote_port) isn send_id
 
 -- Ticket 9: an active opening by MD5 names no SendID; "kind 19 with no entry .. (opening, signing: 35)"
 abbrev pub opened_md5_with : Tables → List ℕ → List ℕ → Pair → ℕ → Settled
@@ -314,8 +317,8 @@ opened_md5_with t local remote p isn =
     settled_by_lem (first (open_tests t local remote (md5_entry t p)) unrefused) empty (opening md5_way p isn 0 0)
 
 unfoldable pub opened_actively_md5 : Tables → List ℕ → List ℕ → ℕ → ℕ → ℕ → Settled
-opened_actively_md5 t local remote local_port_of remote_port_of isn =
-    opened_md5_with t local remote (pair_of_lem local remote local_port_of remote_port_of) isn
+opened_actively_md5 t local remote local_port remote_port isn =
+    opened_md5_with t local remote (pair_of_lem local remote local_port remote_port) isn
 
 -- 35: no entry matching the pair has "the RecvID to ask (operator call)"; Ticket 9, on the MD5 way: "asking: always 35"
 abbrev pub ask_tests : Tables → ℕ → Connection → List (Test Outcome)

@@ -1,6 +1,7 @@
 -- Document 01, "Positions", "A connection's life" and "Numbers given back", and document 02, Tickets 5 and 9: what a connection is, and
 -- who writes its state.
-use Rattle.std.specs.Prelude.{ℕ, suc, ◌+◌, ◌-◌, ◌/◌, ◌^◌, max, Bool, true, false, cond, not, ◌&&◌, ◌||◌, List, [], ◌∷◌, length, get_or, set, take, replicate, eqb, ltb}
+use Rattle.std.specs.Prelude.{ℕ, suc, ◌+◌, ◌-◌, ◌/◌, ◌^◌, max, Bool, true, false, cond, not, ◌&&◌, ◌||◌, List, [], ◌∷◌, length, get_or, set}
+use Rattle.std.specs.Prelude.{take, replicate, eqb, ltb}
 use Rattle.wire.specs.Header.{source_port_of, destination_port_of, sequence}
 use Rattle.keys.specs.declared.entry.Pair.{Pair}
 use Rattle.keys.specs.Entry.{width, padded}
@@ -27,11 +28,11 @@ sized a b = (eqb (length a) 4 && eqb (length b) 4) || (eqb (length a) 16 && eqb 
 
 -- the pair of two addresses of one size
 abbrev pub pair_of_lem : List ℕ → List ℕ → ℕ → ℕ → Pair
-pair_of_lem local remote local_port_of remote_port_of =
+pair_of_lem local remote local_port remote_port =
     record {
       family = cond (eqb (length local) 4) 4 6;
-      local_port = local_port_of;
-      remote_port = remote_port_of;
+      local_port = local_port;
+      remote_port = remote_port;
       local = padded local;
       remote = padded remote;
     }
@@ -73,10 +74,10 @@ arriving l s =
     record {
       source = remote_address l.pair;
       destination = local_address l.pair;
-      source_port_of = l.pair.remote_port;
-      destination_port_of = l.pair.local_port;
-      source_isn_of = cond (is_open_of l) l.peer_isn (sequence s);
-      destination_isn_of = l.isn;
+      source_port = l.pair.remote_port;
+      destination_port = l.pair.local_port;
+      source_isn = cond (is_open_of l) l.peer_isn (sequence s);
+      destination_isn = l.isn;
     }
 
 -- "For a bare SYN (SYN set, ACK clear) the destination ISN is zero", and while opening nothing else is signed
@@ -85,10 +86,10 @@ leaving l =
     record {
       source = local_address l.pair;
       destination = remote_address l.pair;
-      source_port_of = l.pair.local_port;
-      destination_port_of = l.pair.remote_port;
-      source_isn_of = l.isn;
-      destination_isn_of = cond (is_open_of l) l.peer_isn 0;
+      source_port = l.pair.local_port;
+      destination_port = l.pair.remote_port;
+      source_isn = l.isn;
+      destination_isn = cond (is_open_of l) l.peer_isn 0;
     }
 
 -- a bare SYN that is judged without a state
@@ -97,10 +98,10 @@ arriving_syn a =
     record {
       source = a.source;
       destination = a.destination;
-      source_port_of = source_port_of a.segment;
-      destination_port_of = destination_port_of a.segment;
-      source_isn_of = sequence a.segment;
-      destination_isn_of = 0;
+      source_port = source_port_of a.segment;
+      destination_port = destination_port_of a.segment;
+      source_isn = sequence a.segment;
+      destination_isn = 0;
     }
 
 -- Positions.
@@ -178,26 +179,26 @@ next_key_of t p rnext current = cond (eqb rnext current) current (cond (availabl
 
 -- "Opening sets each reference to that side's ISN"; counts: "All are 0 at opening; the segment that opens is not counted."
 abbrev pub opened : (way : ℕ) → Pair → ℕ → ℕ → ℕ → ℕ → State
-opened way p isn peer_isn_of send_id_of ask_id_of =
+opened way p isn peer_isn send_id ask_id =
     record {
-      conn = record { stage = 1; way = way; pair = p; isn = isn; peer_isn = peer_isn_of };
+      conn = record { stage = 1; way = way; pair = p; isn = isn; peer_isn = peer_isn };
       sent = isn;
-      seen = peer_isn_of;
-      send_id = send_id_of;
-      ask_id = ask_id_of;
+      seen = peer_isn;
+      send_id = send_id;
+      ask_id = ask_id;
       accepted = 0;
       drops = replicate slots 0;
     }
 
 -- "until the peer's ISN is known, it and its reference are 0"
 abbrev pub opening : (way : ℕ) → Pair → ℕ → ℕ → ℕ → State
-opening way p isn send_id_of ask_id_of =
+opening way p isn send_id ask_id =
     record {
       conn = record { stage = 0; way = way; pair = p; isn = isn; peer_isn = 0 };
       sent = isn;
       seen = 0;
-      send_id = send_id_of;
-      ask_id = ask_id_of;
+      send_id = send_id;
+      ask_id = ask_id;
       accepted = 0;
       drops = replicate slots 0;
     }
@@ -224,12 +225,12 @@ empty =
 
 -- an accepted segment at position x, once open: "sets its direction's reference to the larger of the old one and X"; it is counted
 abbrev pub with_accepted_of : ℕ → ℕ → State → State
-with_accepted_of x send_id_of q =
+with_accepted_of x send_id q =
     record {
       conn = q.conn;
       sent = q.sent;
       seen = max q.seen x;
-      send_id = send_id_of;
+      send_id = send_id;
       ask_id = q.ask_id;
       accepted = bump q.accepted;
       drops = q.drops;

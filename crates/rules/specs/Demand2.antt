@@ -14,7 +14,8 @@ use Rattle.keys.specs.Mirror.{Mirror}
 use Rattle.tables.specs.Tables.{Tables, no_index}
 use Rattle.rules.specs.declared.Verdict.TheVariants.{Accept}
 use Rattle.rules.specs.declared.State.{State}
-use Rattle.rules.specs.Connection.{Arrival, local_address, remote_address, arrival_pair_of, is_open_of, is_md5_of, extension_of_lem, next_key_of}
+use Rattle.rules.specs.Connection.{Arrival, local_address, remote_address, arrival_pair_of, is_open_of, is_md5_of, extension_of_lem}
+use Rattle.rules.specs.Connection.{next_key_of}
 use Rattle.rules.specs.Connection.{ao_way, opened, with_accepted_of}
 use Rattle.rules.specs.Checksum.{sums_right, with_checksum_of}
 use Rattle.rules.specs.Calls.{judged, judged_syn, opened_passively}
@@ -93,14 +94,16 @@ SynAck = (q : State) (e : Entry) (x : ℕ) (b : List ℕ) (a : Arrival) (t : Tab
 -- The bare SYN of an opening end: accepted with extension 0 by the call without a state, which goes by the arrival's pair,
 abbrev pub BareSyn : Type 0
 BareSyn = (q : State) (e : Entry) (x : ℕ) (b : List ℕ) (a : Arrival) (t : Tables) → Typed q → is_md5_of q.conn ≡ false
-    → is_open_of q.conn ≡ false → FacingUnder e.secret (arrival_pair_of a) q.conn.pair → SignedAt q e x b → Delivered (arrival_pair_of a) b a
+    → is_open_of q.conn ≡ false → FacingUnder e.secret (arrival_pair_of a) q.conn.pair
+    → SignedAt q e x b → Delivered (arrival_pair_of a) b a
     → Holds t (arrival_pair_of a) q.conn.pair e → (strict : Bool)
     → judged_syn t a strict ≡ record { verdict = Accept 0; index = no_index }
 
 -- and by the passive opening, which opens with the entry found.
 abbrev pub BareSynOpens : Type 0
 BareSynOpens = (q : State) (e : Entry) (x : ℕ) (b : List ℕ) (a : Arrival) (t : Tables) → Typed q → is_md5_of q.conn ≡ false
-    → is_open_of q.conn ≡ false → FacingUnder e.secret (arrival_pair_of a) q.conn.pair → SignedAt q e x b → Delivered (arrival_pair_of a) b a
+    → is_open_of q.conn ≡ false → FacingUnder e.secret (arrival_pair_of a) q.conn.pair
+    → SignedAt q e x b → Delivered (arrival_pair_of a) b a
     → (h : Holds t (arrival_pair_of a) q.conn.pair e) → (strict : Bool) (isn : ℕ)
     → opened_passively t a isn strict ≡ record {
       verdict = Accept 0;

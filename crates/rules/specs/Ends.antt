@@ -18,7 +18,6 @@ use Rattle.rules.specs.declared.Place.TheVariants.{At}
 use Rattle.rules.specs.declared.Connection.{Connection}
 use Rattle.rules.specs.declared.State.{State}
 use Rattle.rules.specs.declared.Signing.TheVariants as S
-use Rattle.rules.specs.declared.Signed.{Signed}
 use Rattle.rules.specs.Mac.{arriving_hidden_of, segment_mac}
 use Rattle.rules.specs.Checksum.{sums_right}
 use Rattle.rules.specs.Segment.{malformed, ao, md5, ao_at, key_id_of, mac_in, is_bare_syn_of}

@@ -61,8 +61,8 @@ numbers_of (on (sign b s out) q) = sign_numbers
 numbers_of (on (ask b id) q) = ask_numbers
 numbers_of (judge_syn_of b a strict) = cond (syn_is_md5 (tables b) (arrival_pair_of a)) md5_syn_numbers syn_numbers
 numbers_of (open_passively b a isn strict) = cond (syn_is_md5 (tables b) (arrival_pair_of a)) md5_syn_numbers syn_numbers
-numbers_of (open_actively b local remote local_port_of remote_port_of isn send_id_of) = open_numbers
-numbers_of (open_actively_md5 b local remote local_port_of remote_port_of isn) = open_numbers
+numbers_of (open_actively b local remote local_port remote_port isn send_id) = open_numbers
+numbers_of (open_actively_md5 b local remote local_port remote_port isn) = open_numbers
 
 -- the tables' counts and indices stay at or below the limit, the tables are two, and their numbers are these, 44 "without an index"
 abbrev pub Bounded : ℕ → Admitted → Type 0

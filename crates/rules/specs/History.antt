@@ -76,7 +76,8 @@ pub record OneCount (q : State) (l : List Call) : Type 0 where
   pub dropped-exactly : NoStop (ended q l) → (n : ℕ) → is_counted n ≡ true → drop_count n (ended q l) ≡ drops n (verdicts_on q l)
   -- "Below the stop, their sum is how many accepts and drops 20 to 29 were given since opening." Ticket 5: "the counted drops and their
   -- sum include it", 40; Ticket 9: 46 and 47 are "counted and within the sum"
-  pub total : NoStop (ended q l) → (ended q l).accepted + sum (ended q l).drops ≡ accepts (verdicts_on q l) + counted_drops (verdicts_on q l)
+  pub total : NoStop (ended q l) → (ended q l).accepted + sum (ended q l).drops
+      ≡ accepts (verdicts_on q l) + counted_drops (verdicts_on q l)
 
 -- from any state whose counts are 0; from a passive and from an active opening, by either way, whatever came of it
 abbrev pub FromZero : Type 0
@@ -86,9 +87,9 @@ abbrev pub FromPassive : Type 0
 FromPassive = (t : Tables) (a : Arrival) (isn : ℕ) (strict : Bool) (l : List Call) → OneCount (opened_passively t a isn strict).state l
 
 abbrev pub FromActive : Type 0
-FromActive = (t : Tables) (local remote : List ℕ) (local_port_of remote_port_of isn send_id_of : ℕ) (l : List Call)
-    → OneCount (opened_actively t local remote local_port_of remote_port_of isn send_id_of).state l
+FromActive = (t : Tables) (local remote : List ℕ) (local_port remote_port isn send_id : ℕ) (l : List Call)
+    → OneCount (opened_actively t local remote local_port remote_port isn send_id).state l
 
 abbrev pub FromActiveMd5 : Type 0
-FromActiveMd5 = (t : Tables) (local remote : List ℕ) (local_port_of remote_port_of isn : ℕ) (l : List Call)
-    → OneCount (opened_actively_md5 t local remote local_port_of remote_port_of isn).state l
+FromActiveMd5 = (t : Tables) (local remote : List ℕ) (local_port remote_port isn : ℕ) (l : List Call)
+    → OneCount (opened_actively_md5 t local remote local_port remote_port isn).state l

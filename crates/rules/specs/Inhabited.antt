@@ -24,14 +24,14 @@ use Rattle.rules.specs.Prepared.{PreparedFrom}
 
 -- an entry of kind 4 with its flags, for every IPv4 pair, HMAC-SHA-1, the key 01 02
 abbrev pub entry4 : ℕ → ℕ → ℕ → List ℕ
-entry4 flags send_id_of recv_id_of =
-    (4 ∷ flags ∷ 1 ∷ send_id_of ∷ recv_id_of ∷ 0 ∷ 0 ∷ 255 ∷ 255 ∷ 0 ∷ 0 ∷ 255 ∷ 255 ∷ 0 ∷ 0 ∷ 0 ∷ 0 ∷ 0 ∷ 0 ∷ 0 ∷ 0 ∷ 0 ∷ 0 ∷ 2 ∷ 1 ∷ 2 ∷ [])
+entry4 flags send_id recv_id =
+    (4 ∷ flags ∷ 1 ∷ send_id ∷ recv_id ∷ 0 ∷ 0 ∷ 255 ∷ 255 ∷ 0 ∷ 0 ∷ 255 ∷ 255 ∷ 0 ∷ 0 ∷ 0 ∷ 0 ∷ 0 ∷ 0 ∷ 0 ∷ 0 ∷ 0 ∷ 0 ∷ 2 ∷ 1 ∷ 2 ∷ [])
     ++ replicate 78 0
 
 -- the same of kind 5, all options covered, with a MAC of five bytes
 abbrev pub entry5 : ℕ → ℕ → List ℕ
-entry5 send_id_of recv_id_of =
-    (5 ∷ 1 ∷ 1 ∷ send_id_of ∷ recv_id_of ∷ 0 ∷ 0 ∷ 255 ∷ 255 ∷ 0 ∷ 0 ∷ 255 ∷ 255 ∷ 0 ∷ 0 ∷ 0 ∷ 0 ∷ 0 ∷ 0 ∷ 0 ∷ 0 ∷ 0 ∷ 0 ∷ 5 ∷ 2 ∷ 1 ∷ 2 ∷ [])
+entry5 send_id recv_id =
+    (5 ∷ 1 ∷ 1 ∷ send_id ∷ recv_id ∷ 0 ∷ 0 ∷ 255 ∷ 255 ∷ 0 ∷ 0 ∷ 255 ∷ 255 ∷ 0 ∷ 0 ∷ 0 ∷ 0 ∷ 0 ∷ 0 ∷ 0 ∷ 0 ∷ 0 ∷ 0 ∷ 5 ∷ 2 ∷ 1 ∷ 2 ∷ [])
     ++ replicate 78 0
 
 -- an entry of the MD5 table: of kind 4, for every IPv4 pair, the key 03 04; of kind 6, for every IPv6 pair, the key 05
@@ -115,13 +115,13 @@ our_state =
 
 -- the other end, which holds a pair, under the entry with its SendID and asking for a RecvID
 abbrev pub theirs : Pair → ℕ → ℕ → State
-theirs pair send_id_of recv_id_of =
+theirs pair send_id recv_id =
     record {
       conn = record { stage = 1; way = 0; pair = pair; isn = 4294967280; peer_isn = 100 };
       sent = 4294967280;
       seen = 100;
-      send_id = send_id_of;
-      ask_id = recv_id_of;
+      send_id = send_id;
+      ask_id = recv_id;
       accepted = 0;
       drops = replicate slots 0;
     }
@@ -171,13 +171,13 @@ pub record Demand3NotEmpty : Type 0 where
 -- Demand 2, of a bare SYN. The other end opens, by a way and with its IDs.
 
 abbrev pub opener_by : ℕ → ℕ → ℕ → State
-opener_by way send_id_of recv_id_of =
+opener_by way send_id recv_id =
     record {
       conn = record { stage = 0; way = way; pair = their_pair; isn = 4294967280; peer_isn = 0 };
       sent = 4294967280;
       seen = 0;
-      send_id = send_id_of;
-      ask_id = recv_id_of;
+      send_id = send_id;
+      ask_id = recv_id;
       accepted = 0;
       drops = replicate slots 0;
     }

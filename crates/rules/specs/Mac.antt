@@ -15,10 +15,10 @@ use Rattle.rules.specs.declared.Hidden.{Hidden}
 pub record Flow : Type 0 where
   pub source : List ℕ
   pub destination : List ℕ
-  pub source_port_of : ℕ
-  pub destination_port_of : ℕ
-  pub source_isn_of : ℕ
-  pub destination_isn_of : ℕ
+  pub source_port : ℕ
+  pub destination_port : ℕ
+  pub source_isn : ℕ
+  pub destination_isn : ℕ
 
 -- Document 02, Ticket 10: "flags 2 for the local and 4 for the remote side, under which that side's address and port count as zero in the
 -- traffic key context and in the MAC's pseudo-header and header". Of which sides of a segment this holds is `Hidden`: one that we sign
@@ -42,17 +42,17 @@ blanked h f =
     record {
       source = address_under h.source f.source;
       destination = address_under h.destination f.destination;
-      source_port_of = port_under_lem h.source f.source_port_of;
-      destination_port_of = port_under_lem h.destination f.destination_port_of;
-      source_isn_of = f.source_isn_of;
-      destination_isn_of = f.destination_isn_of;
+      source_port = port_under_lem h.source f.source_port;
+      destination_port = port_under_lem h.destination f.destination_port;
+      source_isn = f.source_isn;
+      destination_isn = f.destination_isn;
     }
 
 -- "The context is source address, destination address, source port, destination port, source ISN, destination ISN"
 unfoldable pub context : Flow → List ℕ
 context f =
-    f.source ++ f.destination ++ bytes16 f.source_port_of ++ bytes16 f.destination_port_of ++ bytes32 f.source_isn_of
-    ++ bytes32 f.destination_isn_of
+    f.source ++ f.destination ++ bytes16 f.source_port ++ bytes16 f.destination_port ++ bytes32 f.source_isn
+    ++ bytes32 f.destination_isn
 
 -- "The input is one byte 1, the six bytes "TCP-AO", the context, and the output length in bits as two bytes"
 unfoldable pub derivation_input_of : ℕ → Flow → List ℕ

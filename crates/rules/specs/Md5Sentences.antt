@@ -75,14 +75,15 @@ SignTableMd5 = (t : Tables) (s : List ℕ) (room : ℕ) (q : State) → is_md5_o
 
 -- opening actively by MD5 names no SendID: "35" where no entry matches the pair; the way is 1, and the IDs are 0
 abbrev pub OpenActiveMd5Table : Type 0
-OpenActiveMd5Table = (t : Tables) (local remote : List ℕ) (local_port_of remote_port_of isn : ℕ)
-    → opened_actively_md5 t local remote local_port_of remote_port_of isn
-    ≡ settled_by_lem (first_of (open_rows t local remote (md5_entry t (pair_of_lem local remote local_port_of remote_port_of))) unrefused) empty
-    (opening 1 (pair_of_lem local remote local_port_of remote_port_of) isn 0 0)
+OpenActiveMd5Table = (t : Tables) (local remote : List ℕ) (local_port remote_port isn : ℕ)
+    → opened_actively_md5 t local remote local_port remote_port isn
+    ≡ settled_by_lem (first_of (open_rows t local remote (md5_entry t (pair_of_lem local remote local_port remote_port))) unrefused) empty
+    (opening 1 (pair_of_lem local remote local_port remote_port) isn 0 0)
 
 -- way 1 is MD5, every other TCP-AO
 abbrev pub WayNumbers : Type 0
-WayNumbers = map (λ (w : ℕ). is_md5_of (record { stage = 1; way = w; pair = ends; isn = 100; peer_isn = 4294967280 })) (0 ∷ 1 ∷ 2 ∷ 255 ∷ [])
+WayNumbers = map (λ (w : ℕ). is_md5_of (record { stage = 1; way = w; pair = ends; isn = 100; peer_isn = 4294967280 }))
+    (0 ∷ 1 ∷ 2 ∷ 255 ∷ [])
     ≡ false ∷ true ∷ false ∷ false ∷ []
 
 -- The MD5 table's bytes: an entry of kind 4 or 6, with flags 0, algorithm 19, SendID 0 and RecvID 0.
@@ -94,10 +95,10 @@ EntryOrderMd5 = (limit i : ℕ) (before : List Entry) (x : Item)
 
 -- of flags, algorithm, SendID and RecvID, what an entry gets for these four; 0 is nothing
 abbrev pub listed_md5 : ℕ → ℕ → ℕ → ℕ → ℕ
-listed_md5 flags algorithm send_id_of recv_id_of =
+listed_md5 flags algorithm send_id recv_id =
     K.number_of
     (K.md5_tests (record { flags = flags; algorithm = algorithm; mac_bytes = 16; key_len = 1; key = [] })
-    (record { send = send_id_of; recv = recv_id_of }))
+    (record { send = send_id; recv = recv_id }))
 
 pub record ListedMd5 : Type 0 where
   pub kinds : map (λ (k : ℕ). K.kind_listed_of Md5 (item (k ∷ []))) (3 ∷ 4 ∷ 5 ∷ 6 ∷ 7 ∷ 8 ∷ [])

@@ -36,10 +36,11 @@ pub record SameCalls (t u : Tables) : Type 0 where
   pub judges : (a : Arrival) (q : State) → judged t a q ≡ judged u a q
   pub judges-syn : (a : Arrival) (strict : Bool) → judged_syn t a strict ≡ judged_syn u a strict
   pub opens-passively : (a : Arrival) (isn : ℕ) (strict : Bool) → opened_passively t a isn strict ≡ opened_passively u a isn strict
-  pub opens-actively : (local remote : List ℕ) (local_port_of remote_port_of isn send_id_of : ℕ)
-      → opened_actively t local remote local_port_of remote_port_of isn send_id_of ≡ opened_actively u local remote local_port_of remote_port_of isn send_id_of
-  pub opens-actively-md5 : (local remote : List ℕ) (local_port_of remote_port_of isn : ℕ)
-      → opened_actively_md5 t local remote local_port_of remote_port_of isn ≡ opened_actively_md5 u local remote local_port_of remote_port_of isn
+  pub opens-actively : (local remote : List ℕ) (local_port remote_port isn send_id : ℕ)
+      → opened_actively t local remote local_port remote_port isn send_id
+      ≡ opened_actively u local remote local_port remote_port isn send_id
+  pub opens-actively-md5 : (local remote : List ℕ) (local_port remote_port isn : ℕ)
+      → opened_actively_md5 t local remote local_port remote_port isn ≡ opened_actively_md5 u local remote local_port remote_port isn
   pub asks : (id : ℕ) (q : State) → asked t id q ≡ asked u id q
   pub signs : (s out : List ℕ) (q : State) → (signed t s out q ≡ signed u s out q) × (output t s out q ≡ output u s out q)
 

@@ -59,24 +59,24 @@ SignedOpening = (t : Tables) (s out : List ℕ) (q : State) (n : ℕ) → is_ope
 -- "Active opening names a SendID .. It gives the outgoing key and, by RecvID, the key asked of the peer." "Opening sets each reference to
 -- that side's ISN; until the peer's ISN is known, it and its reference are 0."
 abbrev pub OpensActively : Type 0
-OpensActively = (t : Tables) (local remote : List ℕ) (local_port_of remote_port_of isn send_id_of : ℕ)
-    → (opened_actively t local remote local_port_of remote_port_of isn send_id_of).answer ≡ D.Done
-    → (opened_actively t local remote local_port_of remote_port_of isn send_id_of).state ≡ record {
-      conn = record { stage = 0; way = 0; pair = pair_of_lem local remote local_port_of remote_port_of; isn = isn; peer_isn = 0 };
+OpensActively = (t : Tables) (local remote : List ℕ) (local_port remote_port isn send_id : ℕ)
+    → (opened_actively t local remote local_port remote_port isn send_id).answer ≡ D.Done
+    → (opened_actively t local remote local_port remote_port isn send_id).state ≡ record {
+      conn = record { stage = 0; way = 0; pair = pair_of_lem local remote local_port remote_port; isn = isn; peer_isn = 0 };
       sent = isn;
       seen = 0;
-      send_id = send_id_of;
-      ask_id = (send_entry t (pair_of_lem local remote local_port_of remote_port_of) send_id_of).entry.ids.recv;
+      send_id = send_id;
+      ask_id = (send_entry t (pair_of_lem local remote local_port remote_port) send_id).entry.ids.recv;
       accepted = 0;
       drops = zero_counts;
     }
 
 -- by MD5: no IDs
 abbrev pub OpensActivelyMd5 : Type 0
-OpensActivelyMd5 = (t : Tables) (local remote : List ℕ) (local_port_of remote_port_of isn : ℕ)
-    → (opened_actively_md5 t local remote local_port_of remote_port_of isn).answer ≡ D.Done
-    → (opened_actively_md5 t local remote local_port_of remote_port_of isn).state ≡ record {
-      conn = record { stage = 0; way = 1; pair = pair_of_lem local remote local_port_of remote_port_of; isn = isn; peer_isn = 0 };
+OpensActivelyMd5 = (t : Tables) (local remote : List ℕ) (local_port remote_port isn : ℕ)
+    → (opened_actively_md5 t local remote local_port remote_port isn).answer ≡ D.Done
+    → (opened_actively_md5 t local remote local_port remote_port isn).state ≡ record {
+      conn = record { stage = 0; way = 1; pair = pair_of_lem local remote local_port remote_port; isn = isn; peer_isn = 0 };
       sent = isn;
       seen = 0;
       send_id = 0;
@@ -120,12 +120,12 @@ OpensPassivelyMd5 = (t : Tables) (a : Arrival) (isn : ℕ) (strict : Bool) (e : 
 -- "An accepted SYN+ACK opens the connection; its sequence number is the peer's ISN"; "the segment that opens is not counted". The way
 -- stays.
 abbrev pub syn_ack_opened : State → Arrival → ℕ → State
-syn_ack_opened q a send_id_of =
+syn_ack_opened q a send_id =
     record {
       conn = record { stage = 1; way = q.conn.way; pair = q.conn.pair; isn = q.conn.isn; peer_isn = sequence a.segment };
       sent = q.conn.isn;
       seen = sequence a.segment;
-      send_id = send_id_of;
+      send_id = send_id;
       ask_id = q.ask_id;
       accepted = 0;
       drops = zero_counts;

@@ -20,8 +20,8 @@ pub data Request : Type 0 where
   on : Call → State → Request
   judge_syn_of : (lent : Lent) (arrival : Arrival) (strict : Bool) → Request
   open_passively : (lent : Lent) (arrival : Arrival) (isn : ℕ) (strict : Bool) → Request
-  open_actively : (lent : Lent) (local remote : List ℕ) (local_port_of remote_port_of isn send_id_of : ℕ) → Request
-  open_actively_md5 : (lent : Lent) (local remote : List ℕ) (local_port_of remote_port_of isn : ℕ) → Request
+  open_actively : (lent : Lent) (local remote : List ℕ) (local_port remote_port isn send_id : ℕ) → Request
+  open_actively_md5 : (lent : Lent) (local remote : List ℕ) (local_port remote_port isn : ℕ) → Request
 
 -- what it answers: done, or refused with a number. A verdict refuses by a drop, signing by no length.
 abbrev pub by_verdict : Verdict → Done
@@ -39,19 +39,20 @@ reply (on (sign b s out) q) = by_signing (signed (tables b) s out q).answer
 reply (on (ask b id) q) = (asked (tables b) id q).answer
 reply (judge_syn_of b a strict) = by_verdict (judged_syn (tables b) a strict).verdict
 reply (open_passively b a isn strict) = by_verdict (opened_passively (tables b) a isn strict).verdict
-reply (open_actively b local remote local_port_of remote_port_of isn send_id_of) =
-    (opened_actively (tables b) local remote local_port_of remote_port_of isn send_id_of).answer
-reply (open_actively_md5 b local remote local_port_of remote_port_of isn) = (opened_actively_md5 (tables b) local remote local_port_of remote_port_of isn).answer
+reply (open_actively b local remote local_port remote_port isn send_id) =
+    (opened_actively (tables b) local remote local_port remote_port isn send_id).answer
+reply (open_actively_md5 b local remote local_port remote_port isn) =
+    (opened_actively_md5 (tables b) local remote local_port remote_port isn).answer
 
 -- the state that it returns; judging without a state returns none, as if it were the empty one
 abbrev pub state_after : Request → State
 state_after (on c q) = next c q
 state_after (judge_syn_of b a strict) = empty
 state_after (open_passively b a isn strict) = (opened_passively (tables b) a isn strict).state
-state_after (open_actively b local remote local_port_of remote_port_of isn send_id_of) =
-    (opened_actively (tables b) local remote local_port_of remote_port_of isn send_id_of).state
-state_after (open_actively_md5 b local remote local_port_of remote_port_of isn) =
-    (opened_actively_md5 (tables b) local remote local_port_of remote_port_of isn).state
+state_after (open_actively b local remote local_port remote_port isn send_id) =
+    (opened_actively (tables b) local remote local_port remote_port isn send_id).state
+state_after (open_actively_md5 b local remote local_port remote_port isn) =
+    (opened_actively_md5 (tables b) local remote local_port remote_port isn).state
 
 -- the output, before and after; only signing has one
 abbrev pub output_before : Request → List ℕ
@@ -60,8 +61,8 @@ output_before (on (sign b s out) q) = out
 output_before (on (ask b id) q) = []
 output_before (judge_syn_of b a strict) = []
 output_before (open_passively b a isn strict) = []
-output_before (open_actively b local remote local_port_of remote_port_of isn send_id_of) = []
-output_before (open_actively_md5 b local remote local_port_of remote_port_of isn) = []
+output_before (open_actively b local remote local_port remote_port isn send_id) = []
+output_before (open_actively_md5 b local remote local_port remote_port isn) = []
 
 abbrev pub output_after : Request → List ℕ
 output_after (on (judge b a) q) = []
@@ -69,8 +70,8 @@ output_after (on (sign b s out) q) = output (tables b) s out q
 output_after (on (ask b id) q) = []
 output_after (judge_syn_of b a strict) = []
 output_after (open_passively b a isn strict) = []
-output_after (open_actively b local remote local_port_of remote_port_of isn send_id_of) = []
-output_after (open_actively_md5 b local remote local_port_of remote_port_of isn) = []
+output_after (open_actively b local remote local_port remote_port isn send_id) = []
+output_after (open_actively_md5 b local remote local_port remote_port isn) = []
 
 -- "add one to that number's count"
 abbrev pub one_more_of : ℕ → State → State
@@ -92,8 +93,8 @@ left (on (sign b s out) q) n = q
 left (on (ask b id) q) n = q
 left (judge_syn_of b a strict) n = empty
 left (open_passively b a isn strict) n = empty
-left (open_actively b local remote local_port_of remote_port_of isn send_id_of) n = empty
-left (open_actively_md5 b local remote local_port_of remote_port_of isn) n = empty
+left (open_actively b local remote local_port remote_port isn send_id) n = empty
+left (open_actively_md5 b local remote local_port remote_port isn) n = empty
 
 pub record Unchanged (c : Request) (n : ℕ) : Type 0 where
   pub output : output_after c ≡ output_before c

@@ -2,7 +2,8 @@
 -- A definition and the code that is proved equal to it could be wrong alike; then they contradict a sentence here. Here is the TCP-AO way,
 -- and what both ways share; Md5Sentences.antt has the MD5 way of document 02, Ticket 9. SentenceLaws proves each, PositionLaws
 -- `PlaceAnswers`.
-use Rattle.std.specs.Prelude.{ℕ, ◌+◌, ◌-◌, ◌*◌, ◌/◌, ◌%◌, ◌<◌, ◌≡◌, Bool, true, false, cond, not, ◌&&◌, List, [], ◌∷◌, ◌++◌, map, length, get_or, take, drop, replicate, eqb, ltb}
+use Rattle.std.specs.Prelude.{ℕ, ◌+◌, ◌-◌, ◌*◌, ◌/◌, ◌%◌, ◌<◌, ◌≡◌, Bool, true, false, cond, not, ◌&&◌, List, [], ◌∷◌, ◌++◌, map, length}
+use Rattle.std.specs.Prelude.{get_or, take, drop, replicate, eqb, ltb}
 use Rattle.octets.specs.Tests.{Test, any}
 use Rattle.wire.specs.Bytes.{same_bytes}
 use Rattle.wire.specs.Header.{source_port_of, destination_port_of, sequence, data_offset_of, header_end_of, syn, ack}
@@ -37,7 +38,7 @@ use Rattle.rules.specs.Connection.{Arrival, sized, arrival_pair_of, local_addres
 use Rattle.rules.specs.Connection.{arriving_syn, pair_of_lem, place_on_lem, located, value, extension_of_lem, bump, opening, empty}
 use Rattle.rules.specs.Calls.{is_refused, refusal, syn_is_md5, check, check_syn_of, unrefused, settled_by_lem, opened_actively, ask_tests}
 use Rattle.rules.specs.Calls.{check_sign, signed_segment}
-use Rattle.rules.specs.Answers.{Answer, answer, verdict_answer, place_answer}
+use Rattle.rules.specs.Answers.{answer, verdict_answer, place_answer}
 
 -- The table of numbers. "The first that applies, in this order, is given."
 
@@ -188,11 +189,12 @@ open_rows t local remote found = row 19 (not (sized local remote) ∷ []) ∷ en
 
 -- "Active opening names a SendID; its entry must match the pair. It gives the outgoing key and, by RecvID, the key asked of the peer."
 abbrev pub OpenActiveTable : Type 0
-OpenActiveTable = (t : Tables) (local remote : List ℕ) (local_port_of remote_port_of isn send_id_of : ℕ)
-    → opened_actively t local remote local_port_of remote_port_of isn send_id_of
-    ≡ settled_by_lem (first_of (open_rows t local remote (send_entry t (pair_of_lem local remote local_port_of remote_port_of) send_id_of)) unrefused) empty
-    (opening 0 (pair_of_lem local remote local_port_of remote_port_of) isn send_id_of
-    (send_entry t (pair_of_lem local remote local_port_of remote_port_of) send_id_of).entry.ids.recv)
+OpenActiveTable = (t : Tables) (local remote : List ℕ) (local_port remote_port isn send_id : ℕ)
+    → opened_actively t local remote local_port remote_port isn send_id
+    ≡ settled_by_lem
+    (first_of (open_rows t local remote (send_entry t (pair_of_lem local remote local_port remote_port) send_id)) unrefused) empty
+    (opening 0 (pair_of_lem local remote local_port remote_port) isn send_id
+    (send_entry t (pair_of_lem local remote local_port remote_port) send_id).entry.ids.recv)
 
 -- 35: no entry matching the pair has "the RecvID to ask (operator call)"; Ticket 9, of an MD5 connection: "asking: always 35"
 abbrev pub AskTable : Type 0
@@ -304,10 +306,10 @@ Context = (f : Flow)
     → context f
     ≡ f.source
     ++ f.destination
-    ++ (f.source_port_of / 256 % 256 ∷ f.source_port_of % 256 ∷ [])
-    ++ (f.destination_port_of / 256 % 256 ∷ f.destination_port_of % 256 ∷ [])
-    ++ (f.source_isn_of / 16777216 % 256 ∷ f.source_isn_of / 65536 % 256 ∷ f.source_isn_of / 256 % 256 ∷ f.source_isn_of % 256 ∷ [])
-    ++ (f.destination_isn_of / 16777216 % 256 ∷ f.destination_isn_of / 65536 % 256 ∷ f.destination_isn_of / 256 % 256 ∷ f.destination_isn_of % 256 ∷ [])
+    ++ (f.source_port / 256 % 256 ∷ f.source_port % 256 ∷ [])
+    ++ (f.destination_port / 256 % 256 ∷ f.destination_port % 256 ∷ [])
+    ++ (f.source_isn / 16777216 % 256 ∷ f.source_isn / 65536 % 256 ∷ f.source_isn / 256 % 256 ∷ f.source_isn % 256 ∷ [])
+    ++ (f.destination_isn / 16777216 % 256 ∷ f.destination_isn / 65536 % 256 ∷ f.destination_isn / 256 % 256 ∷ f.destination_isn % 256 ∷ [])
 
 -- "'source' is whoever sent the segment": of what leaves the first end, of what arrives there; "For a bare SYN (SYN set, ACK clear) the
 -- destination ISN is zero."

@@ -4,10 +4,10 @@ use borrow.Author.Tests.{lt-leb}
 use Rattle.rules.specs.declared.Place.{Place}
 use Rattle.rules.specs.declared.Place.TheVariants.{At, Nowhere}
 use Rattle.rules.specs.Connection.{located, value, bump, slots, slot, count_at_lem, count_drop_of}
-use Rattle.rules.specs.CountLaws.{slot-below}
+use Rattle.rules.proofs.CountLaws.{slot-below}
 use Rattle.rules.specs.Answers.{place_answer, position_number}
 use Rattle.rules.specs.Position.{wrapping_difference, position}
-use Rattle.rules.specs.PositionLaws.{place-answer}
+use Rattle.rules.proofs.PositionLaws.{place-answer}
 
 -- d is the wrapping difference of s and the reference
 module _ (reference s d : ℕ) (q : wrapping_difference s reference ≡ d) where

@@ -4,7 +4,8 @@
 ghost use Rattle.std.specs.Prelude.{◌≡◌, ◌≤◌, length, take};
 ghost use Rattle.wire.specs.Bytes.{same_bytes};
 ghost use Rattle.keys.specs.Entry.{width, padded};
-ghost use Rattle.rules.specs.Connection.{pair_of_lem, is_open_of, is_md5_of, opened as opened_of, opening as opening_of, empty as empty_state};
+ghost use Rattle.rules.specs.Connection.{pair_of_lem, is_open_of, is_md5_of, opened as opened_of, opening as opening_of};
+ghost use Rattle.rules.specs.Connection.{empty as empty_state};
 ghost use Rattle.rules.specs.Connection.{with_accepted_of, with_counted_of, with_drop_of, with_sent_of, with_asked_of};
 
 use crate::counts::{bump, count_drop, larger};

@@ -17,10 +17,10 @@ use Rattle.keys.specs.declared.table.Loaded.TheVariants.{Valid as LoadedValid, R
 use Rattle.prepared.specs.Prepared.{prepared_bytes, fits, key_part}
 use Rattle.prepared.specs.ReadLaws.{counted}
 use Rattle.prepared.specs.ImageLaws.{image-length}
-use Rattle.tables.specs.Tables.{Tables, no_index, max_entries, md5_index, after_table, after_crossing, besides, admitted}
+use Rattle.tables.specs.Tables.{no_index, max_entries, md5_index, after_table, after_crossing, besides, admitted}
 use Rattle.tables.specs.Tables.{bytes_tables, prepared_answer, prepared_tables, tables_of}
 use Rattle.tables.specs.Preparing.{prepared_of, prepared_length, prepare_answer, prepare_output}
-use Rattle.tables.specs.ValidLaws.{valid-count}
+use Rattle.tables.proofs.ValidLaws.{valid-count}
 use Rattle.tables.specs.declared.Index.{Index}
 use Rattle.tables.specs.declared.Admitted.{Admitted}
 use Rattle.tables.specs.declared.Admitted.TheVariants.{Valid, Refused}

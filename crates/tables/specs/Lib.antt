@@ -5,9 +5,3 @@ pub mod Same
 pub mod Search
 pub mod Crossing
 pub mod Limit
-pub mod ValidLaws
-pub mod ApartLaws
-pub mod SameLaws
-pub mod SearchLaws
-pub mod CrossingLaws
-pub mod LimitLaws

@@ -11,7 +11,7 @@ use Rattle.octets.specs.Octets.{bytes16}
 use Rattle.checksum.specs.declared.Sum.{Sum}
 use Rattle.checksum.specs.Checksum.{ones_sum, complement, checksum_of, replaced, checksummed}
 use Rattle.checksum.specs.Running.{word_sum, after, folded, begun, added, padded}
-use Rattle.checksum.specs.ChecksumLaws.{sum-append, added-last, length-replaced}
+use Rattle.checksum.proofs.ChecksumLaws.{sum-append, added-last, length-replaced}
 use Rattle.tcpao.specs.SignBegin.{checked_header}
 
 abbrev zeros : ℕ → List ℕ

@@ -2,7 +2,6 @@
 use Prim.Native.Nat.{ℕ}
 use mathlib.Core.Path.{◌≡◌, refl, sym, ap, ◌∙◌}
 use mathlib.Core.Bool.{Bool, true, false, cond}
-use mathlib.Core.List.{List}
 use mathlib.Core.Logic.{inl, inr}
 use native.Mathlib.Omega.{arith}
 use lib.Dec.{eqb}
@@ -20,8 +19,8 @@ use Rattle.rules.specs.declared.Verdict.{Verdict}
 use Rattle.rules.specs.declared.Connection.{Connection}
 use Rattle.rules.specs.declared.State.{State}
 use Rattle.octets.specs.TestLaws.{each_gives, none-applied}
-use Rattle.rules.specs.GroupLaws.{first-clear, none-clear}
-use Rattle.rules.specs.JudgeLaws.{none_of}
+use Rattle.rules.proofs.GroupLaws.{first-clear, none-clear}
+use Rattle.rules.proofs.JudgeLaws.{none_of}
 use Rattle.rules.specs.Segment.{key_id_of}
 use Rattle.rules.specs.Connection.{Arrival, sized, arrival_pair_of, available, next_key_of, opened, empty}
 use Rattle.rules.specs.Calls.{judge_groups, check, syn_groups, judge_syn_tests, check_syn_of, verdict_of_lem, index_of, after_judging_of, judged_by}

@@ -14,7 +14,7 @@ use Rattle.rules.specs.Connection.{Arrival}
 use Rattle.rules.specs.Calls.{judged, judged_syn, opened_passively, opened_actively, opened_actively_md5, asked, signed}
 use Rattle.rules.specs.Answers.{Answer, verdict_answer, signing_answer, done_answer, table_answer}
 use Rattle.rules.specs.Answers.{table_number, judged_number, syn_number, opened_number, opened_md5_number, asked_number, signed_number}
-use Rattle.rules.specs.AnswerLaws as law
+use Rattle.rules.proofs.AnswerLaws as law
 
 abbrev of_judged : Judged → Answer
 of_judged j = verdict_answer j.verdict j.index

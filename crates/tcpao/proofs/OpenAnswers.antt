@@ -11,7 +11,7 @@ use borrow.Author.Tests.{eqb-true, not-false}
 use Rattle.keys.specs.declared.entry.Pair.{Pair}
 use Rattle.keys.specs.declared.table.Found.{Found}
 use Rattle.tables.specs.Tables.{Tables, send_entry, md5_entry}
-use Rattle.keys.specs.MatchLaws.{and-true}
+use Rattle.keys.proofs.MatchLaws.{and-true}
 use Rattle.rules.specs.declared.Outcome.{Outcome}
 use Rattle.rules.specs.declared.Outcome.TheVariants.{Good, Passed, Bad}
 use Rattle.rules.specs.declared.State.{State}

@@ -10,7 +10,7 @@ use borrow.Author.Tests.{ltb-false}
 use Rattle.wire.specs.Header.{header_end_of, header_of_lem}
 use Rattle.wire.specs.declared.header.Header.{Header}
 use Rattle.keys.specs.Entry.{width}
-use Rattle.keys.specs.EntryLaws.{width-le}
+use Rattle.keys.proofs.EntryLaws.{width-le}
 use Rattle.keys.specs.declared.entry.Pair.{Pair}
 use Rattle.keys.specs.declared.entry.Secret.{Secret}
 use Rattle.keys.specs.declared.table.Found.{Found}
@@ -20,14 +20,14 @@ use Rattle.rules.specs.declared.Outcome.TheVariants.{Good}
 use Rattle.rules.specs.declared.State.{State}
 use Rattle.rules.specs.declared.Signed.{Signed}
 use Rattle.octets.specs.TestLaws.{NoneApplies, none-applied}
-use Rattle.rules.specs.JudgeLaws.{is_bad, refusal-bad}
+use Rattle.rules.proofs.JudgeLaws.{is_bad, refusal-bad}
 use Rattle.rules.specs.Segment.{Whole, option_bytes, md5_option_bytes}
 use Rattle.rules.specs.Connection.{is_md5_of}
 use Rattle.rules.specs.Lent.{Lent, tables}
-use Rattle.rules.specs.LentLaws.{lent_found}
+use Rattle.rules.proofs.LentLaws.{lent_found}
 use Rattle.rules.specs.Calls.{outgoing, added_on_lem, sign_tests, check_sign, signed_by, output_by, written, signed, output}
-use Rattle.rules.specs.RoundTripLaws.{whole_words}
-use Rattle.rules.specs.SigningLaws.{Signs, signs-good}
+use Rattle.rules.proofs.RoundTripLaws.{whole_words}
+use Rattle.rules.proofs.SigningLaws.{Signs, signs-good}
 use Rattle.checks.specs.GroupLaws.{is_final, Else, else-final}
 use Rattle.tcpao.specs.SignedBytes.{ao_form, md5_form, form_of, added_by, Signable}
 use Rattle.tcpao.specs.SignBegin.{ao_front, md5_front, front_of_lem, Ready, Starts, SignBegins, Writable, finished}

@@ -2,7 +2,7 @@
 -- "Signing puts TCP-AO directly after byte 20, .."; document 02, Ticket 9. Assumes nothing.
 use Prim.Native.Nat.{ℕ, zero, suc, ◌+◌, ◌-◌, ◌*◌, ◌/◌, ◌≤◌}
 use mathlib.Core.Bool.{Bool, true, false, cond}
-use mathlib.Core.Path.{◌≡◌, refl, sym, ap, ap₂, subst, transport, ◌∙◌}
+use mathlib.Core.Path.{◌≡◌, refl, sym, ap, ap₂, subst, ◌∙◌}
 use mathlib.Core.List.{List, [], ◌∷◌, ◌++◌, append_assoc}
 use native.Mathlib.Omega.{arith}
 use native.Mathlib.Nat.{sub-zero}
@@ -20,10 +20,10 @@ use Rattle.rules.specs.declared.State.{State}
 use Rattle.rules.specs.declared.Hidden.{Hidden}
 use Rattle.rules.specs.Mac.{Flow, leaving_hidden_of, blanked, pseudo_header, front, segment_mac}
 use Rattle.rules.specs.Digest.{segment_digest}
-use Rattle.rules.specs.DigestLaws.{length-digest}
+use Rattle.rules.proofs.DigestLaws.{length-digest}
 use Rattle.rules.specs.Checksum.{with_checksum_of}
-use Rattle.rules.specs.ChecksumLaws.{pseudo-even}
-use Rattle.rules.specs.MacLaws.{length-mac}
+use Rattle.rules.proofs.ChecksumLaws.{pseudo-even}
+use Rattle.rules.proofs.MacLaws.{length-mac}
 use Rattle.rules.specs.Segment.{inserted, with_option, Whole, padding, option_of, option_bytes, signed_with, digested_with}
 use Rattle.rules.specs.Connection.{local_address, remote_address, is_md5_of, leaving, extension_of_lem}
 use Rattle.rules.specs.Calls.{authenticated, digested, signed_segment, written}
@@ -34,7 +34,7 @@ use Rattle.traffic.specs.DigestLaws.{digest-parts}
 use Rattle.traffic.specs.declared.context.MacContext.{MacContext}
 use Rattle.checks.specs.Begin.{mac_length_of}
 use Rattle.tcpao.specs.SignedBytes.{Form, ao_form, md5_form, form_of, option_with, added_by, fixed_bytes, head_bytes, blank_option, Room, Signable}
-use Rattle.tcpao.specs.SignBegin.{blank_header_of, ao_front, md5_front, front_of_lem, leaving_sum_of, mac_place_of, Ready, Starts, Fed, Writable, with_mac}
+use Rattle.tcpao.specs.SignBegin.{blank_header_of, ao_front, md5_front, front_of_lem, mac_place_of, Ready, Starts, Fed, Writable, with_mac}
 use Rattle.tcpao.specs.SignBegin.{checked_header, ended, finished}
 use Rattle.tcpao.specs.declared.sign_begun.SignBegun.{SignBegun}
 use Rattle.tcpao.proofs.CheckedLaws.{checked-is}

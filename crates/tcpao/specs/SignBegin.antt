@@ -28,7 +28,8 @@ blank_header_of f s = inserted (option_with f (replicate f.bytes 0)) (take (head
 -- the MAC that the front leaves, of a segment that leaves: by TCP-AO at the position x, and by MD5
 abbrev pub ao_front : ℕ → Secret → State → List ℕ → MacView
 ao_front x e q s =
-    fronted_by e (leaving_hidden_of e) (leaving q.conn) (extension_of_lem x) 20 (length s + added_by (ao_form e q)) (blank_header_of (ao_form e q) s)
+    fronted_by e (leaving_hidden_of e) (leaving q.conn) (extension_of_lem x) 20 (length s + added_by (ao_form e q))
+    (blank_header_of (ao_form e q) s)
 
 abbrev pub md5_front : Secret → State → List ℕ → MacView
 md5_front e q s = digested_by e (leaving q.conn) (length s + added_by md5_form) (blank_header_of md5_form s)

@@ -1,6 +1,6 @@
 -- A signed header as the code writes it: the option that carries the MAC, by either way, and the bytes in which it is laid out. A reader
 -- need not believe these: the calls cite the crate `rules` alone.
-use Rattle.std.specs.Prelude.{ℕ, ◌+◌, ◌-◌, ◌*◌, ◌/◌, ◌≤◌, ◌<◌, ◌≡◌, cond, List, [], ◌∷◌, ◌++◌, length, get_or, replicate}
+use Rattle.std.specs.Prelude.{ℕ, ◌+◌, ◌-◌, ◌*◌, ◌/◌, ◌≤◌, ◌<◌, cond, List, [], ◌∷◌, ◌++◌, length, get_or, replicate}
 use Rattle.wire.specs.Header.{header_end_of}
 use Rattle.keys.specs.declared.entry.Secret.{Secret}
 use Rattle.rules.specs.declared.State.{State}
@@ -38,8 +38,10 @@ added_by f = length f.head + f.bytes + f.ones
 -- the header's twenty bytes with w words more and the checksum zero
 unfoldable pub fixed_bytes : ℕ → List ℕ → List ℕ
 fixed_bytes w h =
-    get_or h 0 0 ∷ get_or h 1 0 ∷ get_or h 2 0 ∷ get_or h 3 0 ∷ get_or h 4 0 ∷ get_or h 5 0 ∷ get_or h 6 0 ∷ get_or h 7 0 ∷ get_or h 8 0 ∷ get_or h 9 0
-    ∷ get_or h 10 0 ∷ get_or h 11 0 ∷ (get_or h 12 0 + 16 * w) ∷ get_or h 13 0 ∷ get_or h 14 0 ∷ get_or h 15 0 ∷ 0 ∷ 0 ∷ get_or h 18 0 ∷ get_or h 19 0
+    get_or h 0 0 ∷ get_or h 1 0 ∷ get_or h 2 0 ∷ get_or h 3 0 ∷ get_or h 4 0
+    ∷ get_or h 5 0 ∷ get_or h 6 0 ∷ get_or h 7 0 ∷ get_or h 8 0 ∷ get_or h 9 0
+    ∷ get_or h 10 0 ∷ get_or h 11 0 ∷ (get_or h 12 0 + 16 * w) ∷ get_or h 13 0
+    ∷ get_or h 14 0 ∷ get_or h 15 0 ∷ 0 ∷ 0 ∷ get_or h 18 0 ∷ get_or h 19 0
     ∷ []
 
 -- and the first four of an option

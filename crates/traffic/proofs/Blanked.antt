@@ -7,7 +7,7 @@ use native.Mathlib.Omega.{arith}
 use lib.ListN.{length, take}
 use lib.Seq.{length-take-le}
 use Rattle.keys.specs.Entry.{width}
-use Rattle.keys.specs.EntryLaws.{width-le}
+use Rattle.keys.proofs.EntryLaws.{width-le}
 use Rattle.rules.specs.declared.Hidden.{Hidden}
 use Rattle.rules.specs.Mac.{address_under, port_under_lem, blanked}
 use Rattle.traffic.specs.Flow.{flow_of, field_under_lem}
@@ -38,8 +38,8 @@ pub flow-blanked : (v : Hidden) (w : Flow) {s d : List ℕ} {sp dp : ℕ} → le
 flow-blanked v w ls ld es ed esp edp = λ i. record {
   source = address-of v.source w.family w.source ls es i;
   destination = address-of v.destination w.family w.destination ld ed i;
-  source_port_of = esp i;
-  destination_port_of = edp i;
-  source_isn_of = w.source_isn;
-  destination_isn_of = w.destination_isn;
+  source_port = esp i;
+  destination_port = edp i;
+  source_isn = w.source_isn;
+  destination_isn = w.destination_isn;
 }

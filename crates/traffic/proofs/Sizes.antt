@@ -10,7 +10,7 @@ use lib.Dec.{eqb}
 use borrow.Author.Tests.{eq-eqb, ne_eqb}
 use Rattle.octets.specs.Octets.{bytes16, bytes32}
 use Rattle.keys.specs.Entry.{width}
-use Rattle.keys.specs.EntryLaws.{width-le}
+use Rattle.keys.proofs.EntryLaws.{width-le}
 use Rattle.rules.specs.Mac.{context, pseudo_header}
 use Rattle.traffic.specs.Assembled.{Pushed}
 use Rattle.traffic.specs.Flow.{flow_of}

@@ -5,7 +5,7 @@ use mathlib.Core.List.{List, ◌++◌}
 use lib.ListN.{length}
 use Rattle.checksum.specs.declared.Sum.{Sum}
 use Rattle.checksum.specs.Running.{begun, added}
-use Rattle.checksum.specs.ChecksumLaws.{added-append, added-all}
+use Rattle.checksum.proofs.ChecksumLaws.{added-append, added-all}
 use Rattle.rules.specs.Mac.{pseudo_header}
 use Rattle.rules.specs.Checksum.{segment_sum_of}
 

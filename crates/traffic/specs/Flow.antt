@@ -9,10 +9,10 @@ flow_of w =
     record {
       source = take (width w.family) w.source;
       destination = take (width w.family) w.destination;
-      source_port_of = w.source_port;
-      destination_port_of = w.destination_port;
-      source_isn_of = w.source_isn;
-      destination_isn_of = w.destination_isn;
+      source_port = w.source_port;
+      destination_port = w.destination_port;
+      source_isn = w.source_isn;
+      destination_isn = w.destination_isn;
     }
 
 -- an address field of a side that is hidden or not

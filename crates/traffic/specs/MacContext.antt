@@ -1,5 +1,5 @@
--- The MAC of an algorithm (`applied` of the crate `rules`), and RFC 2385's digest (`segment_digest`), of a message that comes in pieces, and
--- what a value of the code's MacContext means. Every value means something. Assumes nothing.
+-- The MAC of an algorithm (`applied` of the crate `rules`), and RFC 2385's digest (`segment_digest`), of a message that comes in pieces,
+-- and what a value of the code's MacContext means. Every value means something. Assumes nothing.
 use Rattle.std.specs.Prelude.{ℕ, Bool, cond, ◌||◌, List, take, eqb}
 use Rattle.mac.specs.Blocks as hash
 use Rattle.mac.specs.Hmac.{Keyed, hmac_start, hmac_absorb, hmac_finished}
@@ -76,7 +76,8 @@ mac_finished (Digest v k) = padded digest_room (keyed_last_of v k)
 -- the MAC of a segment after its front, under the secret's traffic key: of len bytes, with the given hidden sides, flow and header
 abbrev pub fronted_by : Secret → Hidden → Flow → ℕ → ℕ → ℕ → List ℕ → MacView
 fronted_by s h f extension at len header =
-    mac_absorb (mac_start s.algorithm (padded digest_room (traffic_key_of s (blanked h f)))) (front s h (blanked h f) extension at len header)
+    mac_absorb (mac_start s.algorithm (padded digest_room (traffic_key_of s (blanked h f))))
+    (front s h (blanked h f) extension at len header)
 
 -- the digest of a segment of len bytes after its front, the secret's key still to come
 abbrev pub digested_by : Secret → Flow → ℕ → List ℕ → MacView

@@ -1,6 +1,6 @@
 -- Laws of the MAC in pieces: a ++ b is a and then b; what is finished from the start on is the MAC of the whole. None has a hypothesis. Assumes nothing.
 use Rattle.std.specs.Prelude.{ℕ, ◌-◌, ◌≡◌, refl, Bool, true, false, cond, ◌||◌, List, ◌++◌, length, take, replicate, eqb}
-use Rattle.std.proofs.Common.{sym, ap, ◌∙◌, append-nil, take_at, arith}
+use Rattle.std.proofs.Common.{ap, ◌∙◌, append-nil, take_at, arith}
 use Rattle.mac.specs.Blocks as hash
 use Rattle.mac.specs.BlocksLaws as hashes
 use Rattle.mac.specs.Hmac.{hmac_sha1_of, hmac_sha256_of, hmac_start}

@@ -1,5 +1,5 @@
 -- The tag of a segment (src/tag.rt) and the MAC of the crate `rules`: its first bytes are `segment_mac`. Assumes nothing.
-use Rattle.std.specs.Prelude.{ℕ, ◌+◌, ◌-◌, ◌≤◌, ◌≡◌, List, ◌++◌, length, take, drop}
+use Rattle.std.specs.Prelude.{ℕ, ◌+◌, ◌≤◌, ◌≡◌, List, ◌++◌, length, take, drop}
 use Rattle.std.proofs.Common.{sym, ap, ◌∙◌, arith, length-append, take_at, drop_at}
 use Rattle.std.proofs.lemmas.List.{take-append-le}
 use Rattle.wire.specs.Header.{header_end_of}
@@ -8,7 +8,7 @@ use Rattle.keys.specs.Algorithm.{output_bits_of}
 use Rattle.keys.specs.Entry.{key_of}
 use Rattle.rules.specs.declared.Hidden.{Hidden}
 use Rattle.rules.specs.Mac.{Flow, blanked, derivation_input_of, derivation_key, applied, traffic_key_of, front, message, segment_mac}
-use Rattle.rules.specs.MacLaws.{applied-long}
+use Rattle.rules.proofs.MacLaws.{applied-long}
 use Rattle.traffic.specs.Padded.{padded, digest_room}
 use Rattle.traffic.specs.MacContext.{MacView, mac_start, mac_absorb, mac_finished}
 use Rattle.traffic.specs.MacContextLaws.{mac_absorb-append, mac_finished-absorb, key_for-applied}

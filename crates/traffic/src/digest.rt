@@ -1,7 +1,7 @@
-// The digest of TCP MD5: RFC 2385 §2.0, document 02, Ticket 9. The definition is `segment_digest` of the crate `rules`, and specs/DigestLaws
-// says that the first sixteen bytes of a finished context are it. Begin takes all that needs no data but the key; data go in by
-// MacContext::update, from where they lie, and MacContext::finish puts the key behind them. It assumes of the header only that its first
-// 20 bytes are there: judging knows it behind 20, signing behind 30.
+// The digest of TCP MD5: RFC 2385 §2.0, document 02, Ticket 9. The definition is `segment_digest` of the crate `rules`, and
+// specs/DigestLaws says that the first sixteen bytes of a finished context are it. Begin takes all that needs no data but the key; data
+// go in by MacContext::update, from where they lie, and MacContext::finish puts the key behind them. It assumes of the header only that
+// its first 20 bytes are there: judging knows it behind 20, signing behind 30.
 ghost use Rattle.std.specs.Prelude.{◌≡◌, ◌≤◌, length, take};
 ghost use Rattle.rules.specs.Mac.{blank};
 ghost use Rattle.rules.specs.Digest.{digest_front};

@@ -12,7 +12,7 @@ use native.Mathlib.Omega.{arith}
 use native.Mathlib.Numerals.{add-one}
 use borrow.Author.Tests.{eq-eqb, ne_eqb, eqb-true, eqb-false}
 use Rattle.wire.specs.Bytes.{same_bytes}
-use Rattle.wire.specs.BytesLaws.{not_same}
+use Rattle.wire.proofs.BytesLaws.{not_same}
 
 -- before i the strings differ exactly if d is not 0, and what stands from i on decides the rest
 pub record Compared (a b : List ℕ) (i d : ℕ) : Type 0 where

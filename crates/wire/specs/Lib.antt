@@ -1,5 +1,4 @@
 pub mod Bytes
-pub mod BytesLaws
 pub mod Header
 pub mod HeaderLaws
 pub mod OptionLaws

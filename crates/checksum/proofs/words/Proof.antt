@@ -11,36 +11,36 @@ use Rattle.checksum.proofs.words.Statement.{statement}
 use Rattle.checksum.proofs.words.Tie as tie
 
 -- what is added and what is left make the whole
-abbrev invariant-loop : tie.invariant-loop
+abbrev invariant-loop : tie.invariant-loop-i
 invariant-loop piece total₀ i₀ total i = (i ≤ length piece) × (folded (total + word_sum false (drop i piece)) ≡ folded (word_sum false piece))
 
-abbrev decreases-loop : tie.decreases-loop
+abbrev decreases-loop : tie.decreases-loop-i
 decreases-loop piece total₀ i₀ total i = length piece - i
 
-loop-holds : tie.Need-loop-init invariant-loop decreases-loop
+loop-holds : tie.Need-loop-i-init invariant-loop decreases-loop
 loop-holds c = (omega arith, ap folded (omega arith))
 
-loop-again : tie.Need-loop-preserved invariant-loop decreases-loop
+loop-again : tie.Need-loop-i-preserved invariant-loop decreases-loop
 loop-again c =
     let k = c.before.before.before in
     let s = k.before.before.args.piece.now in
-    let o : Octets s = λ j. (k.before.shared-slice-known.given j).fits in
-    let h : k.loop.i + 4 ≤ length s = search rules in
-    let r = c.before.with-room in
-    (h, step s k.loop.i k.loop.total r.result c.load32.result o h r.ensures.same c.load32.ensures ∙ k.loop.invariant.1)
+    let o : Octets s = λ j. (k.before.shared_slice_known-1.given j).fits in
+    let h : k.loop-i.i + 4 ≤ length s = search rules in
+    let r = c.before.with_room in
+    (h, step s k.loop-i.i k.loop-i.total r.result c.load32.result o h r.ensures.same c.load32.ensures ∙ k.loop-i.invariant.1)
 
 returns : tie.Need-returns invariant-loop decreases-loop
 returns c =
     let k = c.before.before.before.before in
     let s = k.before.before.args.piece.now in
-    let r = c.before.before.with-room2 in
+    let r = c.before.before.with_room-2 in
     record {
-      same = last s k.loop.i k.loop.total r.result _ r.ensures.same c.last-words.ensures ∙ k.loop.invariant.1;
+      same = last s k.loop-i.i k.loop-i.total r.result _ r.ensures.same c.last_words.ensures ∙ k.loop-i.invariant.1;
       low = search rules;
     }
 
-pub words-spec : {M : Type 1} → statement M
-words-spec =
+pub words_spec : {M : Type 1} → statement M
+words_spec =
     tie.close
     (tie.spec invariant-loop decreases-loop loop-holds (λ c. search rules) (λ c κs. search rules) (λ c κs. search rules)
     (λ c. search rules) (λ c. search rules) (λ c. search rules) (λ c. search rules) loop-again

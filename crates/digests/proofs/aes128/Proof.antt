@@ -18,44 +18,44 @@ encrypted : (r k b key block : List ℕ) (ks : List (List ℕ)) → k ≡ key �
     → r ≡ cipher ks b → r ≡ encryption key block
 encrypted r k b key block ks p q u e = e ∙ (λ i. cipher ((q ∙ (λ j. key_expansion (p j))) i) (u i))
 
-returns : tie.Need-returns
+returns : tie.Need-returns-then-key-ne16
 unfolding aes128_into
 returns c =
     let a = c.before.before.before.before.args in
     refused _ 16 (encryption a.key.now a.block.now) a.out.now
-    (unsized a.key.now (sixteen a.block.now && room 16 a.out.now) c.if1.true)
+    (unsized a.key.now (sixteen a.block.now && room 16 a.out.now) c.if-key-ne16.true)
 
-returns-2 : tie.Need-returns-2
+returns-2 : tie.Need-returns-then-block-ne16
 unfolding aes128_into
 returns-2 c =
     let a = c.before.before.before.before.before.args in
     refused _ 16 (encryption a.key.now a.block.now) a.out.now
-    (sized a.key.now (sixteen a.block.now && room 16 a.out.now) _ c.before.if1.false
-    (unsized a.block.now (room 16 a.out.now) c.if2.true))
+    (sized a.key.now (sixteen a.block.now && room 16 a.out.now) _ c.before.if-key-ne16.false
+    (unsized a.block.now (room 16 a.out.now) c.if-block-ne16.true))
 
-returns-3 : tie.Need-returns-3
+returns-3 : tie.Need-returns-then-out-lt16
 unfolding aes128_into
 returns-3 c =
     let a = c.before.before.before.before.before.before.args in
     refused _ 16 (encryption a.key.now a.block.now) a.out.now
-    (sized a.key.now (sixteen a.block.now && room 16 a.out.now) _ c.before.before.if1.false
-    (sized a.block.now (room 16 a.out.now) _ c.before.if2.false (lt-leb _ _ c.if3.true)))
+    (sized a.key.now (sixteen a.block.now && room 16 a.out.now) _ c.before.before.if-key-ne16.false
+    (sized a.block.now (room 16 a.out.now) _ c.before.if-block-ne16.false (lt-leb _ _ c.if-out-lt16.true)))
 
-returns-4 : tie.Need-returns-4
+returns-4 : tie.Need-returns
 unfolding aes128_into
 returns-4 c =
     let e = c.before.before.before.before.before in
     let t = e.before.before.before.before in
     let a = t.before.before.before.before.before.before.args in
     done _ 16 (encryption a.key.now a.block.now) _ a.out.now _
-    (sized a.key.now (sixteen a.block.now && room 16 a.out.now) _ t.before.before.if1.false
-    (sized a.block.now (room 16 a.out.now) _ t.before.if2.false (le-leb _ _ t.if3.false)))
+    (sized a.key.now (sixteen a.block.now && room 16 a.out.now) _ t.before.before.if-key-ne16.false
+    (sized a.block.now (room 16 a.out.now) _ t.before.if-block-ne16.false (le-leb _ _ t.if-out-lt16.false)))
     (encrypted _ _ _ a.key.now a.block.now _ e.before.before.before.whole.ensures
-    e.before.before.expand-key.ensures e.before.whole2.ensures e.encrypt.ensures)
+    e.before.before.expand_key-keys.ensures e.before.whole-2.ensures e.encrypt-d.ensures)
     c.before.before.front.ensures
 
-pub aes128-spec : {M : Type 1} → statement M
-aes128-spec =
+pub aes128_spec : {M : Type 1} → statement M
+aes128_spec =
     tie.close
     (tie.spec returns returns-2 returns-3 (λ c κs. search rules) (λ c κs. search rules) (λ c κs. search rules) (λ c κs. search rules)
     (λ c. search rules)

@@ -10,5 +10,5 @@ returns c =
     let a = c.before.before.before.before.before.before.args in
     c.before.before.copy_at.ensures ∙ front-is a.out.now a.d.now
 
-pub front-spec : {M : Type 1} → statement M
-front-spec = tie.close (tie.spec (λ c κs. search rules) (λ c. search rules) returns)
+pub front_spec : {M : Type 1} → statement M
+front_spec = tie.close (tie.spec (λ c κs. search rules) (λ c. search rules) returns)

@@ -7,20 +7,20 @@ use Rattle.digests.proofs.Written.{refused, done}
 use Rattle.digests.proofs.hmac_sha1.Statement.{statement}
 use Rattle.digests.proofs.hmac_sha1.Tie as tie
 
-returns : tie.Need-returns
+returns : tie.Need-returns-then-out-lt20
 unfolding hmac_sha1_into
 returns c =
     let a = c.before.before.before.before.args in
-    refused _ 20 (hmac_sha1_of a.key.now a.message.now) a.out.now (lt-leb _ _ c.if1.true)
+    refused _ 20 (hmac_sha1_of a.key.now a.message.now) a.out.now (lt-leb _ _ c.if-out-lt20.true)
 
-returns-2 : tie.Need-returns-2
+returns-2 : tie.Need-returns
 unfolding hmac_sha1_into
 returns-2 c =
     let a = c.before.before.before.before.before.before.before.before.before.before.args in
     let e = c.before.before.before.before.before in
-    done _ 20 (hmac_sha1_of a.key.now a.message.now) _ a.out.now _ (le-leb _ _ e.before.if1.false)
-    e.hmac-sha1.ensures c.before.before.front.ensures
+    done _ 20 (hmac_sha1_of a.key.now a.message.now) _ a.out.now _ (le-leb _ _ e.before.if-out-lt20.false)
+    e.hmac_sha1-d.ensures c.before.before.front.ensures
 
-pub hmac-sha1-spec : {M : Type 1} → statement M
-hmac-sha1-spec = tie.close
+pub hmac_sha1_spec : {M : Type 1} → statement M
+hmac_sha1_spec = tie.close
     (tie.spec returns (λ c κs. search rules) (λ c. search rules) (λ c κs. search rules) (λ c. search rules) returns-2)

@@ -10,5 +10,5 @@ use Rattle.digests.proofs.whole.Tie as tie
 returns : tie.Need-returns
 returns c = c.before.copy_at.ensures ∙ whole_is (replicate 16 0) c.before.before.before.before.args.s.now (omega arith)
 
-pub whole-spec : {M : Type 1} → statement M
-whole-spec = tie.close (tie.spec (λ c. search rules) (λ c κs. search rules) returns)
+pub whole_spec : {M : Type 1} → statement M
+whole_spec = tie.close (tie.spec (λ c. search rules) (λ c κs. search rules) returns)

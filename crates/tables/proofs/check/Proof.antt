@@ -6,11 +6,11 @@ use Rattle.tables.proofs.Checked.{by_bytes, by-prepared}
 use Rattle.tables.proofs.check.Statement.{statement}
 use Rattle.tables.proofs.check.Tie as tie
 
-returns : tie.Need-returns
-returns c = c.check-bytes.ensures ∙ ap (λ (t : Tables). t.answer) (by_bytes _ _ _ c.before.if1.true)
+returns : tie.Need-returns-then-form-eq-BYTES
+returns c = c.check_bytes.ensures ∙ ap (λ (t : Tables). t.answer) (by_bytes _ _ _ c.if-form-eq-BYTES.true)
 
-returns-2 : tie.Need-returns-2
-returns-2 c = c.check-prepared.ensures ∙ ap (λ (t : Tables). t.answer) (by-prepared _ _ _ c.before.if1.false)
+returns-2 : tie.Need-returns
+returns-2 c = c.check_prepared.ensures ∙ ap (λ (t : Tables). t.answer) (by-prepared _ _ _ c.if-form-eq-BYTES.false)
 
-pub check-spec : {M : Type 1} → statement M
-check-spec = tie.close (tie.spec (λ c κs. search rules) returns (λ c κs. search rules) returns-2)
+pub check_spec : {M : Type 1} → statement M
+check_spec = tie.close (tie.spec (λ c κs. search rules) returns (λ c κs. search rules) returns-2)

@@ -8,5 +8,5 @@ returns : tie.Need-returns
 unfolding word
 returns c = search rules
 
-pub word-spec : {M : Type 1} → statement M
-word-spec = tie.close (tie.spec (λ c. search rules) (λ c. search rules) returns)
+pub word_spec : {M : Type 1} → statement M
+word_spec = tie.close (tie.spec (λ c. search rules) (λ c. search rules) returns)

@@ -3,5 +3,5 @@ use mathlib.Core.Path.{refl}
 use Rattle.checks.proofs.check.arriving_flow.Statement.{statement}
 use Rattle.checks.proofs.check.arriving_flow.Tie as tie
 
-pub arriving-flow-spec : {M : Type 1} → statement M
-arriving-flow-spec = tie.close (tie.spec (λ c. refl))
+pub arriving_flow_spec : {M : Type 1} → statement M
+arriving_flow_spec = tie.close (tie.spec (λ c. refl))

@@ -4,7 +4,7 @@ use mathlib.Core.Path.{sym, ◌∙◌}
 use Rattle.checks.proofs.check.peer_isn.Statement.{statement}
 use Rattle.checks.proofs.check.peer_isn.Tie as tie
 
-pub peer-isn-spec : {M : Type 1} → statement M
-peer-isn-spec =
+pub peer_isn_spec : {M : Type 1} → statement M
+peer_isn_spec =
     tie.close
-    (tie.spec (λ c κs. search rules) (λ c. rw (sym c.before.is_open.ensures ∙ c.if1.true)) (λ c. rw (sym c.before.is_open.ensures ∙ c.if1.false)))
+    (tie.spec (λ c κs. search rules) (λ c. rw (sym c.before.is_open.ensures ∙ c.if-is_open.true)) (λ c. rw (sym c.before.is_open.ensures ∙ c.if-is_open.false)))

@@ -4,5 +4,5 @@ use native.Mathlib.Omega.{arith}
 use Rattle.checks.proofs.signing.added_bytes.Statement.{statement}
 use Rattle.checks.proofs.signing.added_bytes.Tie as tie
 
-pub added-bytes-spec : {M : Type 1} → statement M
-added-bytes-spec = tie.close (tie.spec (λ c. search rules) (λ c. search rules) (λ c. search rules) (λ c. omega arith))
+pub added_bytes_spec : {M : Type 1} → statement M
+added_bytes_spec = tie.close (tie.spec (λ c. search rules) (λ c. search rules) (λ c. search rules) (λ c. omega arith))

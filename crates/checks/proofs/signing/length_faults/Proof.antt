@@ -8,15 +8,15 @@ use Rattle.checks.proofs.Formed.{badly-sized, well-sized}
 use Rattle.checks.proofs.signing.length_faults.Statement.{statement}
 use Rattle.checks.proofs.signing.length_faults.Tie as tie
 
-returns : tie.Need-returns
+returns : tie.Need-returns-then-not-well_sized
 returns c =
     let s = c.before.before.before.args.segment.now in
-    badly-sized 30 s [] unrefused (sym c.before.well-sized.ensures ∙ not-true _ c.if1.true)
+    badly-sized 30 s [] unrefused (sym c.before.well_sized.ensures ∙ not-true _ c.if-not-well_sized.true-raw)
 
-returns-2 : tie.Need-returns-2
+returns-2 : tie.Need-returns
 returns-2 c =
     let s = c.before.before.before.args.segment.now in
-    sym (well-sized 30 s [] unrefused (sym c.before.well-sized.ensures ∙ not-false _ c.if1.false))
+    sym (well-sized 30 s [] unrefused (sym c.before.well_sized.ensures ∙ not-false _ c.if-not-well_sized.false-raw))
 
-pub length-faults-spec : {M : Type 1} → statement M
-length-faults-spec = tie.close (tie.spec (λ c κs. search rules) returns returns-2)
+pub length_faults_spec : {M : Type 1} → statement M
+length_faults_spec = tie.close (tie.spec (λ c κs. search rules) returns returns-2)

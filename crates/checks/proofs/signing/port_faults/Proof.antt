@@ -6,14 +6,14 @@ use Rattle.checks.specs.GroupLaws.{yes, no}
 use Rattle.checks.proofs.signing.port_faults.Statement.{statement}
 use Rattle.checks.proofs.signing.port_faults.Tie as tie
 
-returns : tie.Need-returns
-returns c = yes _ _ (ap not (ne_eqb _ _ c.if1.true)) refl
+returns : tie.Need-returns-then-header-pair
+returns c = yes _ _ (ap not (ne_eqb _ _ c.if-header-pair.true)) refl
 
-returns-2 : tie.Need-returns-2
-returns-2 c = no _ _ (ap not (eq-eqb _ _ c.before.before.before.if1.false)) (yes _ _ (ap not (ne_eqb _ _ c.if2.true)) refl)
+returns-2 : tie.Need-returns-then-header-pair-2
+returns-2 c = no _ _ (ap not (eq-eqb _ _ c.before.before.before.if-header-pair.false)) (yes _ _ (ap not (ne_eqb _ _ c.if-header-pair-2.true)) refl)
 
-returns-3 : tie.Need-returns-3
-returns-3 c = no _ _ (ap not (eq-eqb _ _ c.before.before.before.if1.false)) (no _ _ (ap not (eq-eqb _ _ c.if2.false)) refl)
+returns-3 : tie.Need-returns
+returns-3 c = no _ _ (ap not (eq-eqb _ _ c.before.before.before.if-header-pair.false)) (no _ _ (ap not (eq-eqb _ _ c.if-header-pair-2.false)) refl)
 
-pub port-faults-spec : {M : Type 1} → statement M
-port-faults-spec = tie.close (tie.spec returns returns-2 returns-3)
+pub port_faults_spec : {M : Type 1} → statement M
+port_faults_spec = tie.close (tie.spec returns returns-2 returns-3)

@@ -1,17 +1,16 @@
 -- The room less what is added holds the segment.
-use borrow.Author.Rules.{rules}
 use Rattle.checks.proofs.SignNumbers.{no_room, little-room, room-enough}
 use Rattle.checks.proofs.signing.room_faults.Statement.{statement}
 use Rattle.checks.proofs.signing.room_faults.Tie as tie
 
-returns : tie.Need-returns
-returns c = no_room _ _ _ c.if1.true
+returns : tie.Need-returns-then-room-more
+returns c = no_room _ _ _ c.if-room-more.true
 
-returns-2 : tie.Need-returns-2
-returns-2 c = little-room _ _ _ c.before.if1.false c.if2.true
+returns-2 : tie.Need-returns-then-room-more-2
+returns-2 c = little-room _ _ _ c.before.if-room-more.false c.if-room-more-2.true
 
-returns-3 : tie.Need-returns-3
-returns-3 c = room-enough _ _ _ c.before.if1.false c.if2.false
+returns-3 : tie.Need-returns
+returns-3 c = room-enough _ _ _ c.before.if-room-more.false c.if-room-more-2.false
 
-pub room-faults-spec : {M : Type 1} → statement M
-room-faults-spec = tie.close (tie.spec returns returns-2 returns-3)
+pub room_faults_spec : {M : Type 1} → statement M
+room_faults_spec = tie.close (tie.spec returns returns-2 returns-3)

@@ -4,26 +4,26 @@ use mathlib.Core.Path.{sym, ◌∙◌}
 use Rattle.checks.proofs.signing.stage_faults.Statement.{statement}
 use Rattle.checks.proofs.signing.stage_faults.Tie as tie
 
-pub stage-faults-spec : {M : Type 1} → statement M
-stage-faults-spec =
+pub stage_faults_spec : {M : Type 1} → statement M
+stage_faults_spec =
     tie.close
     (tie.spec
     (λ c κs. search rules)
     (λ c κs. search rules)
     (λ c. rw (
-      sym c.before.before.before.is_open.ensures ∙ c.before.before.if1.true,
-      sym c.before.bare-syn.ensures ∙ c.if2.true,
+      sym c.before.before.before.is_open.ensures ∙ c.before.before.if-is_open.true,
+      sym c.before.bare_syn.ensures ∙ c.if-bare_syn.true,
     ))
     (λ c. rw (
-      sym c.before.before.before.is_open.ensures ∙ c.before.before.if1.true,
-      sym c.before.bare-syn.ensures ∙ c.if2.false,
+      sym c.before.before.before.is_open.ensures ∙ c.before.before.if-is_open.true,
+      sym c.before.bare_syn.ensures ∙ c.if-bare_syn.false,
     ))
     (λ c κs. search rules)
     (λ c. rw (
-      sym c.before.before.before.is_open.ensures ∙ c.before.before.if1.false,
-      sym c.before.bare-syn2.ensures ∙ c.if3.true,
+      sym c.before.before.before.is_open.ensures ∙ c.before.before.if-is_open.false,
+      sym c.before.bare_syn-2.ensures ∙ c.if-bare_syn-2.true,
     ))
     (λ c. rw (
-      sym c.before.before.before.is_open.ensures ∙ c.before.before.if1.false,
-      sym c.before.bare-syn2.ensures ∙ c.if3.false,
+      sym c.before.before.before.is_open.ensures ∙ c.before.before.if-is_open.false,
+      sym c.before.bare_syn-2.ensures ∙ c.if-bare_syn-2.false,
     )))

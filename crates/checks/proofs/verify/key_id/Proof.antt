@@ -9,18 +9,18 @@ use Rattle.checks.proofs.Keyed.{lies}
 use Rattle.checks.proofs.verify.key_id.Statement.{statement}
 use Rattle.checks.proofs.verify.key_id.Tie as tie
 
-add-byte-at : tie.Need-overflow-add-byte-at
-add-byte-at c =
+add-byte_at : tie.Need-overflow_add-option
+add-byte_at c =
     let l = lies c.before.before.args.segment.now c.before.before.requires.1 c.before.before.requires.0 in
     record { fits = omega (arith, l.header, l.segment, l.most) }
 
-add-byte-at-2 : tie.Need-overflow-add-byte-at-2
-add-byte-at-2 c =
+add-byte_at-2 : tie.Need-overflow_add-option-2
+add-byte_at-2 c =
     let l = lies c.before.before.args.segment.now c.before.before.requires.1 c.before.before.requires.0 in
     record { fits = omega (arith, l.header, l.segment, l.most) }
 
 returns : tie.Need-returns
 returns c = c.byte_at.ensures ∙ ap (λ (o : Occurrence). get_or c.before.before.before.args.segment.now (20 + o.at + 2) 0) c.before.before.before.requires.0
 
-pub key-id-spec : {M : Type 1} → statement M
-key-id-spec = tie.close (tie.spec add-byte-at add-byte-at-2 (λ c κs. search rules) returns)
+pub key_id_spec : {M : Type 1} → statement M
+key_id_spec = tie.close (tie.spec add-byte_at add-byte_at-2 (λ c κs. search rules) returns)

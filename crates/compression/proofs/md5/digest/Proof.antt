@@ -9,10 +9,10 @@ returns c =
     let b3 = c.before in
     let b2 = b3.before in
     let b1 = b2.before in
-    simp (c.bytes324.ensures, b3.bytes323.ensures, b2.bytes322.ensures, b1.bytes32.ensures)
+    simp (c.bytes32-d.ensures, b3.bytes32-c.ensures, b2.bytes32-b.ensures, b1.bytes32-a.ensures)
 
-pub digest-spec : {M : Type 1} → statement M
-digest-spec =
+pub digest_spec : {M : Type 1} → statement M
+digest_spec =
     tie.close
     (tie.spec
     (λ c. search rules)

@@ -3,8 +3,8 @@ use Rattle.compression.proofs.Md5Operations.{function-in}
 use Rattle.compression.proofs.md5.function.Statement.{statement}
 use Rattle.compression.proofs.md5.function.Tie as tie
 
-pub function-spec : {M : Type 1} → statement M
-function-spec =
+pub function_spec : {M : Type 1} → statement M
+function_spec =
     tie.close
     (tie.spec
     (λ c κs. search rules)

@@ -7,8 +7,8 @@ returns : tie.Need-returns
 unfolding initial
 returns c = refl
 
-pub initial-spec : {M : Type 1} → statement M
-initial-spec =
+pub initial_spec : {M : Type 1} → statement M
+initial_spec =
     tie.close
     (tie.spec
     returns)

@@ -9,10 +9,10 @@ returns c =
     let r = c.before in
     let a3 = r.before in
     let a2 = a3.before in
-    simp (c.add4.ensures, r.rotl.ensures, a3.add3.ensures, a2.add2.ensures, a2.before.add.ensures)
+    simp (c.add-4.ensures, r.rotl.ensures, a3.add-3.ensures, a2.add-2.ensures, a2.before.add.ensures)
 
-pub operation-spec : {M : Type 1} → statement M
-operation-spec =
+pub operation_spec : {M : Type 1} → statement M
+operation_spec =
     tie.close
     (tie.spec
     (λ c κs. search rules)

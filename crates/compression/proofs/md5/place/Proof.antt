@@ -3,8 +3,8 @@ use Rattle.compression.proofs.Md5Operations.{place_in}
 use Rattle.compression.proofs.md5.place.Statement.{statement}
 use Rattle.compression.proofs.md5.place.Tie as tie
 
-pub place-spec : {M : Type 1} → statement M
-place-spec =
+pub place_spec : {M : Type 1} → statement M
+place_spec =
     tie.close
     (tie.spec
     (λ c. (place_in c.before.args.t 0 (omega arith) (omega arith), omega arith))

@@ -14,11 +14,11 @@ returns c =
     let a = f1.before.args in
     let W = taken a.x.now in
     let s = four a.s in
-    let first = f1.four-operations.ensures ∙ ap (λ (n : ℕ). rounds step n 4 W s) (sym (add-zero a.at)) in
-    sixteen step a.at W s _ _ _ _ first f2.four-operations2.ensures f3.four-operations3.ensures c.four-operations4.ensures
+    let first = f1.four_operations-s.ensures ∙ ap (λ (n : ℕ). rounds step n 4 W s) (sym (add-zero a.at)) in
+    sixteen step a.at W s _ _ _ _ first f2.four_operations-s-2.ensures f3.four_operations-s-3.ensures c.four_operations.ensures
 
-pub round-spec : {M : Type 1} → statement M
-round-spec =
+pub round_spec : {M : Type 1} → statement M
+round_spec =
     tie.close
     (tie.spec
     (λ c κs. search rules)

@@ -25,16 +25,16 @@ returns c =
     let w1 = s1.before.before in
     let s0 = w1.before.before in
     let start = s0.before.before in
-    let h = start.args.t1 in
-    compressed h _ _ _ _ _ _ _ _ _ (five s4.sixteen-rounds5.result) _
-    (long start) w1.next-words.ensures.0 w2.next-words2.ensures.0
-    w3.next-words3.ensures.0 w4.next-words4.ensures.0
-    s0.sixteen-rounds.ensures s1.sixteen-rounds2.ensures s2.sixteen-rounds3.ensures
-    s3.sixteen-rounds4.ensures s4.sixteen-rounds5.ensures
-    (simp (c.add5.ensures, a4.add4.ensures, a3.add3.ensures, a2.add2.ensures, a1.add.ensures))
+    let h = start.args.h in
+    compressed h _ _ _ _ _ _ _ _ _ (five s4.sixteen_rounds-s-5.result) _
+    (long start) w1.next_words.ensures.0 w2.next_words-2.ensures.0
+    w3.next_words-3.ensures.0 w4.next_words-4.ensures.0
+    s0.sixteen_rounds-s.ensures s1.sixteen_rounds-s-2.ensures s2.sixteen_rounds-s-3.ensures
+    s3.sixteen_rounds-s-4.ensures s4.sixteen_rounds-s-5.ensures
+    (simp (c.add-5.ensures, a4.add-4.ensures, a3.add-3.ensures, a2.add-2.ensures, a1.add.ensures))
 
-pub compress-spec : {M : Type 1} → statement M
-compress-spec =
+pub compress_spec : {M : Type 1} → statement M
+compress_spec =
     tie.close
     (tie.spec
     (λ c. search rules)

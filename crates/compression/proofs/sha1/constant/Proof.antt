@@ -3,8 +3,8 @@ use Rattle.compression.proofs.Sha1Compression.{constant-in}
 use Rattle.compression.proofs.sha1.constant.Statement.{statement}
 use Rattle.compression.proofs.sha1.constant.Tie as tie
 
-pub constant-spec : {M : Type 1} → statement M
-constant-spec =
+pub constant_spec : {M : Type 1} → statement M
+constant_spec =
     tie.close
     (tie.spec
     (λ c. constant-in c.before.args.t 0 (omega arith))

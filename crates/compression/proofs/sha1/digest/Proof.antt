@@ -8,10 +8,10 @@ unfolding digest
 returns c =
     let d = c.before in
     let b = d.before.before in
-    simp (c.bytes325.ensures, d.bytes324.ensures, d.before.bytes323.ensures, b.bytes322.ensures, b.before.bytes32.ensures)
+    simp (c.bytes32-e.ensures, d.bytes32-d.ensures, d.before.bytes32-c.ensures, b.bytes32-b.ensures, b.before.bytes32-a.ensures)
 
-pub digest-spec : {M : Type 1} → statement M
-digest-spec =
+pub digest_spec : {M : Type 1} → statement M
+digest_spec =
     tie.close
     (tie.spec
     (λ c. search rules)

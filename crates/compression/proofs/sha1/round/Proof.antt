@@ -10,10 +10,10 @@ returns c =
     let a3 = a4.before in
     let a2 = a3.before in
     let a1 = a2.before in
-    simp (c.rotl30.ensures, a4.add4.ensures, a3.add3.ensures, a2.add2.ensures, a1.add.ensures, a1.before.rotl5.ensures)
+    simp (c.rotl30.ensures, a4.add-4.ensures, a3.add-3.ensures, a2.add-2.ensures, a1.add.ensures, a1.before.rotl5.ensures)
 
-pub round-spec : {M : Type 1} → statement M
-round-spec =
+pub round_spec : {M : Type 1} → statement M
+round_spec =
     tie.close
     (tie.spec
     (λ c κs. search rules)

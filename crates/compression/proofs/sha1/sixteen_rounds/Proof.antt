@@ -1,4 +1,4 @@
-use Rattle.std.proofs.Common.{arith, rules}
+use Rattle.std.proofs.Common.{rules}
 use Rattle.compression.specs.Sha1Block.{step}
 use Rattle.compression.proofs.Rounds.{sixteen}
 use Rattle.compression.proofs.sha1.sixteen_rounds.Statement.{statement}
@@ -9,11 +9,11 @@ returns c =
     let f3 = c.before in
     let f2 = f3.before in
     let f1 = f2.before in
-    sixteen step _ _ _ _ _ _ _ f1.four-rounds.ensures f2.four-rounds2.ensures f3.four-rounds3.ensures
-    c.four-rounds4.ensures
+    sixteen step _ _ _ _ _ _ _ f1.four_rounds-s.ensures f2.four_rounds-s-2.ensures f3.four_rounds-s-3.ensures
+    c.four_rounds.ensures
 
-pub sixteen-rounds-spec : {M : Type 1} → statement M
-sixteen-rounds-spec =
+pub sixteen_rounds_spec : {M : Type 1} → statement M
+sixteen_rounds_spec =
     tie.close
     (tie.spec
     (λ c κs. search rules)

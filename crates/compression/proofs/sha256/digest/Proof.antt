@@ -13,10 +13,10 @@ returns c =
     let b3 = d.before in
     let b2 = b3.before in
     let b1 = b2.before in
-    simp (c.bytes328.ensures, g.bytes327.ensures, f.bytes326.ensures, e.bytes325.ensures, d.bytes324.ensures, b3.bytes323.ensures, b2.bytes322.ensures, b1.bytes32.ensures)
+    simp (c.bytes32-h.ensures, g.bytes32-g.ensures, f.bytes32-f.ensures, e.bytes32-e.ensures, d.bytes32-d.ensures, b3.bytes32-c.ensures, b2.bytes32-b.ensures, b1.bytes32-a.ensures)
 
-pub digest-spec : {M : Type 1} → statement M
-digest-spec =
+pub digest_spec : {M : Type 1} → statement M
+digest_spec =
     tie.close
     (tie.spec
     (λ c. search rules)

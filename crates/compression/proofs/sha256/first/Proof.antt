@@ -8,7 +8,7 @@ returns c =
     let a2 = a3.before in
     let h = a2.before in
     let a1 = h.before in
-    simp (c.add4.ensures, a3.add3.ensures, a2.add2.ensures, h.ch.ensures, a1.add.ensures, a1.before.big-sigma1.ensures)
+    simp (c.add-4.ensures, a3.add-3.ensures, a2.add-2.ensures, h.ch.ensures, a1.add.ensures, a1.before.big_sigma1.ensures)
 
 pub first_spec : {M : Type 1} → statement M
 first_spec =

@@ -7,24 +7,24 @@ use Rattle.compression.proofs.Sha256Compression.{stepped}
 use Rattle.compression.proofs.sha256.four_rounds.Statement.{statement}
 use Rattle.compression.proofs.sha256.four_rounds.Tie as tie
 
-abbrev invariant-loop : tie.invariant-loop
+abbrev invariant-loop : tie.invariant-loop-j
 invariant-loop k w at i s₀ j₀ j-end s j = (k ≡ constants) × (j-end ≡ i + 4) × Served step at i w (eight s₀) j (eight s)
 
-abbrev decreases-loop : tie.decreases-loop
+abbrev decreases-loop : tie.decreases-loop-j
 decreases-loop k w at i s₀ j₀ j-end s j = i + 4 - j
 
-loop-again : tie.Need-loop-preserved invariant-loop decreases-loop
+loop-again : tie.Need-loop-j-preserved invariant-loop decreases-loop
 loop-again c =
-    let l = c.before.before.before.before.loop in
+    let l = c.before.before.before.before.loop-j in
     let s = eight l.s in
-    let r = eight c.round.result in (
+    let r = eight c.round-s.result in (
       l.invariant.0,
       l.invariant.1,
-      served-more step _ _ _ _ l.j s r (omega arith) l.invariant.2 (stepped _ _ _ s r l.invariant.0 c.round.ensures),
+      served-more step _ _ _ _ l.j s r (omega arith) l.invariant.2 (stepped _ _ _ s r l.invariant.0 c.round-s.ensures),
     )
 
-pub four-rounds-spec : {M : Type 1} → statement M
-four-rounds-spec =
+pub four_rounds_spec : {M : Type 1} → statement M
+four_rounds_spec =
     tie.close
     (tie.spec
     invariant-loop
@@ -40,4 +40,4 @@ four-rounds-spec =
     (λ c. omega arith)
     (λ c. omega arith)
     loop-again
-    (λ c. served-all step _ _ _ _ c.before.loop.j _ (omega arith) c.before.loop.invariant.2))
+    (λ c. served-all step _ _ _ _ c.before.loop-j.j _ (omega arith) c.before.loop-j.invariant.2))

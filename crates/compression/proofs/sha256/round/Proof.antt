@@ -8,10 +8,10 @@ unfolding round
 returns c =
     let a1 = c.before in
     let u = a1.before in
-    simp (c.add2.ensures, a1.add.ensures, u.second.ensures, u.before.first.ensures)
+    simp (c.add-2.ensures, a1.add.ensures, u.second-u.ensures, u.before.first-t.ensures)
 
-pub round-spec : {M : Type 1} → statement M
-round-spec =
+pub round_spec : {M : Type 1} → statement M
+round_spec =
     tie.close
     (tie.spec
     (λ c κs. search rules)

@@ -7,8 +7,8 @@ returns : tie.Need-returns
 unfolding constants
 returns c = refl
 
-pub table-spec : {M : Type 1} → statement M
-table-spec =
+pub table_spec : {M : Type 1} → statement M
+table_spec =
     tie.close
     (tie.spec
     returns)

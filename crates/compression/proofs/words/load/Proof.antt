@@ -5,14 +5,14 @@ use Rattle.compression.proofs.BlockWords.{Loaded, loaded-none, loaded-more, load
 use Rattle.compression.proofs.words.load.Statement.{statement}
 use Rattle.compression.proofs.words.load.Tie as tie
 
-abbrev invariant-loop : tie.invariant-loop
+abbrev invariant-loop : tie.invariant-loop-t
 invariant-loop m w₀ t₀ w t = Loaded get32 m w t
 
-abbrev decreases-loop : tie.decreases-loop
+abbrev decreases-loop : tie.decreases-loop-t
 decreases-loop m w₀ t₀ w t = 16 - t
 
-loop-again : tie.Need-loop-preserved invariant-loop decreases-loop
-loop-again c = let l = c.before.before.loop in loaded-more get32 _ l.w l.t _ (omega arith) l.invariant c.load32.ensures
+loop-again : tie.Need-loop-t-preserved invariant-loop decreases-loop
+loop-again c = let l = c.before.before.loop-t in loaded-more get32 _ l.w l.t _ (omega arith) l.invariant c.load32.ensures
 
 pub load_spec : {M : Type 1} → statement M
 load_spec =
@@ -28,4 +28,4 @@ load_spec =
     (λ c. omega arith)
     (λ c. omega arith)
     loop-again
-    (λ c. let l = c.before.loop in loaded-all get32 _ l.w l.t (omega arith) l.invariant))
+    (λ c. let l = c.before.loop-t in loaded-all get32 _ l.w l.t (omega arith) l.invariant))

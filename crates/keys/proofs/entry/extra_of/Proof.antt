@@ -4,6 +4,6 @@ use Rattle.keys.specs.Entry.{extra}
 use Rattle.keys.proofs.entry.extra_of.Statement.{statement}
 use Rattle.keys.proofs.entry.extra_of.Tie as tie
 
-pub extra-of-spec : {M : Type 1} → statement M
+pub extra_of_spec : {M : Type 1} → statement M
 unfolding extra
-extra-of-spec = tie.close (tie.spec (λ c. refl))
+extra_of_spec = tie.close (tie.spec (λ c. refl))

@@ -9,8 +9,8 @@ returns c =
     let a = c.before.before.before.before.before.args in
     laid-whole 80 a.at a.e.now _ c.before.before.before.before.before.requires c.before.copy_at.ensures
 
-pub key-at-spec : {M : Type 1} → statement M
-key-at-spec =
+pub key_at_spec : {M : Type 1} → statement M
+key_at_spec =
     tie.close
     (tie.spec
     (λ c. search rules)

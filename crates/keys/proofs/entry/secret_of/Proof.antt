@@ -6,23 +6,23 @@ use Rattle.keys.specs.Entry.{secret_of_lem}
 use Rattle.keys.proofs.entry.secret_of.Statement.{statement}
 use Rattle.keys.proofs.entry.secret_of.Tie as tie
 
-add_at : tie.Need-overflow-add-at
-add_at c = omega (arith, c.before.sides-end.ensures, c.extra-of.ensures, room _ _ c.before.before.before.before.requires)
+add_at : tie.Need-overflow_add-at
+add_at c = omega (arith, c.before.sides_end.ensures, c.extra_of.ensures, room _ _ c.before.before.before.before.requires)
 
-add-key-at : tie.Need-overflow-add-key-at
-add-key-at c = omega (arith, c.before.sides-end.ensures, c.extra-of.ensures, room _ _ c.before.before.before.before.requires)
+add-key_at : tie.Need-overflow_add-at-2
+add-key_at c = omega (arith, c.before.sides_end.ensures, c.extra_of.ensures, room _ _ c.before.before.before.before.requires)
 
-key-at-requires : tie.Need-key-at-requires
-key-at-requires c κs = omega (arith, c.before.sides-end.ensures, c.extra-of.ensures, room _ _ c.before.before.before.before.requires)
+key_at-requires : tie.Need-key_at-k-requires
+key_at-requires c κs = omega (arith, c.before.sides_end.ensures, c.extra_of.ensures, room _ _ c.before.before.before.before.requires)
 
-read_length : tie.Need-shared-slice-read-t14
+read_length : tie.Need-bounds-e-at
 read_length c =
     let x = c.before.before.before.before.before in
-    omega (arith, x.before.sides-end.ensures, x.extra-of.ensures, room _ _ x.before.before.before.before.requires)
+    omega (arith, x.before.sides_end.ensures, x.extra_of.ensures, room _ _ x.before.before.before.before.requires)
 
-pub secret-of-spec : {M : Type 1} → statement M
+pub secret_of_spec : {M : Type 1} → statement M
 unfolding secret_of_lem
-secret-of-spec =
+secret_of_spec =
     tie.close
     (tie.spec
     (λ c. search rules)
@@ -30,8 +30,8 @@ secret-of-spec =
     (λ c κs. search rules)
     (λ c. search rules)
     add_at
-    add-key-at
-    key-at-requires
+    add-key_at
+    key_at-requires
     (λ c. omega (arith, room _ _ c.before.before.before.before.before.before.requires))
     (λ c. omega (arith, room _ _ c.before.before.before.before.before.before.before.requires))
     (λ c κs. search rules)

@@ -8,12 +8,12 @@ use Rattle.keys.specs.Entry.{width}
 use Rattle.keys.proofs.entry.sides_end.Statement.{statement}
 use Rattle.keys.proofs.entry.sides_end.Tie as tie
 
-pub sides-end-spec : {M : Type 1} → statement M
-sides-end-spec =
+pub sides_end_spec : {M : Type 1} → statement M
+sides_end_spec =
     tie.close
     (tie.spec
     (λ c κs. search rules)
     (λ c κs. search rules)
-    (λ c. omega (arith, width-by _ _ c.width_of_lem.ensures))
-    (λ c. omega (arith, width-by _ _ c.width_of_lem.ensures))
-    (λ c. ap (λ (w : ℕ). 15 + 2 * w) (c.width_of_lem.ensures ∙ ap width c.before.family-of.ensures)))
+    (λ c. omega (arith, width-by _ _ c.width_of.ensures))
+    (λ c. omega (arith, width-by _ _ c.width_of.ensures))
+    (λ c. ap (λ (w : ℕ). 15 + 2 * w) (c.width_of.ensures ∙ ap width c.before.family_of.ensures)))

@@ -6,24 +6,24 @@ use Rattle.keys.specs.Table.{number_of}
 use Rattle.keys.proofs.faults.key_number.Statement.{statement}
 use Rattle.keys.proofs.faults.key_number.Tie as tie
 
-returns : tie.Need-returns
+returns : tie.Need-returns-then-s-lt1
 unfolding number_of
-returns c = simp (lt-ltb _ _ c.if1.true)
+returns c = simp (lt-ltb _ _ c.if-s-lt1.true)
 
-returns-2 : tie.Need-returns-2
+returns-2 : tie.Need-returns-then-s-gt80
 unfolding number_of
-returns-2 c = simp (le-ltb _ _ c.before.before.if1.false, lt-ltb _ _ c.if2.true)
+returns-2 c = simp (le-ltb _ _ c.before.before.if-s-lt1.false, lt-ltb _ _ c.if-s-gt80.true)
 
-returns-3 : tie.Need-returns-3
+returns-3 : tie.Need-returns-then-not-zero_from
 unfolding number_of
-returns-3 c = simp (le-ltb _ _ c.before.before.before.before.before.before.before.if1.false, le-ltb _ _ c.before.before.before.before.before.if2.false, sym c.before.zero-from.ensures ∙ not-true _ c.if3.true)
+returns-3 c = simp (le-ltb _ _ c.before.before.before.before.before.before.before.if-s-lt1.false, le-ltb _ _ c.before.before.before.before.before.if-s-gt80.false, sym c.before.zero_from.ensures ∙ not-true _ c.if-not-zero_from.true-raw)
 
-returns-4 : tie.Need-returns-4
+returns-4 : tie.Need-returns
 unfolding number_of
-returns-4 c = simp (le-ltb _ _ c.before.before.before.before.before.before.before.if1.false, le-ltb _ _ c.before.before.before.before.before.if2.false, sym c.before.zero-from.ensures ∙ not-false _ c.if3.false)
+returns-4 c = simp (le-ltb _ _ c.before.before.before.before.before.before.before.if-s-lt1.false, le-ltb _ _ c.before.before.before.before.before.if-s-gt80.false, sym c.before.zero_from.ensures ∙ not-false _ c.if-not-zero_from.false-raw)
 
-pub key-number-spec : {M : Type 1} → statement M
-key-number-spec =
+pub key_number_spec : {M : Type 1} → statement M
+key_number_spec =
     tie.close
     (tie.spec
     returns

@@ -4,17 +4,17 @@ use Rattle.keys.specs.Table.{number_of}
 use Rattle.keys.proofs.faults.port_number.Statement.{statement}
 use Rattle.keys.proofs.faults.port_number.Tie as tie
 
-returns : tie.Need-returns
+returns : tie.Need-returns-then-local
 unfolding number_of
-returns c = simp (lt-ltb _ _ c.if1.true)
+returns c = simp (lt-ltb _ _ c.if-local.true)
 
-returns-2 : tie.Need-returns-2
+returns-2 : tie.Need-returns-then-remote
 unfolding number_of
-returns-2 c = simp (le-ltb _ _ c.before.before.if1.false, lt-ltb _ _ c.if2.true)
+returns-2 c = simp (le-ltb _ _ c.before.before.if-local.false, lt-ltb _ _ c.if-remote.true)
 
-returns-3 : tie.Need-returns-3
+returns-3 : tie.Need-returns
 unfolding number_of
-returns-3 c = simp (le-ltb _ _ c.before.before.if1.false, le-ltb _ _ c.if2.false)
+returns-3 c = simp (le-ltb _ _ c.before.before.if-local.false, le-ltb _ _ c.if-remote.false)
 
-pub port-number-spec : {M : Type 1} → statement M
-port-number-spec = tie.close (tie.spec returns returns-2 returns-3)
+pub port_number_spec : {M : Type 1} → statement M
+port_number_spec = tie.close (tie.spec returns returns-2 returns-3)

@@ -10,17 +10,17 @@ use Rattle.keys.specs.Table.{zeros}
 use Rattle.keys.proofs.faults.zero_from.Statement.{statement}
 use Rattle.keys.proofs.faults.zero_from.Tie as tie
 
-abbrev invariant-loop : tie.invariant-loop
+abbrev invariant-loop : tie.invariant-loop-i
 invariant-loop s n set₀ i₀ set i = (eqb set 0 && zeros (drop i s)) ≡ zeros (drop n s)
 
-abbrev decreases-loop : tie.decreases-loop
+abbrev decreases-loop : tie.decreases-loop-i
 decreases-loop s n set₀ i₀ set i = length s - i
 
-loop-again : tie.Need-loop-preserved invariant-loop decreases-loop
-loop-again c = let l = c.before.before.loop in zeros-more _ l.i l.set _ c.before.loop-test.true l.invariant
+loop-again : tie.Need-loop-i-preserved invariant-loop decreases-loop
+loop-again c = let l = c.before.before.loop-i in zeros-more _ l.i l.set _ c.before.loop-i-test.true l.invariant
 
 returns : tie.Need-returns invariant-loop decreases-loop
-returns c = zeros-end _ c.before.loop.i c.before.loop.set _ c.loop-test.false c.before.loop.invariant
+returns c = zeros-end _ c.before.loop-i.i c.before.loop-i.set _ c.loop-i-test.false c.before.loop-i.invariant
 
-pub zero-from-spec : {M : Type 1} → statement M
-zero-from-spec = tie.close (tie.spec invariant-loop decreases-loop (λ c. refl) (λ c. search rules) (λ c. search rules) (λ c. search rules) loop-again returns)
+pub zero_from_spec : {M : Type 1} → statement M
+zero_from_spec = tie.close (tie.spec invariant-loop decreases-loop (λ c. refl) (λ c. search rules) (λ c. search rules) (λ c. search rules) loop-again returns)

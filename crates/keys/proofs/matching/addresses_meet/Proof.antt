@@ -8,10 +8,10 @@ returns : tie.Need-returns
 returns c =
     let a = c.before.before.before.before.before.before.before.before.before.before.args in
     addresses-by a.e.now _ a.at a.b _ _ _ _ _
-    c.before.before.before.before.before.before.before.width_of_lem.ensures c.before.before.before.before.before.fixed-bits.ensures c.before.before.before.before.fixed-bits2.ensures c.before.before.before.shorter.ensures c.agrees.ensures
+    c.before.before.before.before.before.before.before.width_of.ensures c.before.before.before.before.before.fixed_bits-x.ensures c.before.before.before.before.fixed_bits.ensures c.before.before.before.shorter-n.ensures c.agrees.ensures
 
-pub addresses-meet-spec : {M : Type 1} → statement M
-addresses-meet-spec =
+pub addresses_meet_spec : {M : Type 1} → statement M
+addresses_meet_spec =
     tie.close
     (tie.spec
     (λ c κs. search rules)

@@ -5,12 +5,12 @@ use Rattle.keys.specs.Entry.{width}
 use Rattle.keys.proofs.matching.fixed_bits.Statement.{statement}
 use Rattle.keys.proofs.matching.fixed_bits.Tie as tie
 
-pub fixed-bits-spec : {M : Type 1} → statement M
+pub fixed_bits_spec : {M : Type 1} → statement M
 unfolding width
-fixed-bits-spec =
+fixed_bits_spec =
     tie.close
     (tie.spec
     (λ c κs. search rules)
     (λ c κs. search rules)
-    (λ c. rw (eq-eqb _ _ c.before.if1.true) c.shorter.ensures)
-    (λ c. rw (ne_eqb _ _ c.before.if1.false) c.shorter2.ensures))
+    (λ c. rw (eq-eqb _ _ c.before.if-family-eq4.true) c.shorter.ensures)
+    (λ c. rw (ne_eqb _ _ c.before.if-family-eq4.false) c.shorter-else-family-eq4.ensures))

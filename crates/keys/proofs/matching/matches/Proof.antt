@@ -7,19 +7,19 @@ use Rattle.keys.specs.Match.{matches}
 use Rattle.keys.proofs.matching.matches.Statement.{statement}
 use Rattle.keys.proofs.matching.matches.Tie as tie
 
-returns : tie.Need-returns
+returns : tie.Need-returns-then-s-p
 unfolding matches
-returns c = simp (ne_eqb _ _ c.if1.true)
+returns c = simp (ne_eqb _ _ c.if-s-p.true)
 
-returns-2 : tie.Need-returns-2
+returns-2 : tie.Need-returns-then-not-side_holds
 unfolding matches
-returns-2 c = simp (eq-eqb _ _ c.before.before.before.if1.false, sym c.before.side-holds.ensures ∙ not-true _ c.if2.true)
+returns-2 c = simp (eq-eqb _ _ c.before.before.before.if-s-p.false, sym c.before.side_holds.ensures ∙ not-true _ c.if-not-side_holds.true-raw)
 
-returns-3 : tie.Need-returns-3
+returns-3 : tie.Need-returns
 unfolding matches
 returns-3 c =
-    simp (eq-eqb _ _ c.before.before.before.before.before.if1.false, sym c.before.before.before.side-holds.ensures ∙ not-false _ c.before.before.if2.false, and_last)
-    c.side-holds2.ensures
+    simp (eq-eqb _ _ c.before.before.before.before.before.if-s-p.false, sym c.before.before.before.side_holds.ensures ∙ not-false _ c.before.before.if-not-side_holds.false-raw, and_last)
+    c.side_holds-2.ensures
 
-pub matches-spec : {M : Type 1} → statement M
-matches-spec = tie.close (tie.spec returns (λ c κs. search rules) returns-2 (λ c κs. search rules) returns-3)
+pub matches_spec : {M : Type 1} → statement M
+matches_spec = tie.close (tie.spec returns (λ c κs. search rules) returns-2 (λ c κs. search rules) returns-3)

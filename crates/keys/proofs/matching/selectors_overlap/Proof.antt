@@ -7,19 +7,19 @@ use Rattle.keys.specs.Match.{overlap}
 use Rattle.keys.proofs.matching.selectors_overlap.Statement.{statement}
 use Rattle.keys.proofs.matching.selectors_overlap.Tie as tie
 
-returns : tie.Need-returns
+returns : tie.Need-returns-then-a-b
 unfolding overlap
-returns c = simp (ne_eqb _ _ c.if1.true)
+returns c = simp (ne_eqb _ _ c.if-a-b.true)
 
-returns-2 : tie.Need-returns-2
+returns-2 : tie.Need-returns-then-not-sides_meet
 unfolding overlap
-returns-2 c = simp (eq-eqb _ _ c.before.before.if1.false, sym c.before.sides-meet.ensures ∙ not-true _ c.if2.true)
+returns-2 c = simp (eq-eqb _ _ c.before.before.if-a-b.false, sym c.before.sides_meet.ensures ∙ not-true _ c.if-not-sides_meet.true-raw)
 
-returns-3 : tie.Need-returns-3
+returns-3 : tie.Need-returns
 unfolding overlap
 returns-3 c =
-    simp (eq-eqb _ _ c.before.before.before.if1.false, sym c.before.before.sides-meet.ensures ∙ not-false _ c.before.if2.false, and_last)
-    c.sides-meet2.ensures
+    simp (eq-eqb _ _ c.before.before.before.if-a-b.false, sym c.before.before.sides_meet.ensures ∙ not-false _ c.before.if-not-sides_meet.false-raw, and_last)
+    c.sides_meet-2.ensures
 
-pub selectors-overlap-spec : {M : Type 1} → statement M
-selectors-overlap-spec = tie.close (tie.spec returns (λ c κs. search rules) returns-2 (λ c κs. search rules) returns-3)
+pub selectors_overlap_spec : {M : Type 1} → statement M
+selectors_overlap_spec = tie.close (tie.spec returns (λ c κs. search rules) returns-2 (λ c κs. search rules) returns-3)

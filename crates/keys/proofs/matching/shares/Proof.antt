@@ -4,10 +4,10 @@ use Rattle.keys.specs.Match.{share}
 use Rattle.keys.proofs.matching.shares.Statement.{statement}
 use Rattle.keys.proofs.matching.shares.Tie as tie
 
-pub shares-spec : {M : Type 1} → statement M
+pub shares_spec : {M : Type 1} → statement M
 unfolding share
-shares-spec =
+shares_spec =
     tie.close
     (tie.spec
-    (λ c. simp (eq-eqb _ _ c.if1.true))
-    (λ c. simp (ne_eqb _ _ c.before.before.if1.false)))
+    (λ c. simp (eq-eqb _ _ c.if-a-b.true))
+    (λ c. simp (ne_eqb _ _ c.before.before.if-a-b.false)))

@@ -6,22 +6,22 @@ use Rattle.keys.specs.Match.{holds}
 use Rattle.keys.proofs.matching.side_holds.Statement.{statement}
 use Rattle.keys.proofs.matching.side_holds.Tie as tie
 
-returns : tie.Need-returns
+returns : tie.Need-returns-then-port-s
 unfolding holds
-returns c = simp (lt-leb _ _ c.if1.true)
+returns c = simp (lt-leb _ _ c.if-port-s.true)
 
-returns-2 : tie.Need-returns-2
+returns-2 : tie.Need-returns-then-s-port
 unfolding holds
-returns-2 c = simp (le-leb _ _ c.before.before.if1.false, lt-leb _ _ c.if2.true)
+returns-2 c = simp (le-leb _ _ c.before.before.if-port-s.false, lt-leb _ _ c.if-s-port.true)
 
-returns-3 : tie.Need-returns-3
+returns-3 : tie.Need-returns
 unfolding holds
 returns-3 c =
-    simp (le-leb _ _ c.before.before.before.before.before.before.before.if1.false, le-leb _ _ c.before.before.before.before.before.if2.false, and_last)
-    (agree-by _ _ _ _ _ c.agrees.ensures c.before.before.before.fixed-bits.ensures)
+    simp (le-leb _ _ c.before.before.before.before.before.before.before.if-port-s.false, le-leb _ _ c.before.before.before.before.before.if-s-port.false, and_last)
+    (agree-by _ _ _ _ _ c.agrees.ensures c.before.before.before.fixed_bits-n.ensures)
 
-pub side-holds-spec : {M : Type 1} → statement M
-side-holds-spec =
+pub side_holds_spec : {M : Type 1} → statement M
+side_holds_spec =
     tie.close
     (tie.spec
     returns

@@ -11,43 +11,43 @@ use Rattle.keys.specs.declared.entry.Selector.{Selector}
 use Rattle.keys.proofs.table.answers_at.Statement.{statement}
 use Rattle.keys.proofs.table.answers_at.Tie as tie
 
-ids-of-requires : tie.Need-ids-of-requires
-ids-of-requires c κs =
+ids_of-requires : tie.Need-ids_of-requires
+ids_of-requires c κs =
     let a = c.before.before.args in
     tail-whole a.table.now a.at c.before.before.requires
 
-returns : tie.Need-returns
+returns : tie.Need-returns-then-not-has_id
 unfolding answers
 returns c =
     let a = c.before.before.before.before.before.args in
-    and_no _ _ _ (c.before.has-id.ensures ∙ ap (λ (x : Ids). has_id_of a.by x) (ids_at a.table.now a.at _ c.before.before.ids-of.ensures)) (not-true _ c.if1.true)
+    and_no _ _ _ (c.before.has_id.ensures ∙ ap (λ (x : Ids). has_id_of a.by x) (ids_at a.table.now a.at _ c.before.before.ids_of.ensures)) (not-true _ c.if-not-has_id.true-raw)
 
-selector-of-requires : tie.Need-selector-of-requires
-selector-of-requires c κs =
+selector_of-requires : tie.Need-selector_of-requires
+selector_of-requires c κs =
     let a = c.before.before.before.before.before.before.args in
     tail-whole a.table.now a.at c.before.before.before.before.before.before.requires
 
-returns-2 : tie.Need-returns-2
+returns-2 : tie.Need-returns
 unfolding answers
 returns-2 c =
     let a = c.before.before.before.before.before.before.before.before.args in
-    and_yes _ _ _ _ (c.before.before.before.before.has-id.ensures ∙ ap (λ (x : Ids). has_id_of a.by x) (ids_at a.table.now a.at _ c.before.before.before.before.before.ids-of.ensures))
-    (not-false _ c.before.before.before.if1.false)
-    (c.matches.ensures ∙ ap (λ (x : Selector). matches x a.pair) (selector-at a.table.now a.at _ c.before.selector-of.ensures))
+    and_yes _ _ _ _ (c.before.before.before.before.has_id.ensures ∙ ap (λ (x : Ids). has_id_of a.by x) (ids_at a.table.now a.at _ c.before.before.before.before.before.ids_of.ensures))
+    (not-false _ c.before.before.before.if-not-has_id.false-raw)
+    (c.matches.ensures ∙ ap (λ (x : Selector). matches x a.pair) (selector-at a.table.now a.at _ c.before.selector_of.ensures))
 
-pub answers-at-spec : {M : Type 1} → statement M
-answers-at-spec =
+pub answers_at_spec : {M : Type 1} → statement M
+answers_at_spec =
     tie.close
     (tie.spec
     (λ c. search rules)
     (λ c. search rules)
     (λ c. search rules)
-    ids-of-requires
+    ids_of-requires
     (λ c κs. search rules)
     returns
     (λ c. search rules)
     (λ c. search rules)
     (λ c. search rules)
-    selector-of-requires
+    selector_of-requires
     (λ c κs. search rules)
     returns-2)

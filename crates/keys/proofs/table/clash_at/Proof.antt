@@ -10,36 +10,36 @@ use Rattle.keys.specs.declared.entry.Selector.{Selector}
 use Rattle.keys.proofs.table.clash_at.Statement.{statement}
 use Rattle.keys.proofs.table.clash_at.Tie as tie
 
-ids-of-requires : tie.Need-ids-of-requires
-ids-of-requires c κs =
+ids_of-requires : tie.Need-ids_of-requires
+ids_of-requires c κs =
     let a = c.before.before.args in
     tail-whole a.table.now a.at c.before.before.requires
 
-returns : tie.Need-returns
+returns : tie.Need-returns-then-not-shares
 returns c =
     let a = c.before.before.before.before.before.args in
-    and_no _ _ _ (c.before.shares.ensures ∙ ap (λ (x : Ids). share x a.ids) (ids_at a.table.now a.at _ c.before.before.ids-of.ensures)) (not-true _ c.if1.true)
+    and_no _ _ _ (c.before.shares.ensures ∙ ap (λ (x : Ids). share x a.ids) (ids_at a.table.now a.at _ c.before.before.ids_of.ensures)) (not-true _ c.if-not-shares.true-raw)
 
 overlaps-requires : tie.Need-overlaps-requires
 overlaps-requires c κs =
     let a = c.before.before.before.before.before.before.args in
     tail-whole a.table.now a.at c.before.before.before.before.before.before.requires
 
-returns-2 : tie.Need-returns-2
+returns-2 : tie.Need-returns
 returns-2 c =
     let a = c.before.before.before.before.before.before.before.args in
-    and_yes _ _ _ _ (c.before.before.before.shares.ensures ∙ ap (λ (x : Ids). share x a.ids) (ids_at a.table.now a.at _ c.before.before.before.before.ids-of.ensures))
-    (not-false _ c.before.before.if1.false)
+    and_yes _ _ _ _ (c.before.before.before.shares.ensures ∙ ap (λ (x : Ids). share x a.ids) (ids_at a.table.now a.at _ c.before.before.before.before.ids_of.ensures))
+    (not-false _ c.before.before.if-not-shares.false-raw)
     (c.overlaps.ensures ∙ ap (λ (x : Selector). overlap x a.selector) (selector-at a.table.now a.at _ refl))
 
-pub clash-at-spec : {M : Type 1} → statement M
-clash-at-spec =
+pub clash_at_spec : {M : Type 1} → statement M
+clash_at_spec =
     tie.close
     (tie.spec
     (λ c. search rules)
     (λ c. search rules)
     (λ c. search rules)
-    ids-of-requires
+    ids_of-requires
     (λ c κs. search rules)
     returns
     (λ c. search rules)

@@ -7,23 +7,23 @@ use native.Mathlib.Omega.{arith}
 use Rattle.keys.proofs.table.count.Statement.{statement}
 use Rattle.keys.proofs.table.count.Tie as tie
 
-abbrev invariant-loop : tie.invariant-loop
+abbrev invariant-loop : tie.invariant-loop-at
 invariant-loop table at₀ i₀ at i = Counting table i at
 
-abbrev decreases-loop : tie.decreases-loop
+abbrev decreases-loop : tie.decreases-loop-at
 decreases-loop table at₀ i₀ at i = length table - at
 
-returns : tie.Need-returns invariant-loop decreases-loop
-returns c = count_cut c.before.before.before.loop.invariant _ c.before.size-at.ensures c.if1.true
+returns : tie.Need-returns-then-n-eq0 invariant-loop decreases-loop
+returns c = count_cut c.before.before.before.loop-at.invariant _ c.before.size_at-n.ensures c.if-n-eq0.true
 
-add_at : tie.Need-overflow-add-at invariant-loop decreases-loop
-add_at c = omega (arith, count-step c.before.before.before.loop.invariant _ c.before.size-at.ensures c.if1.false)
+add_at : tie.Need-overflow_add-at invariant-loop decreases-loop
+add_at c = omega (arith, count-step c.before.before.before.loop-at.invariant _ c.before.size_at-n.ensures c.if-n-eq0.false)
 
-loop-less : tie.Need-loop-smaller invariant-loop decreases-loop
-loop-less c = omega (arith, count-step c.before.before.before.loop.invariant _ c.before.size-at.ensures c.if1.false)
+loop-less : tie.Need-loop-at-smaller invariant-loop decreases-loop
+loop-less c = omega (arith, count-step c.before.before.before.loop-at.invariant _ c.before.size_at-n.ensures c.if-n-eq0.false)
 
-loop-again : tie.Need-loop-preserved invariant-loop decreases-loop
-loop-again c = count_next c.before.before.before.loop.invariant _ c.before.size-at.ensures c.if1.false
+loop-again : tie.Need-loop-at-preserved invariant-loop decreases-loop
+loop-again c = count_next c.before.before.before.loop-at.invariant _ c.before.size_at-n.ensures c.if-n-eq0.false
 
 pub count_spec : {M : Type 1} → statement M
 count_spec =
@@ -38,4 +38,4 @@ count_spec =
     (λ c. search rules)
     loop-less
     loop-again
-    (λ c. count-over c.before.loop.invariant c.loop-test.false))
+    (λ c. count-over c.before.loop-at.invariant c.loop-at-test.false))

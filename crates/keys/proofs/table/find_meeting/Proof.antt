@@ -10,51 +10,51 @@ use native.Mathlib.Omega.{arith}
 use Rattle.keys.proofs.table.find_meeting.Statement.{statement}
 use Rattle.keys.proofs.table.find_meeting.Tie as tie
 
-abbrev invariant-loop : tie.invariant-loop
+abbrev invariant-loop : tie.invariant-loop-at
 invariant-loop table others at₀ i₀ at i = Seeking table (meets_any_of (entries others)) i at
 
-abbrev decreases-loop : tie.decreases-loop
+abbrev decreases-loop : tie.decreases-loop-at
 decreases-loop table others at₀ i₀ at i = length table - at
 
-returns : tie.Need-returns invariant-loop decreases-loop
-returns c = place-by _ _ (seek-cut c.before.before.before.loop.invariant _ c.before.size-at.ensures c.if1.true nobody refl)
+returns : tie.Need-returns-then-n-eq0 invariant-loop decreases-loop
+returns c = place-by _ _ (seek-cut c.before.before.before.loop-at.invariant _ c.before.size_at-n.ensures c.if-n-eq0.true nobody refl)
 
-selector-of-requires : tie.Need-selector-of-requires invariant-loop decreases-loop
-selector-of-requires c κs =
+selector_of-requires : tie.Need-selector_of-requires invariant-loop decreases-loop
+selector_of-requires c κs =
     let a = c.before.before.before.before.before.before.before.args in
-    let l = c.before.before.before.before.loop in
-    tail-whole a.table.now l.at (seek-inside l.invariant _ c.before.before.size-at.ensures c.before.if1.false)
+    let l = c.before.before.before.before.loop-at in
+    tail-whole a.table.now l.at (seek-inside l.invariant _ c.before.before.size_at-n.ensures c.before.if-n-eq0.false)
 
-returns-2 : tie.Need-returns-2 invariant-loop decreases-loop
+returns-2 : tie.Need-returns-then-meets_any invariant-loop decreases-loop
 returns-2 c =
     let a = c.before.before.before.before.before.before.before.before.before.before.args in
-    let l = c.before.before.before.before.before.before.before.loop in
+    let l = c.before.before.before.before.before.before.before.loop-at in
     ap place_of
-    (seek_hit l.invariant _ c.before.before.before.before.before.size-at.ensures c.before.before.before.before.if1.false
-    _ (meets-any-at a.table.now l.at (entries a.others.now) _ _ c.before.before.selector-of.ensures c.before.Meets-any.ensures) c.if2.true _ refl)
+    (seek_hit l.invariant _ c.before.before.before.before.before.size_at-n.ensures c.before.before.before.before.if-n-eq0.false
+    _ (meets-any-at a.table.now l.at (entries a.others.now) _ _ c.before.before.selector_of.ensures c.before.meets_any.ensures) c.if-meets_any.true _ refl)
 
-add_at : tie.Need-overflow-add-at invariant-loop decreases-loop
+add_at : tie.Need-overflow_add-at invariant-loop decreases-loop
 add_at c =
-    let l = c.before.before.before.before.before.before.before.loop in
-    omega (arith, seek-step l.invariant _ c.before.before.before.before.before.size-at.ensures c.before.before.before.before.if1.false)
+    let l = c.before.before.before.before.before.before.before.loop-at in
+    omega (arith, seek-step l.invariant _ c.before.before.before.before.before.size_at-n.ensures c.before.before.before.before.if-n-eq0.false)
 
-loop-less : tie.Need-loop-smaller invariant-loop decreases-loop
+loop-less : tie.Need-loop-at-smaller invariant-loop decreases-loop
 loop-less c =
-    let l = c.before.before.before.before.before.before.before.loop in
-    omega (arith, seek-step l.invariant _ c.before.before.before.before.before.size-at.ensures c.before.before.before.before.if1.false)
+    let l = c.before.before.before.before.before.before.before.loop-at in
+    omega (arith, seek-step l.invariant _ c.before.before.before.before.before.size_at-n.ensures c.before.before.before.before.if-n-eq0.false)
 
-loop-again : tie.Need-loop-preserved invariant-loop decreases-loop
+loop-again : tie.Need-loop-at-preserved invariant-loop decreases-loop
 loop-again c =
     let a = c.before.before.before.before.before.before.before.before.before.before.args in
-    let l = c.before.before.before.before.before.before.before.loop in
-    seek-next l.invariant _ c.before.before.before.before.before.size-at.ensures c.before.before.before.before.if1.false
-    _ (meets-any-at a.table.now l.at (entries a.others.now) _ _ c.before.before.selector-of.ensures c.before.Meets-any.ensures) c.if2.false
+    let l = c.before.before.before.before.before.before.before.loop-at in
+    seek-next l.invariant _ c.before.before.before.before.before.size_at-n.ensures c.before.before.before.before.if-n-eq0.false
+    _ (meets-any-at a.table.now l.at (entries a.others.now) _ _ c.before.before.selector_of.ensures c.before.meets_any.ensures) c.if-meets_any.false
 
-returns-3 : tie.Need-returns-3 invariant-loop decreases-loop
-returns-3 c = place-by _ _ (seek-over c.before.loop.invariant c.loop-test.false nobody refl)
+returns-3 : tie.Need-returns invariant-loop decreases-loop
+returns-3 c = place-by _ _ (seek-over c.before.loop-at.invariant c.loop-at-test.false nobody refl)
 
-pub find-meeting-spec : {M : Type 1} → statement M
-find-meeting-spec =
+pub find_meeting_spec : {M : Type 1} → statement M
+find_meeting_spec =
     tie.close
     (tie.spec
     invariant-loop
@@ -65,7 +65,7 @@ find-meeting-spec =
     (λ c. search rules)
     (λ c. search rules)
     (λ c. search rules)
-    selector-of-requires
+    selector_of-requires
     (λ c κs. search rules)
     returns-2
     add_at

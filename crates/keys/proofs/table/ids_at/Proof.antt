@@ -9,9 +9,9 @@ returns : tie.Need-returns
 unfolding ids_of
 returns c =
     let a = c.before.before.before.before.before.args in
-    ids_at a.table.now a.at _ (λ i. record { send = c.before.before.byte_at.ensures i; recv = c.byte-at2.ensures i })
+    ids_at a.table.now a.at _ (λ i. record { send = c.before.before.byte_at.ensures i; recv = c.byte_at-2.ensures i })
 
-pub ids-at-spec : {M : Type 1} → statement M
-ids-at-spec =
+pub ids_at_spec : {M : Type 1} → statement M
+ids_at_spec =
     tie.close
     (tie.spec (λ c. search rules) (λ c. search rules) (λ c. search rules) (λ c κs. search rules) (λ c. search rules) (λ c. search rules) (λ c. search rules) (λ c κs. search rules) returns)

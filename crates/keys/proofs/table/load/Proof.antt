@@ -8,53 +8,53 @@ use native.Mathlib.Omega.{arith}
 use Rattle.keys.proofs.table.load.Statement.{statement}
 use Rattle.keys.proofs.table.load.Tie as tie
 
-abbrev invariant-loop : tie.invariant-loop
+abbrev invariant-loop : tie.invariant-loop-at
 invariant-loop table limit kind sends₀ recvs₀ at₀ i₀ sends recvs at i = Loading table kind limit sends recvs at i
 
-abbrev decreases-loop : tie.decreases-loop
+abbrev decreases-loop : tie.decreases-loop-at
 decreases-loop table limit kind sends₀ recvs₀ at₀ i₀ sends recvs at i = length table - at
 
-returns : tie.Need-returns invariant-loop decreases-loop
-returns c = walk-full c.before.before.loop.invariant.walking c.before.loop-test.true c.if1.true
+returns : tie.Need-returns-then-i-limit invariant-loop decreases-loop
+returns c = walk-full c.before.before.loop-at.invariant.walking c.before.loop-at-test.true c.if-i-limit.true
 
-returns-2 : tie.Need-returns-2 invariant-loop decreases-loop
+returns-2 : tie.Need-returns-then-n-ne0 invariant-loop decreases-loop
 returns-2 c =
     let b = c.before.before.before.before.before in
-    load-refused b.before.before.before.loop.invariant _ b.ids_at.ensures _ c.before.before.to-compare.ensures _ c.before.number_at.ensures
-    b.before.before.loop-test.true b.before.if1.false c.if2.true
+    load-refused b.before.before.before.loop-at.invariant _ b.ids_at-ids.ensures _ c.before.before.to_compare.ensures _ c.before.number_at-n.ensures
+    b.before.before.loop-at-test.true b.before.if-i-limit.false c.if-n-ne0.true
 
-array-write-sends : tie.Need-array-write-sends invariant-loop decreases-loop
-array-write-sends c = search rules
+array_write-sends : tie.Need-bounds-sends-ids invariant-loop decreases-loop
+array_write-sends c = search rules
 
-array-write-recvs : tie.Need-array-write-recvs invariant-loop decreases-loop
-array-write-recvs c = search rules
+array_write-recvs : tie.Need-bounds-recvs-ids invariant-loop decreases-loop
+array_write-recvs c = search rules
 
-add_at : tie.Need-overflow-add-at invariant-loop decreases-loop
+add_at : tie.Need-overflow_add-at invariant-loop decreases-loop
 add_at c =
     let d = c.before.before.before in
     let b = d.before.before.before.before.before in
-    omega (arith, load_step b.before.before.before.loop.invariant _ b.ids_at.ensures _ d.before.before.to-compare.ensures _ d.before.number_at.ensures _ d.if2.false c.size-at.ensures)
+    omega (arith, load_step b.before.before.before.loop-at.invariant _ b.ids_at-ids.ensures _ d.before.before.to_compare.ensures _ d.before.number_at-n.ensures _ d.if-n-ne0.false c.size_at-at.ensures)
 
-add-i : tie.Need-overflow-add-i invariant-loop decreases-loop
+add-i : tie.Need-overflow_add-i invariant-loop decreases-loop
 add-i c =
-    let l = c.before.before.before.before.before.before.before.before.before.before.before.loop in
+    let l = c.before.before.before.before.before.before.before.before.before.before.before.loop-at in
     omega (arith, l.invariant.walking.counted)
 
-loop-less : tie.Need-loop-smaller invariant-loop decreases-loop
+loop-less : tie.Need-loop-at-smaller invariant-loop decreases-loop
 loop-less c =
     let d = c.before.before.before in
     let b = d.before.before.before.before.before in
-    omega (arith, load_step b.before.before.before.loop.invariant _ b.ids_at.ensures _ d.before.before.to-compare.ensures _ d.before.number_at.ensures _ d.if2.false c.size-at.ensures)
+    omega (arith, load_step b.before.before.before.loop-at.invariant _ b.ids_at-ids.ensures _ d.before.before.to_compare.ensures _ d.before.number_at-n.ensures _ d.if-n-ne0.false c.size_at-at.ensures)
 
-loop-again : tie.Need-loop-preserved invariant-loop decreases-loop
+loop-again : tie.Need-loop-at-preserved invariant-loop decreases-loop
 loop-again c =
     let d = c.before.before.before in
     let b = d.before.before.before.before.before in
-    load-next b.before.before.before.loop.invariant _ b.ids_at.ensures _ d.before.before.to-compare.ensures _ d.before.number_at.ensures
-    _ b.before.before.loop-test.true b.before.if1.false d.if2.false c.size-at.ensures (array-write-sends c.before.before) (array-write-recvs c.before)
+    load-next b.before.before.before.loop-at.invariant _ b.ids_at-ids.ensures _ d.before.before.to_compare.ensures _ d.before.number_at-n.ensures
+    _ b.before.before.loop-at-test.true b.before.if-i-limit.false d.if-n-ne0.false c.size_at-at.ensures (array_write-sends c.before.before) (array_write-recvs c.before)
 
-returns-3 : tie.Need-returns-3 invariant-loop decreases-loop
-returns-3 c = walk-done c.before.loop.invariant.walking c.loop-test.false
+returns-3 : tie.Need-returns invariant-loop decreases-loop
+returns-3 c = walk-done c.before.loop-at.invariant.walking c.loop-at-test.false
 
 pub load_spec : {M : Type 1} → statement M
 load_spec =
@@ -69,9 +69,9 @@ load_spec =
     (λ c κs. search rules)
     returns-2
     (λ c. search rules)
-    array-write-sends
+    array_write-sends
     (λ c. search rules)
-    array-write-recvs
+    array_write-recvs
     (λ c κs. search rules)
     add_at
     add-i

@@ -10,55 +10,55 @@ use native.Mathlib.Omega.{arith}
 use Rattle.keys.proofs.table.meets_any.Statement.{statement}
 use Rattle.keys.proofs.table.meets_any.Tie as tie
 
-abbrev invariant-loop : tie.invariant-loop
+abbrev invariant-loop : tie.invariant-loop-at
 invariant-loop table s at₀ at = (i : ℕ) × Seeking table (meets s) i at
 
-abbrev decreases-loop : tie.decreases-loop
+abbrev decreases-loop : tie.decreases-loop-at
 decreases-loop table s at₀ at = length table - at
 
-returns : tie.Need-returns invariant-loop decreases-loop
-returns c = none-by _ _ (seek-cut c.before.before.before.loop.invariant.1 _ c.before.size-at.ensures c.if1.true nobody refl)
+returns : tie.Need-returns-then-n-eq0 invariant-loop decreases-loop
+returns c = none-by _ _ (seek-cut c.before.before.before.loop-at.invariant.1 _ c.before.size_at-n.ensures c.if-n-eq0.true nobody refl)
 
-selector-of-requires : tie.Need-selector-of-requires invariant-loop decreases-loop
-selector-of-requires c κs =
+selector_of-requires : tie.Need-selector_of-requires invariant-loop decreases-loop
+selector_of-requires c κs =
     let a = c.before.before.before.before.before.before.args in
-    let l = c.before.before.before.before.loop in
-    tail-whole a.table.now l.at (seek-inside l.invariant.1 _ c.before.before.size-at.ensures c.before.if1.false)
+    let l = c.before.before.before.before.loop-at in
+    tail-whole a.table.now l.at (seek-inside l.invariant.1 _ c.before.before.size_at-n.ensures c.before.if-n-eq0.false)
 
-returns-2 : tie.Need-returns-2 invariant-loop decreases-loop
+returns-2 : tie.Need-returns-then-selectors_overlap invariant-loop decreases-loop
 returns-2 c =
     let d = c.before.before.before.before in
-    let l = d.before.before.before.loop in
+    let l = d.before.before.before.loop-at in
     let a = d.before.before.before.before.before.args in
     any-by a.table.now (meets a.s) _
-    (seek_hit l.invariant.1 _ d.before.size-at.ensures d.if1.false
-    _ (meets_at a.table.now l.at a.s _ _ c.before.before.selector-of.ensures c.before.selectors-overlap.ensures) c.if2.true _ refl)
+    (seek_hit l.invariant.1 _ d.before.size_at-n.ensures d.if-n-eq0.false
+    _ (meets_at a.table.now l.at a.s _ _ c.before.before.selector_of.ensures c.before.selectors_overlap.ensures) c.if-selectors_overlap.true _ refl)
 
-add_at : tie.Need-overflow-add-at invariant-loop decreases-loop
+add_at : tie.Need-overflow_add-at invariant-loop decreases-loop
 add_at c =
     let d = c.before.before.before.before in
-    omega (arith, seek-step d.before.before.before.loop.invariant.1 _ d.before.size-at.ensures d.if1.false)
+    omega (arith, seek-step d.before.before.before.loop-at.invariant.1 _ d.before.size_at-n.ensures d.if-n-eq0.false)
 
-loop-less : tie.Need-loop-smaller invariant-loop decreases-loop
+loop-less : tie.Need-loop-at-smaller invariant-loop decreases-loop
 loop-less c =
     let d = c.before.before.before.before in
-    omega (arith, seek-step d.before.before.before.loop.invariant.1 _ d.before.size-at.ensures d.if1.false)
+    omega (arith, seek-step d.before.before.before.loop-at.invariant.1 _ d.before.size_at-n.ensures d.if-n-eq0.false)
 
-loop-again : tie.Need-loop-preserved invariant-loop decreases-loop
+loop-again : tie.Need-loop-at-preserved invariant-loop decreases-loop
 loop-again c =
     let d = c.before.before.before.before in
-    let l = d.before.before.before.loop in
+    let l = d.before.before.before.loop-at in
     let a = d.before.before.before.before.before.args in (
       l.invariant.0 + 1,
-      seek-next l.invariant.1 _ d.before.size-at.ensures d.if1.false
-          _ (meets_at a.table.now l.at a.s _ _ c.before.before.selector-of.ensures c.before.selectors-overlap.ensures) c.if2.false,
+      seek-next l.invariant.1 _ d.before.size_at-n.ensures d.if-n-eq0.false
+          _ (meets_at a.table.now l.at a.s _ _ c.before.before.selector_of.ensures c.before.selectors_overlap.ensures) c.if-selectors_overlap.false,
     )
 
-returns-3 : tie.Need-returns-3 invariant-loop decreases-loop
-returns-3 c = none-by _ _ (seek-over c.before.loop.invariant.1 c.loop-test.false nobody refl)
+returns-3 : tie.Need-returns invariant-loop decreases-loop
+returns-3 c = none-by _ _ (seek-over c.before.loop-at.invariant.1 c.loop-at-test.false nobody refl)
 
-pub meets-any-spec : {M : Type 1} → statement M
-meets-any-spec =
+pub meets_any_spec : {M : Type 1} → statement M
+meets_any_spec =
     tie.close
     (tie.spec
     invariant-loop
@@ -69,7 +69,7 @@ meets-any-spec =
     (λ c. search rules)
     (λ c. search rules)
     (λ c. search rules)
-    selector-of-requires
+    selector_of-requires
     (λ c κs. search rules)
     returns-2
     add_at

@@ -3,6 +3,6 @@ use Rattle.keys.specs.Table.{nobody}
 use Rattle.keys.proofs.table.nothing.Statement.{statement}
 use Rattle.keys.proofs.table.nothing.Tie as tie
 
-pub nothing-spec : {M : Type 1} → statement M
+pub nothing_spec : {M : Type 1} → statement M
 unfolding nobody
-nothing-spec = tie.close (tie.spec (λ c. cc))
+nothing_spec = tie.close (tie.spec (λ c. cc))

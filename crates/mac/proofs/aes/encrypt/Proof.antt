@@ -7,9 +7,9 @@ use Rattle.mac.proofs.aes.encrypt.Tie as tie
 returns : tie.Need-returns
 returns c =
     let w = c.before.before.before in
-    let block = w.before.before.args.block in c.encrypt-with.ensures ∙ (λ i. cipher (w.load-keys.ensures i) block)
+    let block = w.before.before.args.block in c.encrypt_with.ensures ∙ (λ i. cipher (w.load_keys-w.ensures i) block)
 
-pub encrypt-spec : {M : Type 1} → statement M
-encrypt-spec = tie.close
+pub encrypt_spec : {M : Type 1} → statement M
+encrypt_spec = tie.close
     (tie.spec
     (λ c κs. search rules) (λ c κs. search rules) (λ c κs. search rules) returns)

@@ -5,10 +5,10 @@ use Rattle.mac.proofs.aes.expand_key.Tie as tie
 
 returns : tie.Need-returns
 returns c =
-    c.store-keys.ensures ∙ c.before.expand-words.ensures
+    c.store_keys.ensures ∙ c.before.expand_words.ensures
 
-pub expand-key-spec : {M : Type 1} → statement M
-expand-key-spec =
+pub expand_key_spec : {M : Type 1} → statement M
+expand_key_spec =
     tie.close
     (tie.spec
     (λ c κs. search rules) (λ c κs. search rules) returns)

@@ -38,12 +38,12 @@ returns c =
     let p0 = p1.before in
     let s = p0.before.before.before in
     let key = s.args.key in
-    expanded key p0.load.ensures p1.next-key.ensures p2.next-key2.ensures p3.next-key3.ensures
-    p4.next-key4.ensures p5.next-key5.ensures p6.next-key6.ensures p7.next-key7.ensures p8.next-key8.ensures
-    p9.next-key9.ensures c.next-key10.ensures
+    expanded key p0.load-k0.ensures p1.next_key-k1.ensures p2.next_key-k2.ensures p3.next_key-k3.ensures
+    p4.next_key-k4.ensures p5.next_key-k5.ensures p6.next_key-k6.ensures p7.next_key-k7.ensures p8.next_key-k8.ensures
+    p9.next_key-k9.ensures c.next_key-k10.ensures
 
-pub expand-words-spec : {M : Type 1} → statement M
-expand-words-spec =
+pub expand_words_spec : {M : Type 1} → statement M
+expand_words_spec =
     tie.close
     (tie.spec
     (λ c κs. search rules) (λ c κs. search rules) (λ c κs. search rules) (λ c κs. search rules) (λ c κs. search rules)

@@ -12,5 +12,5 @@ returns c =
     let H = parts_of n.before.before.args.hash in
     c.finish.ensures ∙ ap (filled digest_room) (whole-message H _ n.new.ensures up.update.ensures refl)
 
-pub hash-spec : {M : Type 1} → statement M
-hash-spec = tie.close (tie.spec (λ c κs. search rules) (λ c κs. search rules) (λ c κs. search rules) returns)
+pub hash_spec : {M : Type 1} → statement M
+hash_spec = tie.close (tie.spec (λ c κs. search rules) (λ c κs. search rules) (λ c κs. search rules) returns)

@@ -5,10 +5,10 @@ use Rattle.mac.proofs.hash_algorithm.first_five.Tie as tie
 
 returns : tie.Need-returns
 returns c =
-    let l : length c.args.t1 ≡ 8 = search rules in
-    first-five c.args.t1 l
+    let l : length c.args.h ≡ 8 = search rules in
+    first-five c.args.h l
 
-pub first-five-spec : {M : Type 1} → statement M
-first-five-spec =
+pub first_five_spec : {M : Type 1} → statement M
+first_five_spec =
     tie.close
     (tie.spec (λ c. search rules) (λ c. search rules) (λ c. search rules) (λ c. search rules) (λ c. search rules) returns)

@@ -5,10 +5,10 @@ use Rattle.mac.proofs.hash_algorithm.five_in_eight.Tie as tie
 
 returns : tie.Need-returns
 returns c =
-    let l : length c.args.t1 ≡ 5 = search rules in
-    all-five c.args.t1 l
+    let l : length c.args.h ≡ 5 = search rules in
+    all-five c.args.h l
 
-pub five-in-eight-spec : {M : Type 1} → statement M
-five-in-eight-spec =
+pub five_in_eight_spec : {M : Type 1} → statement M
+five_in_eight_spec =
     tie.close
     (tie.spec (λ c. search rules) (λ c. search rules) (λ c. search rules) (λ c. search rules) (λ c. search rules) returns)

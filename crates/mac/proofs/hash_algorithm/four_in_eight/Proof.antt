@@ -5,10 +5,10 @@ use Rattle.mac.proofs.hash_algorithm.four_in_eight.Tie as tie
 
 returns : tie.Need-returns
 returns c =
-    let l : length c.args.t1 ≡ 4 = search rules in
-    all-four c.args.t1 l
+    let l : length c.args.h ≡ 4 = search rules in
+    all-four c.args.h l
 
-pub four-in-eight-spec : {M : Type 1} → statement M
-four-in-eight-spec =
+pub four_in_eight_spec : {M : Type 1} → statement M
+four_in_eight_spec =
     tie.close
     (tie.spec (λ c. search rules) (λ c. search rules) (λ c. search rules) (λ c. search rules) returns)

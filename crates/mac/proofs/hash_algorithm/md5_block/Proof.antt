@@ -9,10 +9,10 @@ returns c =
     let b = c.before in
     let f = b.before in
     let s = f.before.before in
-    c.first-four.ensures ∙ b.md5-blocks.ensures ∙ chained-one parts s.args.m.now s.requires f.four-in-eight.ensures
+    c.first_four.ensures ∙ b.md5_blocks.ensures ∙ chained-one parts s.args.m.now s.requires f.four_in_eight.ensures
 
-pub md5-block-spec : {M : Type 1} → statement M
-md5-block-spec =
+pub md5_block_spec : {M : Type 1} → statement M
+md5_block_spec =
     tie.close
     (tie.spec
     (λ c κs. search rules)

@@ -14,5 +14,5 @@ returns c =
     c.finish.ensures
     ∙ ap (filled digest_room) (whole-message (parts_of a) (short a) _ _ n.new.ensures up.update.ensures refl)
 
-pub hmac-spec : {M : Type 1} → statement M
-hmac-spec = tie.close (tie.spec (λ c κs. search rules) (λ c κs. search rules) (λ c κs. search rules) returns)
+pub hmac_spec : {M : Type 1} → statement M
+hmac_spec = tie.close (tie.spec (λ c κs. search rules) (λ c κs. search rules) (λ c κs. search rules) returns)

@@ -8,5 +8,5 @@ use Rattle.mac.proofs.hmac.hmac_sha256.Tie as tie
 returns : tie.Need-returns
 returns c = c.hmac.ensures ∙ filled-full digest_room _ (length-hmac_sha256 _ _)
 
-pub hmac-sha256-spec : {M : Type 1} → statement M
-hmac-sha256-spec = tie.close (tie.spec (λ c κs. search rules) returns)
+pub hmac_sha256_spec : {M : Type 1} → statement M
+hmac_sha256_spec = tie.close (tie.spec (λ c κs. search rules) returns)

@@ -6,7 +6,7 @@ use Rattle.mac.proofs.md5.md5.Statement.{statement}
 use Rattle.mac.proofs.md5.md5.Tie as tie
 
 returns : tie.Need-returns
-returns c = c.first-sixteen.ensures ∙ cut digest_room 16 _ (length-md5 _) c.before.hash.ensures
+returns c = c.first_sixteen.ensures ∙ cut digest_room 16 _ (length-md5 _) c.before.hash.ensures
 
-pub md5-spec : {M : Type 1} → statement M
-md5-spec = tie.close (tie.spec (λ c κs. search rules) (λ c κs. search rules) returns)
+pub md5_spec : {M : Type 1} → statement M
+md5_spec = tie.close (tie.spec (λ c κs. search rules) (λ c κs. search rules) returns)

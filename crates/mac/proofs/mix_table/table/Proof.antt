@@ -9,8 +9,8 @@ unfolding xtime multiply inverse affine sbox entry
 returns c =
     mixing _ tt
 
-pub table-spec : {M : Type 1} → statement M
-table-spec =
+pub table_spec : {M : Type 1} → statement M
+table_spec =
     tie.close
     (tie.spec
     returns)

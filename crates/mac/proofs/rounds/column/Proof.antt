@@ -22,13 +22,13 @@ returns c =
     let p1 = p2.before in
     let v = p1.before.args in
     column-bytes (sbox (v.a % 2 ^ 8)) (sbox (v.b / 2 ^ 8 % 2 ^ 8)) (sbox (v.c / 2 ^ 16 % 2 ^ 8)) (sbox (v.d / 2 ^ 24 % 2 ^ 8)) v.k
-    p1.entry.result p3.rotl8.result p6.rotl83.result c.rotl86.result p1.entry.ensures
-    (p3.rotl8.ensures ∙ down p2.entry2.ensures)
-    (p6.rotl83.ensures ∙ down (p5.rotl82.ensures ∙ down p4.entry3.ensures))
-    (c.rotl86.ensures ∙ down (p9.rotl85.ensures ∙ down (p8.rotl84.ensures ∙ down p7.entry4.ensures)))
+    p1.entry-row0.result p3.rotl8-row1.result p6.rotl8-row2.result c.rotl8-row3.result p1.entry-row0.ensures
+    (p3.rotl8-row1.ensures ∙ down p2.entry.ensures)
+    (p6.rotl8-row2.ensures ∙ down (p5.rotl8.ensures ∙ down p4.entry-2.ensures))
+    (c.rotl8-row3.ensures ∙ down (p9.rotl8-3.ensures ∙ down (p8.rotl8-2.ensures ∙ down p7.entry-3.ensures)))
 
-pub column-spec : {M : Type 1} → statement M
-column-spec =
+pub column_spec : {M : Type 1} → statement M
+column_spec =
     tie.close
     (tie.spec
     (λ c κs. search rules) (λ c κs. search rules) (λ c κs. search rules) (λ c κs. search rules) (λ c κs. search rules)

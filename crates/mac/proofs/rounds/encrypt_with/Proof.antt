@@ -1,5 +1,5 @@
 -- `encrypt_with`: after r turns the state is that after r rounds. Assumes nothing.
-use Rattle.std.proofs.Common.{◌≡◌, ℕ, suc, ◌+◌, ◌-◌, ◌<◌, ◌≤◌, List, [], ◌∷◌, get_or, sym, refl, ap, ◌∙◌, add-one, arith, rules}
+use Rattle.std.proofs.Common.{◌≡◌, ℕ, ◌+◌, ◌-◌, ◌<◌, ◌≤◌, List, [], ◌∷◌, get_or, sym, refl, ap, ◌∙◌, add-one, arith, rules}
 use Rattle.mac.specs.Aes.{sub_bytes, shift_rows, add_round_key_of, round_with, rounds, cipher}
 use Rattle.mac.specs.AesWords.{state, round_keys}
 use Rattle.mac.proofs.Places.{value-at}
@@ -26,28 +26,28 @@ whole ws b r e hl h₀ h hx hy =
     h ∙ (λ j. rounds (round_keys ws) (q j) (e j)) in
     hy ∙ hx ∙ (λ i. add_round_key_of (shift_rows (sub_bytes (n i))) (state (get_or ws 10 [])))
 
-abbrev invariant-loop : tie.invariant-loop
+abbrev invariant-loop : tie.invariant-loop-r
 invariant-loop t keys s₀ r₀ s r = (r ≤ 9) × (state s ≡ rounds (round_keys keys) (state s₀) r)
 
-abbrev decreases-loop : tie.decreases-loop
+abbrev decreases-loop : tie.decreases-loop-r
 decreases-loop t keys s₀ r₀ s r = 9 - r
 
-loop-again : tie.Need-loop-preserved invariant-loop decreases-loop
+loop-again : tie.Need-loop-r-preserved invariant-loop decreases-loop
 loop-again c =
     let l = c.before.before.before in
     let s = l.before.before.before.before in
-    (omega arith, more s.args.keys.now _ l.loop.r (omega arith) l.loop.invariant.1 c.round.ensures)
+    (omega arith, more s.args.keys.now _ l.loop-r.r (omega arith) l.loop-r.invariant.1 c.round-y.ensures)
 
 returns : tie.Need-returns invariant-loop decreases-loop
 returns c =
     let p = c.before.before.before.before in
     let q = p.before in
     let s = q.before.before.before in
-    whole s.args.keys.now s.args.block p.loop.r (omega arith) q.before.load.ensures q.add-round-key.ensures
-    p.loop.invariant.1 c.before.last-round.ensures c.store.ensures
+    whole s.args.keys.now s.args.block p.loop-r.r (omega arith) q.before.load.ensures q.add_round_key-s.ensures
+    p.loop-r.invariant.1 c.before.last_round.ensures c.store.ensures
 
-pub encrypt-with-spec : {M : Type 1} → statement M
-encrypt-with-spec =
+pub encrypt_with_spec : {M : Type 1} → statement M
+encrypt_with_spec =
     tie.close
     (tie.spec
     invariant-loop

@@ -10,10 +10,10 @@ returns c =
     let r = c.before in
     let q = r.before in
     let p = q.before in
-    (λ i. columns (p.last-column.ensures i) (q.last-column2.ensures i) (r.last-column3.ensures i) (c.last-column4.ensures i))
+    (λ i. columns (p.last_column.ensures i) (q.last_column-2.ensures i) (r.last_column-3.ensures i) (c.last_column-4.ensures i))
 
-pub last-round-spec : {M : Type 1} → statement M
-last-round-spec =
+pub last_round_spec : {M : Type 1} → statement M
+last_round_spec =
     tie.close
     (tie.spec
     (λ c. search rules) (λ c. search rules) (λ c. search rules) (λ c. search rules) (λ c. search rules) (λ c κs. search rules)

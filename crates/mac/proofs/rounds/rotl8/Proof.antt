@@ -8,8 +8,8 @@ returns : tie.Need-returns
 returns c =
     rotated-bytes c.args.x (search rules)
 
-pub rotl8-spec : {M : Type 1} → statement M
-rotl8-spec =
+pub rotl8_spec : {M : Type 1} → statement M
+rotl8_spec =
     tie.close
     (tie.spec
     returns)

@@ -10,10 +10,10 @@ returns c =
     let r = c.before in
     let q = r.before in
     let p = q.before in
-    (λ i. columns (p.column.ensures i) (q.column2.ensures i) (r.column3.ensures i) (c.column4.ensures i))
+    (λ i. columns (p.column.ensures i) (q.column-2.ensures i) (r.column-3.ensures i) (c.column-4.ensures i))
 
-pub round-spec : {M : Type 1} → statement M
-round-spec =
+pub round_spec : {M : Type 1} → statement M
+round_spec =
     tie.close
     (tie.spec
     (λ c. search rules) (λ c. search rules) (λ c. search rules) (λ c. search rules) (λ c. search rules) (λ c κs. search rules)

@@ -8,5 +8,5 @@ use Rattle.mac.proofs.sha256.sha256.Tie as tie
 returns : tie.Need-returns
 returns c = c.hash.ensures ∙ filled-full digest_room _ (length-sha256 _)
 
-pub sha256-spec : {M : Type 1} → statement M
-sha256-spec = tie.close (tie.spec (λ c κs. search rules) returns)
+pub sha256_spec : {M : Type 1} → statement M
+sha256_spec = tie.close (tie.spec (λ c κs. search rules) returns)

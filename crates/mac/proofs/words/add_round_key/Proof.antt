@@ -9,11 +9,11 @@ returns : tie.Need-returns
 unfolding add_round_key_of
 returns c =
     let a = c.args in
-    (λ i. columns (xor_bytes (get_or a.t1 0 0) (get_or a.t2 0 0) i) (xor_bytes (get_or a.t1 1 0) (get_or a.t2 1 0) i)
-    (xor_bytes (get_or a.t1 2 0) (get_or a.t2 2 0) i) (xor_bytes (get_or a.t1 3 0) (get_or a.t2 3 0) i))
+    (λ i. columns (xor_bytes (get_or a.s 0 0) (get_or a.k 0 0) i) (xor_bytes (get_or a.s 1 0) (get_or a.k 1 0) i)
+    (xor_bytes (get_or a.s 2 0) (get_or a.k 2 0) i) (xor_bytes (get_or a.s 3 0) (get_or a.k 3 0) i))
 
-pub add-round-key-spec : {M : Type 1} → statement M
-add-round-key-spec =
+pub add_round_key_spec : {M : Type 1} → statement M
+add_round_key_spec =
     tie.close
     (tie.spec
     (λ c. search rules) (λ c. search rules) (λ c. search rules) (λ c. search rules) (λ c. search rules) (λ c. search rules)

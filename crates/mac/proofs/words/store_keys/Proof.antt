@@ -1,5 +1,5 @@
 -- `store_keys`: eleven round keys. Assumes nothing.
-use Rattle.std.proofs.Common.{List, [], ◌∷◌, rules}
+use Rattle.std.proofs.Common.{[], ◌∷◌, rules}
 use Rattle.mac.proofs.words.store_keys.Statement.{statement}
 use Rattle.mac.proofs.words.store_keys.Tie as tie
 
@@ -16,12 +16,12 @@ returns c =
     let p2 = p3.before.before in
     let p1 = p2.before.before in
     (λ i.
-    p1.store.ensures i ∷ p2.store2.ensures i ∷ p3.store3.ensures i ∷ p4.store4.ensures i ∷ p5.store5.ensures i
-    ∷ p6.store6.ensures i ∷ p7.store7.ensures i ∷ p8.store8.ensures i ∷ p9.store9.ensures i
-    ∷ p10.store10.ensures i ∷ c.store11.ensures i ∷ [])
+    p1.store.ensures i ∷ p2.store-2.ensures i ∷ p3.store-3.ensures i ∷ p4.store-4.ensures i ∷ p5.store-5.ensures i
+    ∷ p6.store-6.ensures i ∷ p7.store-7.ensures i ∷ p8.store-8.ensures i ∷ p9.store-9.ensures i
+    ∷ p10.store-10.ensures i ∷ c.store-11.ensures i ∷ [])
 
-pub store-keys-spec : {M : Type 1} → statement M
-store-keys-spec =
+pub store_keys_spec : {M : Type 1} → statement M
+store_keys_spec =
     tie.close
     (tie.spec
     (λ c. search rules) (λ c κs. search rules) (λ c. search rules) (λ c κs. search rules) (λ c. search rules)

@@ -11,8 +11,8 @@ returns c =
     let e : v.d * 16777216 + v.c * 65536 + v.b * 256 + v.a ≡ pack v.a v.b v.c v.d = omega arith in
     ap (λ (n : ℕ). bytes n) e ∙ pack-bytes v.a v.b v.c v.d (search rules) (search rules) (search rules) (search rules)
 
-pub word-spec : {M : Type 1} → statement M
-word-spec =
+pub word_spec : {M : Type 1} → statement M
+word_spec =
     tie.close
     (tie.spec
     (λ c. search rules) (λ c. search rules) (λ c. search rules) (λ c. search rules) (λ c. search rules) (λ c. search rules) returns)

@@ -4,14 +4,14 @@ use Rattle.prepared.proofs.clean.ids_of.Statement.{statement}
 use Rattle.prepared.proofs.clean.ids_of.Tie as tie
 use Rattle.prepared.specs.Prepared.{clean_ids, front_ids}
 
-returns : tie.Need-returns
+returns : tie.Need-returns-in-Keys
 unfolding clean_ids front_ids
-returns c = rw c.before.before.enum_told.given.1
+returns c = rw c.in-Keys.is
 
-returns-2 : tie.Need-returns-2
+returns-2 : tie.Need-returns-in-Md5
 unfolding clean_ids
-returns-2 c = rw c.enum-told2.given.1
+returns-2 c = rw c.in-Md5.is
 
-pub ids-of-spec : {M : Type 1} → statement M
-ids-of-spec =
+pub ids_of_spec : {M : Type 1} → statement M
+ids_of_spec =
     tie.close (tie.spec (λ c. search rules) (λ c. search rules) (λ c. search rules) (λ c. search rules) returns returns-2)

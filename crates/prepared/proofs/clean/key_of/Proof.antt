@@ -8,14 +8,13 @@ use Rattle.prepared.proofs.Laws.{laid-cut}
 
 returns : tie.Need-returns
 returns c =
-    let b = c.before.before.before.before.before in
-    laid-cut b.args.n b.args.k.now _ b.requires.0 b.requires.1 c.before.copy_at.ensures
+    laid-cut c.args.n c.args.k.now _ c.requires.0 c.requires.1 c.copy_at.ensures
 
-pub key-of-spec : {M : Type 1} → statement M
-key-of-spec =
+pub key_of_spec : {M : Type 1} → statement M
+key_of_spec =
     tie.close
     (tie.spec
     (λ c. search rules)
-    (λ c. omega (arith, length-take c.before.before.before.args.n c.before.before.before.args.k.now))
-    (λ c κs. omega (arith, length-take c.before.before.before.args.n c.before.before.before.args.k.now))
+    (λ c. omega (arith, length-take c.args.n c.args.k.now))
+    (λ c κs. omega (arith, length-take c.args.n c.args.k.now))
     returns)

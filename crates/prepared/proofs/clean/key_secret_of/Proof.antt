@@ -8,8 +8,8 @@ returns : tie.Need-returns
 unfolding clean_secret raw_secret
 returns c = cc
 
-pub key-secret-of-spec : {M : Type 1} → statement M
-key-secret-of-spec =
+pub key_secret_of_spec : {M : Type 1} → statement M
+key_secret_of_spec =
     tie.close
     (tie.spec
     (λ c. search rules)

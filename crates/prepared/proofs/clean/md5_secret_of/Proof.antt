@@ -8,8 +8,8 @@ returns : tie.Need-returns
 unfolding clean_secret raw_secret
 returns c = cc
 
-pub md5-secret-of-spec : {M : Type 1} → statement M
-md5-secret-of-spec =
+pub md5_secret_of_spec : {M : Type 1} → statement M
+md5_secret_of_spec =
     tie.close
     (tie.spec
     (λ c. search rules)

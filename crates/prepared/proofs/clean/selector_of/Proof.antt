@@ -6,11 +6,11 @@ use Rattle.prepared.proofs.Laws.{selector-by}
 
 returns : tie.Need-returns
 returns c =
-    let family = c.before.before.before.before.before.before.family-of.ensures in
-    selector-by _ _ _ _ _ family c.before.before.before.side-of.ensures c.side-of2.ensures
+    let family = c.before.before.before.before.before.before.family_of-family.ensures in
+    selector-by _ _ _ _ _ family c.before.before.before.side_of.ensures c.side_of-2.ensures
 
-pub selector-of-spec : {M : Type 1} → statement M
-selector-of-spec =
+pub selector_of_spec : {M : Type 1} → statement M
+selector_of_spec =
     tie.close
     (tie.spec
     (λ c. search rules)

@@ -8,8 +8,8 @@ returns : tie.Need-returns
 unfolding clean_side
 returns c = cc
 
-pub side-of-spec : {M : Type 1} → statement M
-side-of-spec =
+pub side_of_spec : {M : Type 1} → statement M
+side_of_spec =
     tie.close
     (tie.spec
     (λ c κs. search rules)

@@ -7,14 +7,14 @@ use Rattle.prepared.proofs.LayLaws.{put_back}
 use Rattle.prepared.proofs.image.put_back.Statement.{statement}
 use Rattle.prepared.proofs.image.put_back.Tie as tie
 
-address : tie.Need-slice-aggregate-put-three-2
+address : tie.Need-slice_bounds-put_three-end-2
 address c = search rules
 
-key : tie.Need-slice-aggregate-put-three-3
+key : tie.Need-slice_bounds-put_three-end-3
 key c = search rules
 
-put-three-requires : tie.Need-put-three-requires
-put-three-requires c κs =
+put_three-requires : tie.Need-put_three-requires
+put_three-requires c κs =
     let b = c.before.before.before.before.before.before.before in
     let l : length b.args.e.selector.local.address ≡ 16 = sym (address c.before) in
     let k : length b.args.e.secret.key ≡ 80 = sym (key c) in
@@ -25,13 +25,13 @@ returns c =
     let a = c.before.before.before.before.before.before.before.before.before.before.args in
     put_back a.e a.out.now _ a.at (sym (address c.before.before.before.before)) (sym (key c.before.before.before)) c.before.before.put_three.ensures
 
-pub put-back-spec : {M : Type 1} → statement M
-put-back-spec =
+pub put_back_spec : {M : Type 1} → statement M
+put_back_spec =
     tie.close
     (tie.spec
     (λ c. search rules)
     address
     key
-    put-three-requires
+    put_three-requires
     (λ c. search rules)
     returns)

@@ -6,25 +6,22 @@ use Rattle.prepared.proofs.LayLaws.{both_first, both-second, both-put}
 use Rattle.prepared.proofs.image.put_both.Statement.{statement}
 use Rattle.prepared.proofs.image.put_both.Tie as tie
 
-put-parts-requires : tie.Need-put-parts-requires
-put-parts-requires c κs =
-    let b = c.before.before.before.before in
-    let a = b.args in
-    both_first (part_of a.part) (part_bytes_of a.part) (entries a.keys.now) (entries a.md5.now) a.out.now a.at b.requires
+put_parts-requires : tie.Need-put_parts-keys_end-requires
+put_parts-requires c κs =
+    let a = c.args in
+    both_first (part_of a.part) (part_bytes_of a.part) (entries a.keys.now) (entries a.md5.now) a.out.now a.at c.requires
 
-put-parts-requires-2 : tie.Need-put-parts-requires-2
-put-parts-requires-2 c κs =
-    let b = c.before.before.before.before.before.before.before.before in
-    let a = b.args in
-    let p = c.before.before.before.put-parts in
-    both-second (part_of a.part) (part_bytes_of a.part) (entries a.keys.now) (entries a.md5.now) a.out.now a.at b.requires _ _ p.ensures p.auto.1.1.0
+put_parts-requires-2 : tie.Need-put_parts-requires
+put_parts-requires-2 c κs =
+    let a = c.args in
+    let p = c.put_parts-keys_end in
+    both-second (part_of a.part) (part_bytes_of a.part) (entries a.keys.now) (entries a.md5.now) a.out.now a.at c.requires _ _ p.ensures p.auto.out
 
 returns : tie.Need-returns
 returns c =
-    let b = c.before.before.before.before.before.before.before.before.before.before.before in
-    let a = b.args in
-    let p = c.before.before.before.before.before.before.put-parts in
-    both-put (part_of a.part) (part_bytes_of a.part) (entries a.keys.now) (entries a.md5.now) a.out.now a.at b.requires _ _ p.ensures p.auto.1.1.0 _ _ c.before.before.put-parts2.ensures
+    let a = c.args in
+    let p = c.put_parts-keys_end in
+    both-put (part_of a.part) (part_bytes_of a.part) (entries a.keys.now) (entries a.md5.now) a.out.now a.at c.requires _ _ p.ensures p.auto.out _ _ c.put_parts.ensures
 
-pub put-both-spec : {M : Type 1} → statement M
-put-both-spec = tie.close (tie.spec put-parts-requires put-parts-requires-2 (λ c. search rules) returns)
+pub put_both_spec : {M : Type 1} → statement M
+put_both_spec = tie.close (tie.spec put_parts-requires put_parts-requires-2 (λ c. search rules) returns)

@@ -8,41 +8,40 @@ use Rattle.prepared.proofs.LayLaws.{Putting, putting-start, putting-over, puttin
 use Rattle.prepared.proofs.image.put_parts.Statement.{statement}
 use Rattle.prepared.proofs.image.put_parts.Tie as tie
 
-abbrev invariant-loop : tie.invariant-loop
+abbrev invariant-loop : tie.invariant-loop-from
 invariant-loop table part out₀ at size from₀ to₀ out from to = Putting (part_of part) (part_bytes_of part) table out₀ at from to out
 
-abbrev decreases-loop : tie.decreases-loop
+abbrev decreases-loop : tie.decreases-loop-from
 decreases-loop table part out₀ at size from₀ to₀ out from to = length table - from
 
-returns : tie.Need-returns invariant-loop decreases-loop
-returns c = putting-cut c.before.before.before.loop.invariant _ c.before.size-at.ensures c.if1.true
+returns : tie.Need-returns-then-n-eq0 invariant-loop decreases-loop
+returns c = putting-cut c.loop-from.invariant _ c.size_at-n.ensures c.if-n-eq0.true
 
-entry-of-requires : tie.Need-entry-of-requires invariant-loop decreases-loop
-entry-of-requires c κs = putting-whole c.before.before.before.before.before.loop.invariant _ c.before.before.before.size-at.ensures c.before.before.if1.false
+entry_of-requires : tie.Need-entry_of-requires invariant-loop decreases-loop
+entry_of-requires c κs = putting-whole c.loop-from.invariant _ c.size_at-n.ensures c.if-n-eq0.false
 
-put-part-requires : tie.Need-put-part-requires invariant-loop decreases-loop
-put-part-requires c κs = (putting-room c.before.before.before.before.before.before.loop.invariant _ c.before.before.before.before.size-at.ensures c.before.before.before.if1.false c.before.before.before.before.before.before.before.before.before.before.requires).0
+put_part-requires : tie.Need-put_part-requires invariant-loop decreases-loop
+put_part-requires c κs = (putting-room c.loop-from.invariant _ c.size_at-n.ensures c.if-n-eq0.false c.requires).0
 
-add-from : tie.Need-overflow-add-from invariant-loop decreases-loop
-add-from c = omega (arith, putting-step c.before.before.before.before.before.before.before.before.before.loop.invariant _ c.before.before.before.before.before.before.before.size-at.ensures c.before.before.before.before.before.before.if1.false)
+add-from : tie.Need-overflow_add-from invariant-loop decreases-loop
+add-from c = omega (arith, putting-step c.loop-from.invariant _ c.size_at-n.ensures c.if-n-eq0.false)
 
-add-to : tie.Need-overflow-add-to invariant-loop decreases-loop
+add-to : tie.Need-overflow_add-to invariant-loop decreases-loop
 add-to c =
-    let b = c.before.before.before.before.before.before.before.before.before.before.before.before.before in
-    omega (arith, b.ranges, (putting-room c.before.before.before.before.before.before.before.before.before.loop.invariant _ c.before.before.before.before.before.before.before.size-at.ensures c.before.before.before.before.before.before.if1.false b.requires).1, c.before.before.before.before.before.before.before.before.before.before.part_bytes.ensures)
+    omega (arith, c.ranges, (putting-room c.loop-from.invariant _ c.size_at-n.ensures c.if-n-eq0.false c.requires).1, c.part_bytes-size.ensures)
 
-loop-less : tie.Need-loop-smaller invariant-loop decreases-loop
-loop-less c = omega (arith, putting-step c.before.before.before.before.before.before.before.before.before.loop.invariant _ c.before.before.before.before.before.before.before.size-at.ensures c.before.before.before.before.before.before.if1.false)
+loop-less : tie.Need-loop-from-smaller invariant-loop decreases-loop
+loop-less c = omega (arith, putting-step c.loop-from.invariant _ c.size_at-n.ensures c.if-n-eq0.false)
 
-loop-again : tie.Need-loop-preserved invariant-loop decreases-loop
+loop-again : tie.Need-loop-from-preserved invariant-loop decreases-loop
 loop-again c =
-    let p = c.before.before.before.before.before.before.before.before.before.before.before.before.before.requires in
-    let q = c.before.before.put-part in
-    putting-next c.before.before.before.before.before.before.before.before.before.loop.invariant _ c.before.before.before.before.before.before.before.size-at.ensures c.before.before.before.before.before.before.if1.false
-    _ _ _ c.before.before.before.entry_of.ensures c.before.before.before.before.before.before.before.before.before.before.part_bytes.ensures p q.auto.0 q.ensures
+    let p = c.requires in
+    let q = c.put_part in
+    putting-next c.loop-from.invariant _ c.size_at-n.ensures c.if-n-eq0.false
+    _ _ _ c.entry_of.ensures c.part_bytes-size.ensures p q.auto.out q.ensures
 
-pub put-parts-spec : {M : Type 1} → statement M
-put-parts-spec =
+pub put_parts_spec : {M : Type 1} → statement M
+put_parts_spec =
     tie.close
     (tie.spec
     invariant-loop
@@ -50,16 +49,16 @@ put-parts-spec =
     (λ c κs. search rules)
     (λ c. putting-start _ _ _ _ _)
     (λ c κs. search rules)
-    (λ c. c.before.before.before.loop.invariant.same)
+    (λ c. c.loop-from.invariant.same)
     returns
     (λ c. search rules)
     (λ c. search rules)
     (λ c. search rules)
-    entry-of-requires
-    put-part-requires
+    entry_of-requires
+    put_part-requires
     add-from
     add-to
     loop-less
     loop-again
-    (λ c. c.before.loop.invariant.same)
-    (λ c. putting-over c.before.loop.invariant c.loop-test.false))
+    (λ c. c.loop-from.invariant.same)
+    (λ c. putting-over c.loop-from.invariant c.loop-from-test.false))

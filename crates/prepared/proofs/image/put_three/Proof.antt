@@ -8,13 +8,12 @@ use Rattle.prepared.proofs.image.put_three.Tie as tie
 
 returns : tie.Need-returns
 returns c =
-    let b = c.before.before.before.before.before.before.before.before.before.before.before.before.before.before.before.before in
-    let a = b.args in
-    put_three a.out.now a.a.now a.b.now a.c.now _ _ _ a.at _ _ (omega (arith, b.requires)) refl refl
-    c.before.before.before.before.before.before.before.before.before.before.copy_at.ensures c.before.before.before.before.before.before.copy-at2.ensures c.before.before.copy-at3.ensures
+    let a = c.args in
+    put_three a.out.now a.a.now a.b.now a.c.now _ _ _ a.at _ _ (omega (arith, c.requires)) refl refl
+    c.copy_at.ensures c.copy_at-2.ensures c.copy_at-3.ensures
 
-pub put-three-spec : {M : Type 1} → statement M
-put-three-spec =
+pub put_three_spec : {M : Type 1} → statement M
+put_three_spec =
     tie.close
     (tie.spec
     (λ c κs. search rules)

@@ -10,36 +10,36 @@ use Rattle.prepared.proofs.MarkLaws.{sum-next}
 use Rattle.prepared.proofs.mark.octet_sum.Statement.{statement}
 use Rattle.prepared.proofs.mark.octet_sum.Tie as tie
 
-abbrev invariant-loop : tie.invariant-loop
+abbrev invariant-loop : tie.invariant-loop-i
 invariant-loop s sum₀ i₀ sum i = (i ≤ length s) × (sum ≤ 255 * i) × (sum ≡ octet_sum_of (take i s))
 
-abbrev decreases-loop : tie.decreases-loop
+abbrev decreases-loop : tie.decreases-loop-i
 decreases-loop s sum₀ i₀ sum i = length s - i
 
-add-sum : tie.Need-overflow-add-sum invariant-loop decreases-loop
+add-sum : tie.Need-overflow_add-sum invariant-loop decreases-loop
 add-sum c =
-    let l = c.before.before.loop in
-    omega (arith, c.shared-slice-known.given l.i, c.before.before.before.requires, c.before.loop-test.true, l.invariant.1)
+    let l = c.before.before.loop-i in
+    omega (arith, c.shared_slice_known-1.given l.i, c.before.before.before.requires, c.before.loop-i-test.true, l.invariant.1)
 
-loop-again : tie.Need-loop-preserved invariant-loop decreases-loop
+loop-again : tie.Need-loop-i-preserved invariant-loop decreases-loop
 loop-again c =
-    let l = c.before.before.loop in
-    (omega arith, omega (arith, c.shared-slice-known.given l.i), sum-next _ l.i l.sum c.before.loop-test.true l.invariant.2)
+    let l = c.before.before.loop-i in
+    (omega arith, omega (arith, c.shared_slice_known-1.given l.i), sum-next _ l.i l.sum c.before.loop-i-test.true l.invariant.2)
 
 returns : tie.Need-returns invariant-loop decreases-loop
 returns c =
-    let l = c.before.loop in
-    l.invariant.2 ∙ ap octet_sum_of (take_all l.i _ c.loop-test.false)
+    let l = c.before.loop-i in
+    l.invariant.2 ∙ ap octet_sum_of (take_all l.i _ c.loop-i-test.false)
 
-pub octet-sum-spec : {M : Type 1} → statement M
-octet-sum-spec =
+pub octet_sum_spec : {M : Type 1} → statement M
+octet_sum_spec =
     tie.close
     (tie.spec
     invariant-loop
     decreases-loop
     (λ c. (omega arith, omega arith, refl))
     (λ c. search rules)
-    (λ c. omega (arith, c.shared-slice-known.given c.before.before.loop.i))
+    (λ c. omega (arith, c.shared_slice_known-1.given c.before.before.loop-i.i))
     add-sum
     (λ c. search rules)
     (λ c. search rules)

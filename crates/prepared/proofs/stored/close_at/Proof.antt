@@ -5,16 +5,15 @@ use Rattle.prepared.proofs.ScanSteps.{close-not, close-alike}
 use Rattle.prepared.proofs.stored.close_at.Statement.{statement}
 use Rattle.prepared.proofs.stored.close_at.Tie as tie
 
-returns : tie.Need-returns
-returns c = close-not _ _ _ _ _ _ _ _ _ _ _ _ c.before.nearby-at.ensures (not-true _ c.if1.true)
+returns : tie.Need-returns-then-not-nearby_at
+returns c = close-not _ _ _ _ _ _ _ _ _ _ _ _ c.nearby_at.ensures (not-true _ c.if-not-nearby_at.true-raw)
 
-returns-2 : tie.Need-returns-2
+returns-2 : tie.Need-returns
 returns-2 c =
-    let b = c.before in
-    close-alike _ _ _ _ _ _ _ _ _ _ _ _ b.before.nearby-at.ensures (not-false _ b.if1.false) _ c.Alike-at.ensures
+    close-alike _ _ _ _ _ _ _ _ _ _ _ _ c.nearby_at.ensures (not-false _ c.if-not-nearby_at.false-raw) _ c.alike_at.ensures
 
-pub close-at-spec : {M : Type 1} → statement M
-close-at-spec =
+pub close_at_spec : {M : Type 1} → statement M
+close_at_spec =
     tie.close
     (tie.spec
     (λ c κs. search rules)

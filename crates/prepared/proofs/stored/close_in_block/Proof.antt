@@ -5,15 +5,15 @@ use Rattle.prepared.proofs.ScanSteps.{none-close}
 use Rattle.prepared.proofs.stored.close_in_block.Statement.{statement}
 use Rattle.prepared.proofs.stored.close_in_block.Tie as tie
 
-returns : tie.Need-returns
+returns : tie.Need-returns-then-not-block_close
 returns c =
     let a = c.before.before.before.before.before.args in
     none-close a.t.now a.n a.i a.limit a.mark a.remote a.local a.high a.low a.upper a.lower _
-    c.before.block-close.ensures
-    (not-true _ c.if1.true)
+    c.before.block_close.ensures
+    (not-true _ c.if-not-block_close.true-raw)
 
-pub close-in-block-spec : {M : Type 1} → statement M
-close-in-block-spec =
+pub close_in_block_spec : {M : Type 1} → statement M
+close_in_block_spec =
     tie.close
     (tie.spec
     (λ c. search rules)

@@ -7,10 +7,10 @@ use Rattle.prepared.proofs.stored.entry_at.Tie as tie
 returns : tie.Need-returns
 returns c =
     let a = c.before.before.before.before.before.args in
-    entry-is a.t.now a.n a.i a.kind _ _ c.before.before.before.front_at.ensures c.entry_of.ensures
+    entry-is a.t.now a.n a.i a.kind _ _ c.before.before.before.front_at-f.ensures c.entry_of.ensures
 
-pub entry-at-spec : {M : Type 1} → statement M
-entry-at-spec =
+pub entry_at_spec : {M : Type 1} → statement M
+entry_at_spec =
     tie.close
     (tie.spec
     (λ c κs. search rules)

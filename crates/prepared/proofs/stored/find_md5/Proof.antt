@@ -6,31 +6,28 @@ use Rattle.prepared.proofs.ScanSteps.{counted, few-entries, md5-none, md5-room, 
 use Rattle.prepared.proofs.stored.find_md5.Statement.{statement}
 use Rattle.prepared.proofs.stored.find_md5.Tie as tie
 
-pub find-md5-spec : {M : Type 1} → statement M
-find-md5-spec =
+pub find_md5_spec : {M : Type 1} → statement M
+find_md5_spec =
     tie.close
     (tie.spec
     (λ c κs. search rules)
     (λ c κs. search rules)
-    (λ c. md5-none _ _ c.before.before.fits2.ensures (not-true _ c.before.if1.true) _ _ c.nothing.ensures)
-    (λ c κs. omega (arith, counted _ _ c.before.fits2.ensures (not-false _ c.if1.false)))
-    (λ c κs. omega (arith, counted _ _ c.before.before.fits2.ensures (not-false _ c.before.if1.false)))
+    (λ c. md5-none _ _ c.fits.ensures (not-true _ c.if-not-fits.true-raw) _ _ c.nothing.ensures)
+    (λ c κs. omega (arith, counted _ _ c.fits.ensures (not-false _ c.if-not-fits.false-raw)))
+    (λ c κs. omega (arith, counted _ _ c.fits.ensures (not-false _ c.if-not-fits.false-raw)))
     (λ c.
-    let b = c.before.before in
     record {
       fits =
           omega (
             arith,
-            few-entries _ _ b.before.fits2.ensures (not-false _ b.if1.false) _ _ c.before.count_at.ensures c.count-at2.ensures,
+            few-entries _ _ c.fits.ensures (not-false _ c.if-not-fits.false-raw) _ _ c.count_at-n.ensures c.count_at-m.ensures,
           );
     })
     (λ c κs.
-    let b = c.before.before in
-    md5-room _ _ b.before.fits2.ensures (not-false _ b.if1.false) _ _ c.before.count_at.ensures c.count-at2.ensures)
+    md5-room _ _ c.fits.ensures (not-false _ c.if-not-fits.false-raw) _ _ c.count_at-n.ensures c.count_at-m.ensures)
     (λ c.
-    let b = c.before.before.before in
-    md5-by _ _ b.before.fits2.ensures (not-false _ b.if1.false) _ _ c.before.before.count_at.ensures
-    c.before.count-at2.ensures
+    md5-by _ _ c.fits.ensures (not-false _ c.if-not-fits.false-raw) _ _ c.count_at-n.ensures
+    c.count_at-m.ensures
     _
     _
-    c.find-in.ensures))
+    c.find_in.ensures))

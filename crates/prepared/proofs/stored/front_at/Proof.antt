@@ -14,12 +14,12 @@ returns c =
     let address = first.before.before.before in
     let family = address.before.before.before in
     let s = family.before.before.before.before.before.before in
-    let l : length address.address-of.result ≡ 16 = search rules in
-    front_by s.args.t.now s.args.n s.args.i _ _ _ _ _ (omega (arith, s.requires)) family.family-of.ensures
-    address.address-of.ensures l first.copy_at.ensures second.copy-at2.ensures c.before.copy-at3.ensures
+    let l : length address.address_of-a.result ≡ 16 = search rules in
+    front_by s.args.t.now s.args.n s.args.i _ _ _ _ _ (omega (arith, s.requires)) family.family_of.ensures
+    address.address_of-a.ensures l first.copy_at.ensures second.copy_at-2.ensures c.before.copy_at-3.ensures
 
-pub front-at-spec : {M : Type 1} → statement M
-front-at-spec =
+pub front_at_spec : {M : Type 1} → statement M
+front_at_spec =
     tie.close
     (tie.spec
     (λ c. search rules)

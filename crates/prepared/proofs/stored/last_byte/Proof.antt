@@ -4,8 +4,8 @@ use Rattle.prepared.proofs.ScanSteps.{last-is}
 use Rattle.prepared.proofs.stored.last_byte.Statement.{statement}
 use Rattle.prepared.proofs.stored.last_byte.Tie as tie
 
-pub last-byte-spec : {M : Type 1} → statement M
-last-byte-spec =
+pub last_byte_spec : {M : Type 1} → statement M
+last_byte_spec =
     tie.close
     (tie.spec
     (λ c. search rules)

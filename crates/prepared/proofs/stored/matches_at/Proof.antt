@@ -8,10 +8,10 @@ returns : tie.Need-returns
 returns c =
     let a = c.before.before.before.before.before.before.args in
     matches-is a.t.now a.n a.i a.pair _ _ _
-    c.before.before.before.before.front_at.ensures c.before.selector-of.ensures c.matches.ensures
+    c.before.before.before.before.front_at-f.ensures c.before.selector_of.ensures c.matches.ensures
 
-pub matches-at-spec : {M : Type 1} → statement M
-matches-at-spec =
+pub matches_at_spec : {M : Type 1} → statement M
+matches_at_spec =
     tie.close
     (tie.spec
     (λ c κs. search rules)

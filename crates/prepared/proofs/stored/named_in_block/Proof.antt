@@ -5,15 +5,15 @@ use Rattle.prepared.proofs.ScanSteps.{none_named}
 use Rattle.prepared.proofs.stored.named_in_block.Statement.{statement}
 use Rattle.prepared.proofs.stored.named_in_block.Tie as tie
 
-returns : tie.Need-returns
+returns : tie.Need-returns-then-not-block_named
 returns c =
     let a = c.before.before.before.before.before.before.args in
     none_named a.t.now a.n a.i a.limit a.mark a.remote a.local a.high a.low a.upper a.lower _ a.ids a.id
-    c.before.block-named.ensures
-    (not-true _ c.if1.true)
+    c.before.block_named.ensures
+    (not-true _ c.if-not-block_named.true-raw)
 
-pub named-in-block-spec : {M : Type 1} → statement M
-named-in-block-spec =
+pub named_in_block_spec : {M : Type 1} → statement M
+named_in_block_spec =
     tie.close
     (tie.spec
     (λ c. search rules)

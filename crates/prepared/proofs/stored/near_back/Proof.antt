@@ -4,14 +4,14 @@ use Rattle.prepared.proofs.ScanSteps.{back-four, back-other}
 use Rattle.prepared.proofs.stored.near_back.Statement.{statement}
 use Rattle.prepared.proofs.stored.near_back.Tie as tie
 
-returns : tie.Need-returns
+returns : tie.Need-returns-then-s-eq4
 returns c =
     let d = c.before.before.before.before.before.before in
-    back-four _ _ _ _ _ _ d.if1.true _ _ c.before.before.last_byte.ensures c.before.fourth-byte.ensures
+    back-four _ _ _ _ _ _ d.if-s-eq4.true _ _ c.before.before.last_byte.ensures c.before.fourth_byte.ensures
     c.near_last.ensures
 
-pub near-back-spec : {M : Type 1} → statement M
-near-back-spec =
+pub near_back_spec : {M : Type 1} → statement M
+near_back_spec =
     tie.close
     (tie.spec
     (λ c. search rules)
@@ -23,4 +23,4 @@ near-back-spec =
     (λ c κs. search rules)
     returns
     (λ c κs. search rules)
-    (λ c. back-other _ _ _ _ _ _ c.before.if1.false c.near-rest.ensures))
+    (λ c. back-other _ _ _ _ _ _ c.before.if-s-eq4.false c.near_rest.ensures))

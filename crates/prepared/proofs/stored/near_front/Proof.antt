@@ -4,23 +4,23 @@ use Rattle.prepared.proofs.ScanSteps.{near-top, near-few}
 use Rattle.prepared.proofs.stored.near_front.Statement.{statement}
 use Rattle.prepared.proofs.stored.near_front.Tie as tie
 
-top-bits-requires : tie.Need-top-bits-requires
-top-bits-requires c κs =
+top_bits-requires : tie.Need-top_bits-requires
+top_bits-requires c κs =
     let a = c.before.before.before.before.before.args in
-    near-few a.s.now a.bits a.high _ _ c.before.before.most-bits.ensures c.before.least.ensures
+    near-few a.s.now a.bits a.high _ _ c.before.before.most_bits.ensures c.before.least-n.ensures
 
 returns : tie.Need-returns
 returns c =
-    near-top _ _ _ _ _ c.before.before.before.most-bits.ensures c.before.before.least.ensures _ c.before.load64.ensures _
-    c.top-bits.ensures
+    near-top _ _ _ _ _ c.before.before.before.most_bits.ensures c.before.before.least-n.ensures _ c.before.load64.ensures _
+    c.top_bits.ensures
 
-pub near-front-spec : {M : Type 1} → statement M
-near-front-spec =
+pub near_front_spec : {M : Type 1} → statement M
+near_front_spec =
     tie.close
     (tie.spec
     (λ c. search rules)
     (λ c κs. search rules)
     (λ c κs. search rules)
     (λ c κs. search rules)
-    top-bits-requires
+    top_bits-requires
     returns)

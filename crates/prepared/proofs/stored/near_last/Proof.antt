@@ -5,11 +5,11 @@ use Rattle.prepared.proofs.ScanSteps.{last-short, last-long}
 use Rattle.prepared.proofs.stored.near_last.Statement.{statement}
 use Rattle.prepared.proofs.stored.near_last.Tie as tie
 
-returns : tie.Need-returns
-returns c = last-short _ _ _ c.if1.true
+returns : tie.Need-returns-then-bits-le24
+returns c = last-short _ _ _ c.if-bits-le24.true
 
-returns-2 : tie.Need-returns-2
-returns-2 c = last-long _ _ _ _ (omega arith) c.least.ensures
+returns-2 : tie.Need-returns
+returns-2 c = last-long _ _ _ _ (omega arith) c.least-k.ensures
 
-pub near-last-spec : {M : Type 1} → statement M
-near-last-spec = tie.close (tie.spec returns (λ c κs. search rules) (λ c. search rules) (λ c. search rules) (λ c. search rules) returns-2)
+pub near_last_spec : {M : Type 1} → statement M
+near_last_spec = tie.close (tie.spec returns (λ c κs. search rules) (λ c. search rules) (λ c. search rules) (λ c. search rules) returns-2)

@@ -5,40 +5,40 @@ use Rattle.prepared.proofs.ScanSteps.{nearby-cannot, nearby-no, nearby-not, near
 use Rattle.prepared.proofs.stored.nearby_at.Statement.{statement}
 use Rattle.prepared.proofs.stored.nearby_at.Tie as tie
 
-returns : tie.Need-returns
+returns : tie.Need-returns-then-not-can_match
 returns c =
     let a = c.before.before.before.before.before.args in
-    nearby-cannot a.t.now a.n a.i a.limit a.mark a.remote a.local a.high _ c.before.can-match.ensures
-    (not-true _ c.if1.true)
+    nearby-cannot a.t.now a.n a.i a.limit a.mark a.remote a.local a.high _ c.before.can_match.ensures
+    (not-true _ c.if-not-can_match.true-raw)
 
-returns-2 : tie.Need-returns-2
+returns-2 : tie.Need-returns-then-not-port_in
 returns-2 c =
     let b = c.before.before.before in
     let a = b.before.before.before.before.before.args in
-    nearby-no a.t.now a.n a.i a.limit a.mark a.remote a.local a.high _ b.before.can-match.ensures
-    (not-false _ b.if1.false) _ c.before.port-in.ensures (not-true _ c.if2.true)
+    nearby-no a.t.now a.n a.i a.limit a.mark a.remote a.local a.high _ b.before.can_match.ensures
+    (not-false _ b.if-not-can_match.false-raw) _ c.before.port_in.ensures (not-true _ c.if-not-port_in.true-raw)
 
-returns-3 : tie.Need-returns-3
+returns-3 : tie.Need-returns-then-not-port_in-2
 returns-3 c =
     let d = c.before.before in
     let b = d.before.before.before in
     let a = b.before.before.before.before.before.args in
-    nearby-not a.t.now a.n a.i a.limit a.mark a.remote a.local a.high _ b.before.can-match.ensures
-    (not-false _ b.if1.false) _ d.before.port-in.ensures (not-false _ d.if2.false)
-    _ c.before.port-in2.ensures (not-true _ c.if3.true)
+    nearby-not a.t.now a.n a.i a.limit a.mark a.remote a.local a.high _ b.before.can_match.ensures
+    (not-false _ b.if-not-can_match.false-raw) _ d.before.port_in.ensures (not-false _ d.if-not-port_in.false-raw)
+    _ c.before.port_in-2.ensures (not-true _ c.if-not-port_in-2.true-raw)
 
-returns-4 : tie.Need-returns-4
+returns-4 : tie.Need-returns
 returns-4 c =
     let e = c.before in
     let d = e.before.before in
     let b = d.before.before.before in
     let a = b.before.before.before.before.before.args in
-    nearby-front a.t.now a.n a.i a.limit a.mark a.remote a.local a.high _ b.before.can-match.ensures
-    (not-false _ b.if1.false) _ d.before.port-in.ensures (not-false _ d.if2.false)
-    _ e.before.port-in2.ensures (not-false _ e.if3.false) _ c.near-front.ensures
+    nearby-front a.t.now a.n a.i a.limit a.mark a.remote a.local a.high _ b.before.can_match.ensures
+    (not-false _ b.if-not-can_match.false-raw) _ d.before.port_in.ensures (not-false _ d.if-not-port_in.false-raw)
+    _ e.before.port_in-2.ensures (not-false _ e.if-not-port_in-2.false-raw) _ c.near_front.ensures
 
-pub nearby-at-spec : {M : Type 1} → statement M
-nearby-at-spec =
+pub nearby_at_spec : {M : Type 1} → statement M
+nearby_at_spec =
     tie.close
     (tie.spec
     (λ c. search rules)

@@ -7,14 +7,14 @@ use Rattle.prepared.proofs.ScanSteps.{Passed, pass-start, pass-block, pass-found
 use Rattle.prepared.proofs.stored.next_named.Statement.{statement}
 use Rattle.prepared.proofs.stored.next_named.Tie as tie
 
-abbrev invariant-loop : tie.invariant-loop
+abbrev invariant-loop : tie.invariant-loop-i
 invariant-loop t n from end ids id limit mark remote local high low upper lower i₀ i = Passed (named t n ids id limit mark remote local high low upper lower) from end i
 
-abbrev decreases-loop : tie.decreases-loop
+abbrev decreases-loop : tie.decreases-loop-i
 decreases-loop t n from end ids id limit mark remote local high low upper lower i₀ i = end - i
 
-pub next-named-spec : {M : Type 1} → statement M
-next-named-spec =
+pub next_named_spec : {M : Type 1} → statement M
+next_named_spec =
     tie.close
     (tie.spec
     invariant-loop
@@ -23,8 +23,8 @@ next-named-spec =
     (λ c. search rules)
     (λ c. search rules)
     (λ c κs. search rules)
-    (λ c. pass-found c.before.before.before.loop.invariant (omega arith) _ c.before.named-in-block.ensures c.if1.true)
+    (λ c. pass-found c.before.before.before.loop-i.invariant (omega arith) _ c.before.named_in_block-r.ensures c.if-r-next.true)
     (λ c. search rules)
-    (λ c. pass-block c.before.before.before.loop.invariant (omega arith) _ c.before.named-in-block.ensures c.if1.false)
+    (λ c. pass-block c.before.before.before.loop-i.invariant (omega arith) _ c.before.named_in_block-r.ensures c.if-r-next.false)
     (λ c κs. search rules)
-    (λ c. pass-rest c.before.before.loop.invariant _ c.scan-named.ensures))
+    (λ c. pass-rest c.before.before.loop-i.invariant _ c.scan_named.ensures))

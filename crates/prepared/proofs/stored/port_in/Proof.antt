@@ -6,18 +6,18 @@ use Rattle.prepared.proofs.stored.port_in.Statement.{statement}
 use Rattle.prepared.proofs.stored.port_in.Tie as tie
 
 -- src/stored.rt:138:9
-returns : tie.Need-returns
+returns : tie.Need-returns-then-port-low
 returns c =
-    port-below _ _ _ _ _ _ c.before.before.before.before.load16.ensures c.before.before.before.load162.ensures
-    c.before.before.smaller.ensures _ c.if1.true
+    port-below _ _ _ _ _ _ c.before.before.before.before.load16-x.ensures c.before.before.before.load16-y.ensures
+    c.before.before.smaller-low.ensures _ c.if-port-low.true
 
-returns-2 : tie.Need-returns-2
+returns-2 : tie.Need-returns
 returns-2 c =
-    port-within _ _ _ _ _ _ c.before.before.before.before.load16.ensures c.before.before.before.load162.ensures
-    c.before.before.smaller.ensures _ c.before.larger.ensures (omega arith)
+    port-within _ _ _ _ _ _ c.before.before.before.before.load16-x.ensures c.before.before.before.load16-y.ensures
+    c.before.before.smaller-low.ensures _ c.before.larger-high.ensures (omega arith)
 
-pub port-in-spec : {M : Type 1} → statement M
-port-in-spec =
+pub port_in_spec : {M : Type 1} → statement M
+port_in_spec =
     tie.close
     (tie.spec
     (λ c κs. search rules)

@@ -7,24 +7,24 @@ use Rattle.prepared.proofs.ScanSteps.{Passed, pass-start, pass-next, pass-here, 
 use Rattle.prepared.proofs.stored.scan_close.Statement.{statement}
 use Rattle.prepared.proofs.stored.scan_close.Tie as tie
 
-abbrev invariant-loop : tie.invariant-loop
+abbrev invariant-loop : tie.invariant-loop-i
 invariant-loop t n from end limit mark remote local high low upper lower i₀ i = Passed (close t n limit mark remote local high low upper lower) from end i
 
-abbrev decreases-loop : tie.decreases-loop
+abbrev decreases-loop : tie.decreases-loop-i
 decreases-loop t n from end limit mark remote local high low upper lower i₀ i = end - i
 
-pub scan-close-spec : {M : Type 1} → statement M
-scan-close-spec =
+pub scan_close_spec : {M : Type 1} → statement M
+scan_close_spec =
     tie.close
     (tie.spec
     invariant-loop
     decreases-loop
     (λ c. pass-start _ _ _ (omega arith))
     (λ c κs. search rules)
-    (λ c. pass-here c.before.before.before.loop.invariant c.before.before.loop-test.true _ c.before.close_at.ensures
-    c.if1.true)
+    (λ c. pass-here c.before.before.before.loop-i.invariant c.before.before.loop-i-test.true _ c.before.close_at.ensures
+    c.if-close_at.true)
     (λ c. search rules)
     (λ c. search rules)
-    (λ c. pass-next c.before.before.before.loop.invariant c.before.before.loop-test.true _ c.before.close_at.ensures
-    c.if1.false)
-    (λ c. pass-over c.before.loop.invariant c.loop-test.false))
+    (λ c. pass-next c.before.before.before.loop-i.invariant c.before.before.loop-i-test.true _ c.before.close_at.ensures
+    c.if-close_at.false)
+    (λ c. pass-over c.before.loop-i.invariant c.loop-i-test.false))

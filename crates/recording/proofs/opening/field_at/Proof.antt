@@ -9,7 +9,7 @@ returns c =
     let b = c.before.before.before.before.before in
     field_is b.args.at b.args.bytes.now _ b.requires c.before.copy_at.ensures
 
-pub field-at-spec : {M : Type 1} → statement M
-field-at-spec =
+pub field_at_spec : {M : Type 1} → statement M
+field_at_spec =
     tie.close
     (tie.spec (λ c. search rules) (λ c. search rules) (λ c. search rules) (λ c. search rules) (λ c. search rules) (λ c κs. search rules) returns)

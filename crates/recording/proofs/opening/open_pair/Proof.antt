@@ -6,10 +6,10 @@ use Rattle.recording.proofs.opening.open_pair.Tie as tie
 
 returns : tie.Need-returns
 returns c =
-    pair_is c.before.before.before.before.before.before.args.bytes.now _ _ _ _ c.before.load16.ensures c.load162.ensures
-    c.before.before.before.before.field_at.ensures c.before.before.before.field-at2.ensures
+    pair_is c.before.before.before.before.before.before.args.bytes.now _ _ _ _ c.before.load16.ensures c.load16-2.ensures
+    c.before.before.before.before.field_at-local.ensures c.before.before.before.field_at-remote.ensures
 
-pub open-pair-spec : {M : Type 1} → statement M
-open-pair-spec =
+pub open_pair_spec : {M : Type 1} → statement M
+open_pair_spec =
     tie.close
     (tie.spec (λ c κs. search rules) (λ c κs. search rules) (λ c. search rules) (λ c κs. search rules) (λ c κs. search rules) returns)

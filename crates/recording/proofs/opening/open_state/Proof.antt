@@ -7,10 +7,10 @@ use Rattle.recording.proofs.opening.open_state.Tie as tie
 returns : tie.Need-returns
 returns c =
     let l = c.before.before.before in
-    state-is c.before.before.before.before.before.before.before.args.bytes.now _ _ _ _ l.before.before.open-pair.ensures
-    l.before.load32.ensures l.load322.ensures c.opened.ensures
+    state-is c.before.before.before.before.before.before.before.args.bytes.now _ _ _ _ l.before.before.open_pair-pair.ensures
+    l.before.load32-isn.ensures l.load32-peer_isn.ensures c.opened.ensures
 
-pub open-state-spec : {M : Type 1} → statement M
-open-state-spec =
+pub open_state_spec : {M : Type 1} → statement M
+open_state_spec =
     tie.close (tie.spec (λ c κs. search rules) (λ c κs. search rules) (λ c κs. search rules) (λ c. search rules)
     (λ c. search rules) (λ c κs. search rules) returns)

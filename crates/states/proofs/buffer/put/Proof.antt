@@ -7,7 +7,7 @@ use Rattle.states.proofs.buffer.put.Tie as tie
 returns : tie.Need-returns
 returns c =
     let a = c.before.before.before.before.before.before.before.args in
-    let e = c.before.before.before.before.before.encode in
+    let e = c.before.before.before.before.before.encode-encoded in
     c.before.before.copy_at.ensures ∙ (whole_is a.bytes.now e.result (omega arith) ∙ e.ensures.0)
 
 pub put_spec : {M : Type 1} → statement M

@@ -3,5 +3,5 @@ use Rattle.std.proofs.Common.{rules, le-ltb, lt-ltb}
 use Rattle.states.proofs.counts.bump.Statement.{statement}
 use Rattle.states.proofs.counts.bump.Tie as tie
 
-pub bump-spec : {M : Type 1} → statement M
-bump-spec = tie.close (tie.spec (λ c. search rules) (λ c. simp (lt-ltb _ _ c.if1.true)) (λ c. simp (le-ltb _ _ c.if1.false)))
+pub bump_spec : {M : Type 1} → statement M
+bump_spec = tie.close (tie.spec (λ c. search rules) (λ c. simp (lt-ltb _ _ c.if-n-lt18446744073709551615.true)) (λ c. simp (le-ltb _ _ c.if-n-lt18446744073709551615.false)))

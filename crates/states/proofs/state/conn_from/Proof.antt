@@ -8,7 +8,7 @@ returns : tie.Need-returns
 unfolding decode_connection
 returns c = cc
 
-pub conn-from-spec : {M : Type 1} → statement M
-conn-from-spec =
+pub conn_from_spec : {M : Type 1} → statement M
+conn_from_spec =
     tie.close
     (tie.spec (λ c κs. search rules) (λ c. search rules) (λ c. search rules) (λ c κs. search rules) (λ c κs. search rules) returns)

@@ -7,12 +7,12 @@ use Rattle.states.proofs.state.decode.Tie as tie
 returns : tie.Need-returns
 returns c =
     let b = c.before.before.before.before.before.before.before in
-    state-read b.before.args.bytes.now _ _ _ _ _ b.before.requires (λ i. (b.shared-slice-known.given i).fits)
-    c.before.before.before.before.before.before.conn-from.ensures c.before.before.before.before.before.drops-from.ensures
-    c.before.before.before.before.load64.ensures c.before.before.before.load642.ensures c.load643.ensures
+    state-read b.before.args.bytes.now _ _ _ _ _ b.before.requires (λ i. (b.shared_slice_known-1.given i).fits)
+    c.before.before.before.before.before.before.conn_from-conn.ensures c.before.before.before.before.before.drops_from-drops.ensures
+    c.before.before.before.before.load64.ensures c.before.before.before.load64-2.ensures c.load64-3.ensures
 
-pub decode-spec : {M : Type 1} → statement M
-decode-spec =
+pub decode_spec : {M : Type 1} → statement M
+decode_spec =
     tie.close
     (tie.spec
     (λ c κs. search rules)

@@ -6,29 +6,29 @@ use Rattle.states.proofs.Parts.{one-read, all_read}
 use Rattle.states.proofs.state.drops_from.Statement.{statement}
 use Rattle.states.proofs.state.drops_from.Tie as tie
 
-abbrev invariant-loop : tie.invariant-loop
+abbrev invariant-loop : tie.invariant-loop-i
 invariant-loop bytes drops₀ i₀ drops i = (i ≤ slots) × (length drops ≡ slots) × (take i drops ≡ words_at_lem i bytes drops_at)
 
-abbrev decreases-loop : tie.decreases-loop
+abbrev decreases-loop : tie.decreases-loop-i
 decreases-loop bytes drops₀ i₀ drops i = slots - i
 
-loop-holds : tie.Need-loop-init invariant-loop decreases-loop
+loop-holds : tie.Need-loop-i-init invariant-loop decreases-loop
 unfolding words_at_lem
 loop-holds c = (omega arith, refl, refl)
 
-loop-again : tie.Need-loop-preserved invariant-loop decreases-loop
+loop-again : tie.Need-loop-i-preserved invariant-loop decreases-loop
 loop-again c =
-    let l = c.before.before.loop in (
+    let l = c.before.before.loop-i in (
       omega arith,
       simp length-set l.invariant.1,
       one-read l.drops _ l.i c.load64.result drops_at (omega (arith, l.invariant.1)) l.invariant.2 c.load64.ensures,
     )
 
 returns : tie.Need-returns invariant-loop decreases-loop
-returns c = all_read _ _ c.before.loop.i slots drops_at (omega arith) c.before.loop.invariant.1 c.before.loop.invariant.2
+returns c = all_read _ _ c.before.loop-i.i slots drops_at (omega arith) c.before.loop-i.invariant.1 c.before.loop-i.invariant.2
 
-pub drops-from-spec : {M : Type 1} → statement M
-drops-from-spec =
+pub drops_from_spec : {M : Type 1} → statement M
+drops_from_spec =
     tie.close
     (tie.spec
     invariant-loop

@@ -32,5 +32,5 @@ value c =
 returns : tie.Need-returns
 returns c = (bytes-are c, ap decode_of (bytes-are c) ∙ decode-encode _ (value c))
 
-pub encode-spec : {M : Type 1} → statement M
-encode-spec = tie.close (tie.spec (λ c κs. search rules) (λ c κs. search rules) returns)
+pub encode_spec : {M : Type 1} → statement M
+encode_spec = tie.close (tie.spec (λ c κs. search rules) (λ c κs. search rules) returns)

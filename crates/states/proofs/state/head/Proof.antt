@@ -6,7 +6,7 @@ use Rattle.states.proofs.state.head.Tie as tie
 
 returns : tie.Need-returns
 returns c =
-    head-is c.before.before.before.before.before.before.args.s _ _ _ _ c.before.before.before.bytes16.ensures c.before.before.bytes162.ensures c.before.bytes32.ensures c.bytes322.ensures
+    head-is c.before.before.before.before.before.before.args.s _ _ _ _ c.before.before.before.bytes16-local_port.ensures c.before.before.bytes16-remote_port.ensures c.before.bytes32-isn.ensures c.bytes32-peer_isn.ensures
 
 pub head_spec : {M : Type 1} → statement M
 head_spec =

@@ -8,16 +8,16 @@ returns : tie.Need-returns
 returns c =
     let a = c.before.before.before.before.before.before.before.before.before.before.before.before.before.before.before.before.before.before.before.before.args in
     let put1 = c.before.before.before.before.before.before.before.before.before.before.before.before.before.before.before.before.before.copy_at.ensures in
-    let put2 = c.before.before.before.before.before.before.before.before.before.before.before.before.before.copy-at2.ensures in
-    let put3 = c.before.before.before.before.before.before.before.before.before.copy-at3.ensures in
-    all-put a.t1 a.t2 a.t3 a.t4 a.t5 _ _ _ _ _ a.way
+    let put2 = c.before.before.before.before.before.before.before.before.before.before.before.before.before.copy_at-2.ensures in
+    let put3 = c.before.before.before.before.before.before.before.before.before.copy_at-3.ensures in
+    all-put a.head a.local a.remote a.numbers a.drops _ _ _ _ _ a.way
     (search rules) (search rules) (search rules) (search rules) (search rules)
     put1 put2 put3
-    c.before.before.before.before.before.words-at.ensures
-    c.before.words-at2.ensures
+    c.before.before.before.before.before.words_at.ensures
+    c.before.words_at-2.ensures
 
-pub join-spec : {M : Type 1} → statement M
-join-spec =
+pub join_spec : {M : Type 1} → statement M
+join_spec =
     tie.close
     (tie.spec
     (λ c. search rules)

@@ -7,10 +7,10 @@ use Rattle.states.proofs.state.pair_from.Tie as tie
 returns : tie.Need-returns
 returns c =
     let b = c.before.before.before.before.before.before.before.before in
-    pair_read b.args.bytes.now _ _ _ _ b.requires c.before.load16.ensures c.load162.ensures c.before.before.before.before.before.field_of.ensures c.before.before.before.field-of2.ensures
+    pair_read b.args.bytes.now _ _ _ _ b.requires c.before.load16.ensures c.load16-2.ensures c.before.before.before.before.before.field_of-local.ensures c.before.before.before.field_of-remote.ensures
 
-pub pair-from-spec : {M : Type 1} → statement M
-pair-from-spec =
+pub pair_from_spec : {M : Type 1} → statement M
+pair_from_spec =
     tie.close
     (tie.spec
     (λ c. search rules)

@@ -6,47 +6,47 @@ use Rattle.states.proofs.Parts.{one_written}
 use Rattle.states.proofs.state.words_at.Statement.{statement}
 use Rattle.states.proofs.state.words_at.Tie as tie
 
-abbrev invariant-loop : tie.invariant-loop
+abbrev invariant-loop : tie.invariant-loop-i
 invariant-loop out₀ at words i₀ out i = (i ≤ length words) × (length out ≡ length out₀) × (out ≡ paste out₀ at (word_bytes words) (8 * i))
 
-abbrev decreases-loop : tie.decreases-loop
+abbrev decreases-loop : tie.decreases-loop-i
 decreases-loop out₀ at words i₀ out i = length words - i
 
-loop-holds : tie.Need-loop-init invariant-loop decreases-loop
+loop-holds : tie.Need-loop-i-init invariant-loop decreases-loop
 loop-holds c =
     let a = c.before.before.args in
     (omega arith, refl, paste-zero a.out.now a.at (word_bytes a.words.now))
 
-slice-aggregate-copy-at : tie.Need-slice-aggregate-copy-at invariant-loop decreases-loop
-slice-aggregate-copy-at c = search rules
+slice_aggregate-copy_at : tie.Need-slice_bounds-copy_at-end invariant-loop decreases-loop
+slice_aggregate-copy_at c = search rules
 
-copy-at-requires : tie.Need-copy-at-requires invariant-loop decreases-loop
-copy-at-requires c κs =
-    let l = c.before.before.before.before.before.loop in
-    omega (arith, ap length c.before.before.bytes64.ensures, l.invariant.1, c.before.before.before.before.before.before.before.before.requires)
+copy_at-requires : tie.Need-copy_at-requires invariant-loop decreases-loop
+copy_at-requires c κs =
+    let l = c.before.before.before.before.before.loop-i in
+    omega (arith, ap length c.before.before.bytes64-bytes.ensures, l.invariant.1, c.before.before.before.before.before.before.before.before.requires)
 
-loop-again : tie.Need-loop-preserved invariant-loop decreases-loop
+loop-again : tie.Need-loop-i-preserved invariant-loop decreases-loop
 loop-again c =
     let p = c.before.before.before.before.before.before.before.before.before.before.before.requires in
-    let l = c.before.before.before.before.before.before.before.before.loop in
+    let l = c.before.before.before.before.before.before.before.before.loop-i in
     let a = c.before.before.before.before.before.before.before.before.before.before.before.args in (
       omega arith,
-      c.before.before.copy_at.auto.0 ∙ l.invariant.1,
-      one_written a.out.now a.words.now l.out _ _ a.at l.i p c.before.before.before.before.before.before.before.loop-test.true
-          l.invariant.2 c.before.before.before.before.before.bytes64.ensures c.before.before.copy_at.ensures,
+      c.before.before.copy_at.auto.dst ∙ l.invariant.1,
+      one_written a.out.now a.words.now l.out _ _ a.at l.i p c.before.before.before.before.before.before.before.loop-i-test.true
+          l.invariant.2 c.before.before.before.before.before.bytes64-bytes.ensures c.before.before.copy_at.ensures,
     )
 
-same_length : tie.Need-same-length invariant-loop decreases-loop
-same_length c = c.before.loop.invariant.1
+same_length : tie.Need-shape_of-out invariant-loop decreases-loop
+same_length c = c.before.loop-i.invariant.1
 
 returns : tie.Need-returns invariant-loop decreases-loop
 returns c =
     let a = c.before.before.before.before.args in
-    let e : c.before.loop.i ≡ length a.words.now = omega arith in
-    c.before.loop.invariant.2 ∙ ap (λ (k : ℕ). paste a.out.now a.at (word_bytes a.words.now) (8 * k)) e
+    let e : c.before.loop-i.i ≡ length a.words.now = omega arith in
+    c.before.loop-i.invariant.2 ∙ ap (λ (k : ℕ). paste a.out.now a.at (word_bytes a.words.now) (8 * k)) e
 
-pub words-at-spec : {M : Type 1} → statement M
-words-at-spec =
+pub words_at_spec : {M : Type 1} → statement M
+words_at_spec =
     tie.close
     (tie.spec
     invariant-loop
@@ -57,8 +57,8 @@ words-at-spec =
     (λ c κs. search rules)
     (λ c. search rules)
     (λ c. search rules)
-    slice-aggregate-copy-at
-    copy-at-requires
+    slice_aggregate-copy_at
+    copy_at-requires
     (λ c. search rules)
     (λ c. search rules)
     loop-again

@@ -4,5 +4,5 @@ use Rattle.states.proofs.Fields.{laid}
 use Rattle.states.proofs.writers.field_of.Statement.{statement}
 use Rattle.states.proofs.writers.field_of.Tie as tie
 
-pub field-of-spec : {M : Type 1} → statement M
-field-of-spec = tie.close (tie.spec (λ c. search rules) (λ c κs. search rules) (λ c. laid c.before.before.before.before.args.address.now _ c.before.copy_at.ensures))
+pub field_of_spec : {M : Type 1} → statement M
+field_of_spec = tie.close (tie.spec (λ c. search rules) (λ c κs. search rules) (λ c. laid c.before.before.before.before.args.address.now _ c.before.copy_at.ensures))

@@ -3,5 +3,5 @@ use Rattle.std.proofs.Common.{rules}
 use Rattle.states.proofs.writers.opened.Statement.{statement}
 use Rattle.states.proofs.writers.opened.Tie as tie
 
-pub opened-spec : {M : Type 1} → statement M
-opened-spec = tie.close (tie.spec (λ c. search rules))
+pub opened_spec : {M : Type 1} → statement M
+opened_spec = tie.close (tie.spec (λ c. search rules))

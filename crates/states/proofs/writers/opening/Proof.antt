@@ -3,5 +3,5 @@ use Rattle.std.proofs.Common.{rules}
 use Rattle.states.proofs.writers.opening.Statement.{statement}
 use Rattle.states.proofs.writers.opening.Tie as tie
 
-pub opening-spec : {M : Type 1} → statement M
-opening-spec = tie.close (tie.spec (λ c κs. search rules) (λ c. rw c.before.opened.ensures))
+pub opening_spec : {M : Type 1} → statement M
+opening_spec = tie.close (tie.spec (λ c κs. search rules) (λ c. rw c.before.opened-q.ensures))

@@ -3,5 +3,5 @@ use Rattle.std.proofs.Common.{rules}
 use Rattle.states.proofs.writers.with_accepted.Statement.{statement}
 use Rattle.states.proofs.writers.with_accepted.Tie as tie
 
-pub with-accepted-spec : {M : Type 1} → statement M
-with-accepted-spec = tie.close (tie.spec (λ c κs. search rules) (λ c κs. search rules) (λ c. cc))
+pub with_accepted_spec : {M : Type 1} → statement M
+with_accepted_spec = tie.close (tie.spec (λ c κs. search rules) (λ c κs. search rules) (λ c. cc))

@@ -3,5 +3,5 @@ use Rattle.std.proofs.Common.{rules}
 use Rattle.states.proofs.writers.with_counted.Statement.{statement}
 use Rattle.states.proofs.writers.with_counted.Tie as tie
 
-pub with-counted-spec : {M : Type 1} → statement M
-with-counted-spec = tie.close (tie.spec (λ c κs. search rules) (λ c. cc))
+pub with_counted_spec : {M : Type 1} → statement M
+with_counted_spec = tie.close (tie.spec (λ c κs. search rules) (λ c. cc))

@@ -5,11 +5,11 @@ use Rattle.checks.specs.GroupLaws.{yes, no}
 use Rattle.tcpao.proofs.judge.accepted_on.Statement.{statement}
 use Rattle.tcpao.proofs.judge.accepted_on.Tie as tie
 
-returns : tie.Need-returns
-returns c = yes _ _ (sym c.before.before.is-md5.ensures ∙ c.before.if1.true) c.with-counted.ensures
+returns : tie.Need-returns-then-is_md5
+returns c = yes _ _ (sym c.before.before.is_md5.ensures ∙ c.before.if-is_md5.true) c.with_counted.ensures
 
-returns-2 : tie.Need-returns-2
-returns-2 c = no _ _ (sym c.before.before.is-md5.ensures ∙ c.before.if1.false) c.with-accepted.ensures
+returns-2 : tie.Need-returns
+returns-2 c = no _ _ (sym c.before.before.is_md5.ensures ∙ c.before.if-is_md5.false) c.with_accepted.ensures
 
-pub accepted-on-spec : {M : Type 1} → statement M
-accepted-on-spec = tie.close (tie.spec (λ c κs. search rules) (λ c κs. search rules) returns (λ c κs. search rules) returns-2)
+pub accepted_on_spec : {M : Type 1} → statement M
+accepted_on_spec = tie.close (tie.spec (λ c κs. search rules) (λ c κs. search rules) returns (λ c κs. search rules) returns-2)

@@ -5,14 +5,14 @@ use Rattle.tcpao.proofs.Judging.{same_key, other_key}
 use Rattle.tcpao.proofs.judge.next_key.Statement.{statement}
 use Rattle.tcpao.proofs.judge.next_key.Tie as tie
 
-returns : tie.Need-returns
-returns c = let a = c.before.before.before.args in same_key (tables_of a.form a.keys.now a.md5.now) a.pair a.rnext a.current c.if1.true
+returns : tie.Need-returns-then-rnext-current
+returns c = let a = c.before.before.before.args in same_key (tables_of a.form a.keys.now a.md5.now) a.pair a.rnext a.current c.if-rnext-current.true
 
-returns-2 : tie.Need-returns-2
-returns-2 c = let a = c.before.before.before.before.before.args in other_key (tables_of a.form a.keys.now a.md5.now) a.pair a.rnext a.current c.before.before.if1.false c.before.find-send.ensures c.if2.true
+returns-2 : tie.Need-returns-then-found
+returns-2 c = let a = c.before.before.before.before.before.args in other_key (tables_of a.form a.keys.now a.md5.now) a.pair a.rnext a.current c.before.before.if-rnext-current.false c.before.find_send-found.ensures c.if-found.true
 
-returns-3 : tie.Need-returns-3
-returns-3 c = let a = c.before.before.before.before.before.args in other_key (tables_of a.form a.keys.now a.md5.now) a.pair a.rnext a.current c.before.before.if1.false c.before.find-send.ensures c.if2.false
+returns-3 : tie.Need-returns
+returns-3 c = let a = c.before.before.before.before.before.args in other_key (tables_of a.form a.keys.now a.md5.now) a.pair a.rnext a.current c.before.before.if-rnext-current.false c.before.find_send-found.ensures c.if-found.false
 
-pub next-key-spec : {M : Type 1} → statement M
-next-key-spec = tie.close (tie.spec returns (λ c κs. search rules) returns-2 returns-3)
+pub next_key_spec : {M : Type 1} → statement M
+next_key_spec = tie.close (tie.spec returns (λ c κs. search rules) returns-2 returns-3)

@@ -9,7 +9,7 @@ returns : tie.Need-returns
 unfolding head_bytes fixed_bytes
 returns c = refl
 
-pub head-of-spec : {M : Type 1} → statement M
-head-of-spec =
+pub head_of_spec : {M : Type 1} → statement M
+head_of_spec =
     tie.close
     (tie.spec (λ c. search rules) (λ c. search rules) (λ c. search rules) (λ c. search rules) (λ c. search rules) (λ c. search rules) (λ c. search rules) (λ c. search rules) (λ c. search rules) (λ c. search rules) (λ c. search rules) (λ c. search rules) (λ c. search rules) (λ c. search rules) (λ c. search rules) (λ c. search rules) (λ c. search rules) (λ c. search rules) (λ c. search rules) (λ c. search rules) returns)

@@ -12,26 +12,26 @@ use Rattle.traffic.proofs.Zeros.{take_min}
 use Rattle.traffic.proofs.context.finish_keyed.Statement.{statement}
 use Rattle.traffic.proofs.context.finish_keyed.Tie as tie
 
-room : (s : tie.Start) → length s.args.t2 ≡ 80
+room : (s : tie.Start) → length s.args.key ≡ 80
 room s = search rules
 
-array-share-prefix-key : tie.Need-array-share-prefix-key
-array-share-prefix-key c = omega (arith, room c.before)
+array_share_prefix-key : tie.Need-slice_bounds-key-end
+array_share_prefix-key c = omega (arith, room c.before)
 
-slice-aggregate-update : tie.Need-slice-aggregate-update
-slice-aggregate-update c =
+slice_aggregate-update : tie.Need-slice_bounds-update-end
+slice_aggregate-update c =
     let n = c.before in
-    sym (length-take-le n.key-bytes.result n.before.args.t2 (omega (arith, room n.before)))
+    sym (length-take-le n.key_bytes-n.result n.before.args.key (omega (arith, room n.before)))
 
 returns : tie.Need-returns
 returns c =
     let n = c.before.before.before in
     let a = n.before.args in
     keyed-end (hash_view Md5 a.hash)
-    (ap (λ (i : ℕ). take i a.t2) n.key-bytes.ensures ∙ take_min a.key-len 80 a.t2 (room n.before))
+    (ap (λ (i : ℕ). take i a.key) n.key_bytes-n.ensures ∙ take_min a.key_len 80 a.key (room n.before))
     c.before.update.ensures c.finish.ensures
 
-pub finish-keyed-spec : {M : Type 1} → statement M
-finish-keyed-spec =
+pub finish_keyed_spec : {M : Type 1} → statement M
+finish_keyed_spec =
     tie.close
-    (tie.spec (λ c κs. search rules) array-share-prefix-key slice-aggregate-update (λ c κs. search rules) (λ c κs. search rules) returns)
+    (tie.spec (λ c κs. search rules) array_share_prefix-key slice_aggregate-update (λ c κs. search rules) (λ c κs. search rules) returns)

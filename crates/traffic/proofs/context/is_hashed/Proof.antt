@@ -4,8 +4,8 @@ use borrow.Author.Tests.{eq-eqb, ne_eqb}
 use Rattle.traffic.proofs.context.is_hashed.Statement.{statement}
 use Rattle.traffic.proofs.context.is_hashed.Tie as tie
 
-pub is-hashed-spec : {M : Type 1} → statement M
-is-hashed-spec =
+pub is_hashed_spec : {M : Type 1} → statement M
+is_hashed_spec =
     tie.close
-    (tie.spec (λ c. rw (eq-eqb _ 19 c.if1.true)) (λ c κs. search rules)
-    (λ c. rw (ne_eqb _ 19 c.before.if1.false) c.is-hmac.ensures))
+    (tie.spec (λ c. rw (eq-eqb _ 19 c.if-algorithm-eq-DIGEST.true)) (λ c κs. search rules)
+    (λ c. rw (ne_eqb _ 19 c.before.if-algorithm-eq-DIGEST.false) c.is_hmac.ensures))

@@ -5,14 +5,14 @@ use Rattle.traffic.proofs.Zeros.{copied-whole}
 use Rattle.traffic.proofs.derive.aes_key.Statement.{statement}
 use Rattle.traffic.proofs.derive.aes_key.Tie as tie
 
-returns : tie.Need-returns
+returns : tie.Need-returns-then-key-eq16
 returns c =
     let t = c.before.before.before in
     let k = t.before.before.args.key.now in
-    whole-key k t.if1.true (copied-whole 16 k t.if1.true c.before.copy_at.ensures)
+    whole-key k t.if-key-eq16.true (copied-whole 16 k t.if-key-eq16.true c.before.copy_at.ensures)
 
-returns-2 : tie.Need-returns-2
-returns-2 c = other_key _ c.before.if1.false c.cmac.ensures
+returns-2 : tie.Need-returns
+returns-2 c = other_key _ c.before.if-key-eq16.false c.cmac.ensures
 
-pub aes-key-spec : {M : Type 1} → statement M
-aes-key-spec = tie.close (tie.spec (λ c. search rules) (λ c κs. search rules) returns (λ c κs. search rules) returns-2)
+pub aes_key_spec : {M : Type 1} → statement M
+aes_key_spec = tie.close (tie.spec (λ c. search rules) (λ c κs. search rules) returns (λ c κs. search rules) returns-2)

@@ -13,8 +13,8 @@ use Rattle.traffic.proofs.derive.derivation_input.Tie as tie
 push-requires : tie.Need-push-requires
 push-requires c κs = omega (arith, ap (λ (a : Assembled). a.len) c.before.new.ensures)
 
-push-context-requires : tie.Need-push-context-requires
-push-context-requires c κs = omega (arith, ap (λ (a : Assembled). a.len) c.before.before.new.ensures)
+push_context-requires : tie.Need-push_context-requires
+push_context-requires c κs = omega (arith, ap (λ (a : Assembled). a.len) c.before.before.new.ensures)
 
 push16-requires : tie.Need-push16-requires
 push16-requires c κs =
@@ -29,8 +29,8 @@ returns c =
     let e = ap (λ (a : Assembled). a.len) n.new.ensures in
     let h = context-room flow in
     pushed_more _ _ (omega arith)
-    (pushed_more _ (context (flow_of flow)) (omega arith) (pushed-on n.new.ensures c.before.before.push.ensures) c.before.push-context.ensures)
+    (pushed_more _ (context (flow_of flow)) (omega arith) (pushed-on n.new.ensures c.before.before.push.ensures) c.before.push_context.ensures)
     c.push16.ensures
 
-pub derivation-input-spec : {M : Type 1} → statement M
-derivation-input-spec = tie.close (tie.spec (λ c κs. search rules) (λ c. search rules) push-requires push-context-requires push16-requires returns)
+pub derivation_input_spec : {M : Type 1} → statement M
+derivation_input_spec = tie.close (tie.spec (λ c κs. search rules) (λ c. search rules) push-requires push_context-requires push16-requires returns)

@@ -39,8 +39,8 @@ returns c =
     let q = bytes16 flow.destination_port in
     let i = bytes32 flow.source_isn in
     pushed_more (a ++ p ++ q ++ i) _ (omega arith)
-    (pushed_more (a ++ p ++ q) i (omega arith) (pushed_more (a ++ p) q (omega arith) (pushed_more a p (omega arith) r.before.before.push-addresses.ensures r.before.push16.ensures) r.push162.ensures) c.before.push32.ensures)
-    c.push322.ensures
+    (pushed_more (a ++ p ++ q) i (omega arith) (pushed_more (a ++ p) q (omega arith) (pushed_more a p (omega arith) r.before.before.push_addresses.ensures r.before.push16.ensures) r.push16-2.ensures) c.before.push32.ensures)
+    c.push32-2.ensures
 
-pub push-context-spec : {M : Type 1} → statement M
-push-context-spec = tie.close (tie.spec (λ c κs. search rules) push16-requires push16-requires-2 push32-requires push32-requires-2 returns)
+pub push_context_spec : {M : Type 1} → statement M
+push_context_spec = tie.close (tie.spec (λ c κs. search rules) push16-requires push16-requires-2 push32-requires push32-requires-2 returns)

@@ -15,26 +15,26 @@ use Rattle.traffic.proofs.derive.traffic_key.Tie as tie
 key-room : (s : tie.Start) → length s.args.secret.key ≡ 80
 key-room s = search rules
 
-array-share-prefix-key : tie.Need-array-share-prefix-key
-array-share-prefix-key c = let l : length c.before.before.before.before.before.args.secret.key ≡ 80 = search rules in omega arith
+array_share_prefix-key : tie.Need-slice_bounds-key-end
+array_share_prefix-key c = let l : length c.before.before.before.before.before.args.secret.key ≡ 80 = search rules in omega arith
 
-slice-aggregate-derived : tie.Need-slice-aggregate-derived
-slice-aggregate-derived c =
+slice_aggregate-derived : tie.Need-slice_bounds-derived-end
+slice_aggregate-derived c =
     let k = c.before.before.before.before.before.before.args.secret.key in
     let l : length k ≡ 80 = search rules in
     sym (length-take-le _ k (omega arith))
 
-array-share-prefix-input : tie.Need-array-share-prefix-input
-array-share-prefix-input c =
+array_share_prefix-input : tie.Need-slice_bounds-input-end
+array_share_prefix-input c =
     let d = c.before.before.before.before in
-    let l : length d.derivation-input.result.bytes ≡ 104 = search rules in
-    omega (arith, held-room _ d.derivation-input.ensures l)
+    let l : length d.derivation_input-a.result.bytes ≡ 104 = search rules in
+    omega (arith, held-room _ d.derivation_input-a.ensures l)
 
-slice-aggregate-derived-2 : tie.Need-slice-aggregate-derived-2
-slice-aggregate-derived-2 c =
+slice_aggregate-derived-2 : tie.Need-slice_bounds-derived-end-2
+slice_aggregate-derived-2 c =
     let d = c.before.before.before.before.before in
-    let l : length d.derivation-input.result.bytes ≡ 104 = search rules in
-    sym (length-take-le _ d.derivation-input.result.bytes (omega (arith, held-room _ d.derivation-input.ensures l)))
+    let l : length d.derivation_input-a.result.bytes ≡ 104 = search rules in
+    sym (length-take-le _ d.derivation_input-a.result.bytes (omega (arith, held-room _ d.derivation_input-a.ensures l)))
 
 returns : tie.Need-returns
 returns c =
@@ -44,12 +44,12 @@ returns c =
     let a = s.args in
     let l : length a.secret.key ≡ 80 = key-room s in
     derived-key a.secret (flow_of a.flow)
-    (ap (λ (i : ℕ). take i a.secret.key) n.key-bytes.ensures ∙ take_min a.secret.key_len 80 a.secret.key l)
-    d.before.output-bits.ensures.0 (held _ d.derivation-input.ensures) c.derived.ensures
+    (ap (λ (i : ℕ). take i a.secret.key) n.key_bytes-n.ensures ∙ take_min a.secret.key_len 80 a.secret.key l)
+    d.before.output_bits.ensures.0 (held _ d.derivation_input-a.ensures) c.derived.ensures
 
-pub traffic-key-spec : {M : Type 1} → statement M
-traffic-key-spec =
+pub traffic_key_spec : {M : Type 1} → statement M
+traffic_key_spec =
     tie.close
     (tie.spec
-    (λ c κs. search rules) (λ c κs. search rules) (λ c κs. search rules) array-share-prefix-key slice-aggregate-derived
-    array-share-prefix-input slice-aggregate-derived-2 (λ c κs. search rules) returns)
+    (λ c κs. search rules) (λ c κs. search rules) (λ c κs. search rules) array_share_prefix-key slice_aggregate-derived
+    array_share_prefix-input slice_aggregate-derived-2 (λ c κs. search rules) returns)

@@ -16,17 +16,17 @@ use Rattle.traffic.proofs.digest.begin.Tie as tie
 abbrev its-front : tie.Start → List ℕ
 its-front s = let a = s.args in digest_front (flow_of a.flow).source (flow_of a.flow).destination a.len a.header.now
 
-array-share-prefix-bytes : tie.Need-array-share-prefix-bytes
-array-share-prefix-bytes c =
+array_share_prefix-bytes : tie.Need-slice_bounds-bytes-end
+array_share_prefix-bytes c =
     let f = c.before.before in
-    let l : length f.front.result.bytes ≡ 104 = search rules in
-    omega (arith, held-room (its-front f.before.before) f.front.ensures l)
+    let l : length f.front-a.result.bytes ≡ 104 = search rules in
+    omega (arith, held-room (its-front f.before.before) f.front-a.ensures l)
 
-slice-aggregate-update : tie.Need-slice-aggregate-update
-slice-aggregate-update c =
+slice_aggregate-update : tie.Need-slice_bounds-update-end
+slice_aggregate-update c =
     let f = c.before.before.before in
-    let l : length f.front.result.bytes ≡ 104 = search rules in
-    sym (length-take-le _ f.front.result.bytes (omega (arith, held-room (its-front f.before.before) f.front.ensures l)))
+    let l : length f.front-a.result.bytes ≡ 104 = search rules in
+    sym (length-take-le _ f.front-a.result.bytes (omega (arith, held-room (its-front f.before.before) f.front-a.ensures l)))
 
 returns : tie.Need-returns
 returns c =
@@ -35,12 +35,12 @@ returns c =
     let f = n.before.before in
     let s = f.before.before in
     let a = s.args in
-    digest-begun a.secret (flow_of a.flow) a.len a.header.now n.new.ensures (held (its-front s) f.front.ensures)
-    u.update.ensures c.keyed-last.ensures
+    digest-begun a.secret (flow_of a.flow) a.len a.header.now n.new.ensures (held (its-front s) f.front-a.ensures)
+    u.update-hash.ensures c.keyed_last.ensures
 
-pub begin-spec : {M : Type 1} → statement M
-begin-spec =
+pub begin_spec : {M : Type 1} → statement M
+begin_spec =
     tie.close
     (tie.spec
-    (λ c κs. search rules) (λ c κs. search rules) array-share-prefix-bytes slice-aggregate-update (λ c κs. search rules)
+    (λ c κs. search rules) (λ c κs. search rules) array_share_prefix-bytes slice_aggregate-update (λ c κs. search rules)
     (λ c κs. search rules) returns)

@@ -18,7 +18,7 @@ returns c =
     let d = p.before in
     let f = d.before in
     let s = f.before.before.before in
-    flow-blanked s.args.hidden s.args.flow (source-room s) (destination-room s) f.field-under.ensures d.field-under2.ensures p.port-under.ensures c.port-under2.ensures
+    flow-blanked s.args.hidden s.args.flow (source-room s) (destination-room s) f.field_under.ensures d.field_under-2.ensures p.port_under.ensures c.port_under-2.ensures
 
-pub blanked-spec : {M : Type 1} → statement M
-blanked-spec = tie.close (tie.spec (λ c κs. search rules) (λ c κs. search rules) (λ c κs. search rules) (λ c κs. search rules) returns)
+pub blanked_spec : {M : Type 1} → statement M
+blanked_spec = tie.close (tie.spec (λ c κs. search rules) (λ c κs. search rules) (λ c κs. search rules) (λ c κs. search rules) returns)

@@ -14,14 +14,14 @@ use Rattle.traffic.proofs.front.front.Tie as tie
 push32-requires : tie.Need-push32-requires
 push32-requires c κs = omega (arith, ap (λ (a : Assembled). a.len) c.new.ensures)
 
-push-pseudo-header-requires : tie.Need-push-pseudo-header-requires
-push-pseudo-header-requires c κs = omega (arith, ap (λ (a : Assembled). a.len) c.before.new.ensures)
+push_pseudo_header-requires : tie.Need-push_pseudo_header-a-requires
+push_pseudo_header-requires c κs = omega (arith, ap (λ (a : Assembled). a.len) c.before.new.ensures)
 
-push-header-requires : tie.Need-push-header-requires
-push-header-requires c κs =
+push_header-requires : tie.Need-push_header-requires
+push_header-requires c κs =
     let n = c.before.before in
     let s = n.before.before in
-    let h : c.push-pseudo-header.result.len ≤ c.before.push32.result.len + 40 = pseudo-pushed s.args.flow _ c.push-pseudo-header.ensures in (
+    let h : c.push_pseudo_header-a.result.len ≤ c.before.push32.result.len + 40 = pseudo-pushed s.args.flow _ c.push_pseudo_header-a.ensures in (
       omega (arith, ap (λ (a : Assembled). a.len) n.new.ensures, c.before.push32.ensures.len),
       s.requires.0,
       s.requires.1,
@@ -35,11 +35,11 @@ returns c =
     let n = p.before.before in
     let a = n.before.before.args in
     let e = ap (λ (a : Assembled). a.len) n.new.ensures in
-    let h : p.push-pseudo-header.result.len ≤ p.before.push32.result.len + 40 = pseudo-pushed a.flow _ p.push-pseudo-header.ensures in
+    let h : p.push_pseudo_header-a.result.len ≤ p.before.push32.result.len + 40 = pseudo-pushed a.flow _ p.push_pseudo_header-a.ensures in
     pushed_more _ _ (omega (arith, p.before.push32.ensures.len))
     (pushed_more (bytes32 a.extension) (pseudo a.flow a.len) (omega (arith, p.before.push32.ensures.len))
-    (pushed-on n.new.ensures p.before.push32.ensures) p.push-pseudo-header.ensures)
-    c.push-header.ensures
+    (pushed-on n.new.ensures p.before.push32.ensures) p.push_pseudo_header-a.ensures)
+    c.push_header.ensures
 
-pub front-spec : {M : Type 1} → statement M
-front-spec = tie.close (tie.spec (λ c κs. search rules) push32-requires push-pseudo-header-requires push-header-requires returns)
+pub front_spec : {M : Type 1} → statement M
+front_spec = tie.close (tie.spec (λ c κs. search rules) push32-requires push_pseudo_header-requires push_header-requires returns)

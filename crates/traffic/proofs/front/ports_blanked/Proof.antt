@@ -10,10 +10,10 @@ returns : tie.Need-returns
 returns c =
     let h = c.before.before.before in
     let a = h.before.before.before.args in
-    c.blank-if2.ensures
+    c.blank_if-2.ensures
     ∙ ap (blank_if_of a.hidden.destination 2 2)
-    (c.before.blank-if.ensures ∙ ap (blank_if_of a.hidden.source 0 2) (copied 60 a.header.now h.copy_at.ensures))
+    (c.before.blank_if.ensures ∙ ap (blank_if_of a.hidden.source 0 2) (copied 60 a.header.now h.copy_at.ensures))
 
-pub ports-blanked-spec : {M : Type 1} → statement M
-ports-blanked-spec =
+pub ports_blanked_spec : {M : Type 1} → statement M
+ports_blanked_spec =
     tie.close (tie.spec (λ c. search rules) (λ c κs. search rules) (λ c κs. search rules) (λ c κs. search rules) returns)

@@ -15,35 +15,35 @@ source : (s : tie.Start) → length s.args.flow.source ≡ 16
 source s = search rules
 
 push-requires : tie.Need-push-requires
-push-requires c κs = let l : length c.before.protocol-and-length.result ≡ 4 = search rules in omega (arith, addresses-room c.before.before.before.before.before.args.flow)
+push-requires c κs = let l : length c.before.protocol_and_length-n.result ≡ 4 = search rules in omega (arith, addresses-room c.before.before.before.before.before.args.flow)
 
 push-requires-2 : tie.Need-push-requires-2
-push-requires-2 c κs = let l : length c.before.length-and-next-header.result ≡ 8 = search rules in omega (arith, addresses-room c.before.before.before.before.before.args.flow)
+push-requires-2 c κs = let l : length c.before.length_and_next_header-n.result ≡ 8 = search rules in omega (arith, addresses-room c.before.before.before.before.before.args.flow)
 
-returns : tie.Need-returns
+returns : tie.Need-returns-then-w-eq4
 returns c =
     let w = c.before.before.before.before in
     let t = w.before.before in
     let a = t.args in
-    let p = w.before.push-addresses.ensures in
+    let p = w.before.push_addresses-b.ensures in
     let l : length a.a.bytes ≡ 104 = room t in
     let s : length a.flow.source ≡ 16 = source t in
-    pushed-is (pseudo-4 a.flow a.len s (sym w.width_of_lem.ensures ∙ c.before.before.before.if1.true) c.before.before.protocol-and-length.ensures)
+    pushed-is (pseudo-4 a.flow a.len s (sym w.width_of-w.ensures ∙ c.before.before.before.if-w-eq4.true) c.before.before.protocol_and_length-n.ensures)
     (pushed_more (addresses a.flow) _ (omega (arith, p.len, addresses-room a.flow)) p c.push.ensures)
 
-returns-2 : tie.Need-returns-2
+returns-2 : tie.Need-returns
 returns-2 c =
     let w = c.before.before.before.before in
     let t = w.before.before in
     let a = t.args in
-    let p = w.before.push-addresses.ensures in
+    let p = w.before.push_addresses-b.ensures in
     let l : length a.a.bytes ≡ 104 = room t in
     let s : length a.flow.source ≡ 16 = source t in
-    pushed-is (pseudo-6 a.flow a.len s (λ e. c.before.before.before.if1.false (w.width_of_lem.ensures ∙ e)) c.before.before.length-and-next-header.ensures)
-    (pushed_more (addresses a.flow) _ (omega (arith, p.len, addresses-room a.flow)) p c.push2.ensures)
+    pushed-is (pseudo-6 a.flow a.len s (λ e. c.before.before.before.if-w-eq4.false (w.width_of-w.ensures ∙ e)) c.before.before.length_and_next_header-n.ensures)
+    (pushed_more (addresses a.flow) _ (omega (arith, p.len, addresses-room a.flow)) p c.push-2.ensures)
 
-pub push-pseudo-header-spec : {M : Type 1} → statement M
-push-pseudo-header-spec =
+pub push_pseudo_header_spec : {M : Type 1} → statement M
+push_pseudo_header_spec =
     tie.close
     (tie.spec
     (λ c κs. search rules) (λ c κs. search rules) (λ c κs. search rules) (λ c. search rules) push-requires returns

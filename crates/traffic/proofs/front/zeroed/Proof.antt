@@ -10,7 +10,7 @@ returns : tie.Need-returns
 returns c =
     let h = c.before.before in
     let a = h.before.before.args in
-    c.blank2.ensures ∙ ap (blank (a.at + 4) a.n) (c.before.blank.ensures ∙ ap (blank 16 2) h.ports-blanked.ensures)
+    c.blank-2.ensures ∙ ap (blank (a.at + 4) a.n) (c.before.blank.ensures ∙ ap (blank 16 2) h.ports_blanked-h.ensures)
 
-pub zeroed-spec : {M : Type 1} → statement M
-zeroed-spec = tie.close (tie.spec (λ c κs. search rules) (λ c κs. search rules) (λ c. search rules) (λ c κs. search rules) returns)
+pub zeroed_spec : {M : Type 1} → statement M
+zeroed_spec = tie.close (tie.spec (λ c κs. search rules) (λ c κs. search rules) (λ c. search rules) (λ c κs. search rules) returns)

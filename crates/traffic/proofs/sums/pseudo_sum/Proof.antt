@@ -5,26 +5,26 @@ use Rattle.traffic.proofs.SumPieces.{pseudo-joined}
 use Rattle.traffic.proofs.sums.pseudo_sum.Statement.{statement}
 use Rattle.traffic.proofs.sums.pseudo_sum.Tie as tie
 
-returns : tie.Need-returns
+returns : tie.Need-returns-then-source-eq4
 returns c =
     let k = c.before.before.before.before in
     let a = k.before.before.before.before.before.args in
     pseudo-joined a.source.now a.destination.now a.len _ k.before.before.start.ensures k.before.add.ensures
-    k.add2.ensures c.add3.ensures
-    (pseudo-of-4 a.source.now a.destination.now a.len c.before.before.before.if1.true
-    c.before.before.protocol-and-length.ensures)
+    k.add-addresses.ensures c.add-then-source-eq4.ensures
+    (pseudo-of-4 a.source.now a.destination.now a.len c.before.before.before.if-source-eq4.true
+    c.before.before.protocol_and_length-n.ensures)
 
-returns-2 : tie.Need-returns-2
+returns-2 : tie.Need-returns
 returns-2 c =
     let k = c.before.before.before.before in
     let a = k.before.before.before.before.before.args in
     pseudo-joined a.source.now a.destination.now a.len _ k.before.before.start.ensures k.before.add.ensures
-    k.add2.ensures c.add4.ensures
-    (pseudo-of-16 a.source.now a.destination.now a.len c.before.before.before.if1.false
-    c.before.before.length-and-next-header.ensures)
+    k.add-addresses.ensures c.add-2.ensures
+    (pseudo-of-16 a.source.now a.destination.now a.len c.before.before.before.if-source-eq4.false
+    c.before.before.length_and_next_header-n.ensures)
 
-pub pseudo-sum-spec : {M : Type 1} → statement M
-pseudo-sum-spec =
+pub pseudo_sum_spec : {M : Type 1} → statement M
+pseudo_sum_spec =
     tie.close
     (tie.spec
     (λ c κs. search rules) (λ c κs. search rules) (λ c κs. search rules) (λ c κs. search rules) (λ c. search rules) (λ c κs. search rules)

@@ -20,20 +20,20 @@ its-front s w =
     let a = s.args in
     front a.secret a.hidden (flow_of w) a.extension a.at a.len a.header.now
 
-array-share-prefix-bytes : tie.Need-array-share-prefix-bytes
-array-share-prefix-bytes c =
+array_share_prefix-bytes : tie.Need-slice_bounds-bytes-end
+array_share_prefix-bytes c =
     let f = c.before.before in
-    let l : length f.front.result.bytes ≡ 104 = search rules in
+    let l : length f.front-a.result.bytes ≡ 104 = search rules in
     let b = f.before.before in
-    omega (arith, held-room (its-front b.before.before b.blanked.result) f.front.ensures l)
+    omega (arith, held-room (its-front b.before.before b.blanked-seen.result) f.front-a.ensures l)
 
-slice-aggregate-update : tie.Need-slice-aggregate-update
-slice-aggregate-update c =
+slice_aggregate-update : tie.Need-slice_bounds-update-end
+slice_aggregate-update c =
     let f = c.before.before.before in
-    let l : length f.front.result.bytes ≡ 104 = search rules in
+    let l : length f.front-a.result.bytes ≡ 104 = search rules in
     let b = f.before.before in
-    let room = held-room (its-front b.before.before b.blanked.result) f.front.ensures l in
-    sym (length-take-le _ f.front.result.bytes (omega (arith, room)))
+    let room = held-room (its-front b.before.before b.blanked-seen.result) f.front-a.ensures l in
+    sym (length-take-le _ f.front-a.result.bytes (omega (arith, room)))
 
 returns : tie.Need-returns
 returns c =
@@ -42,12 +42,12 @@ returns c =
     let b = f.before.before in
     let s = b.before.before in
     let a = s.args in
-    begun-blanked a.secret a.hidden a.extension a.at a.len a.header.now (flow_of a.flow) (flow_of b.blanked.result)
-    b.blanked.ensures f.before.traffic-key.ensures n.new.ensures (held (its-front s b.blanked.result) f.front.ensures) c.update.ensures
+    begun-blanked a.secret a.hidden a.extension a.at a.len a.header.now (flow_of a.flow) (flow_of b.blanked-seen.result)
+    b.blanked-seen.ensures f.before.traffic_key-key.ensures n.new.ensures (held (its-front s b.blanked-seen.result) f.front-a.ensures) c.update.ensures
 
-pub begin-spec : {M : Type 1} → statement M
-begin-spec =
+pub begin_spec : {M : Type 1} → statement M
+begin_spec =
     tie.close
     (tie.spec
-    (λ c κs. search rules) (λ c κs. search rules) (λ c κs. search rules) (λ c κs. search rules) array-share-prefix-bytes
-    slice-aggregate-update (λ c κs. search rules) returns)
+    (λ c κs. search rules) (λ c κs. search rules) (λ c κs. search rules) (λ c κs. search rules) array_share_prefix-bytes
+    slice_aggregate-update (λ c κs. search rules) returns)

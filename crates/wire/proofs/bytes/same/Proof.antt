@@ -6,21 +6,21 @@ use Rattle.wire.proofs.Same.{Compared, start, lengths, equal, unequal, done}
 use Rattle.wire.proofs.bytes.same.Statement.{statement}
 use Rattle.wire.proofs.bytes.same.Tie as tie
 
-abbrev invariant-loop : tie.invariant-loop
+abbrev invariant-loop : tie.invariant-loop-i
 invariant-loop a b i₀ i = Compared a b i 0
 
-abbrev decreases-loop : tie.decreases-loop
+abbrev decreases-loop : tie.decreases-loop-i
 decreases-loop a b i₀ i = length a - i
 
-returns-2 : tie.Need-returns-2 invariant-loop decreases-loop
+returns-2 : tie.Need-returns-then-a-i invariant-loop decreases-loop
 returns-2 c =
-    let l = c.before.before.before.before.loop in
-    unequal _ _ l.i c.before.before.before.loop-test.true c.if2.true l.invariant
+    let l = c.before.before.before.before.loop-i in
+    unequal _ _ l.i c.before.before.before.loop-i-test.true c.if-a-i.true l.invariant
 
-loop-again : tie.Need-loop-preserved invariant-loop decreases-loop
+loop-again : tie.Need-loop-i-preserved invariant-loop decreases-loop
 loop-again c =
-    let l = c.before.before.before.before.loop in
-    equal _ _ l.i c.before.before.before.loop-test.true c.if2.false l.invariant
+    let l = c.before.before.before.before.loop-i in
+    equal _ _ l.i c.before.before.before.loop-i-test.true c.if-a-i.false l.invariant
 
 pub same_spec : {M : Type 1} → statement M
 same_spec =
@@ -28,12 +28,12 @@ same_spec =
     (tie.spec
     invariant-loop
     decreases-loop
-    (λ c. lengths _ _ c.if1.true)
-    (λ c. start _ _ c.if1.false)
+    (λ c. lengths _ _ c.if-a-b.true)
+    (λ c. start _ _ c.if-a-b.false)
     (λ c. search rules)
     (λ c. search rules)
     returns-2
     (λ c. search rules)
     (λ c. search rules)
     loop-again
-    (λ c. done _ _ c.before.loop.i 0 c.loop-test.false c.before.loop.invariant))
+    (λ c. done _ _ c.before.loop-i.i 0 c.loop-i-test.false c.before.loop-i.invariant))

@@ -6,5 +6,5 @@ use lib.Dec.{eqb}
 use Rattle.wire.proofs.header.ack.Statement.{statement}
 use Rattle.wire.proofs.header.ack.Tie as tie
 
-pub ack-spec : {M : Type 1} → statement M
-ack-spec = tie.close (tie.spec (λ c κs. search rules) (λ c. ap (λ (x : ℕ). eqb (x / 16 % 2) 1) c.byte_at.ensures))
+pub ack_spec : {M : Type 1} → statement M
+ack_spec = tie.close (tie.spec (λ c κs. search rules) (λ c. ap (λ (x : ℕ). eqb (x / 16 % 2) 1) c.byte_at.ensures))

@@ -5,13 +5,13 @@ use Rattle.wire.specs.OptionSteps.{noted}
 use Rattle.wire.proofs.options.noted.Statement.{statement}
 use Rattle.wire.proofs.options.noted.Tie as tie
 
-returns : tie.Need-returns
+returns : tie.Need-returns-then-o-eq0
 unfolding noted
-returns c = simp (eq-eqb _ _ c.if1.true)
+returns c = simp (eq-eqb _ _ c.if-o-eq0.true)
 
-returns-2 : tie.Need-returns-2
+returns-2 : tie.Need-returns-else-o-eq0
 unfolding noted
-returns-2 c = simp (ne_eqb _ _ c.before.if1.false)
+returns-2 c = simp (ne_eqb _ _ c.before.if-o-eq0.false)
 
-pub noted-spec : {M : Type 1} → statement M
-noted-spec = tie.close (tie.spec (λ c. search rules) returns returns-2)
+pub noted_spec : {M : Type 1} → statement M
+noted_spec = tie.close (tie.spec (λ c. search rules) returns returns-2)

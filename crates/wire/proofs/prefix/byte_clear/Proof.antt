@@ -7,9 +7,9 @@ use Rattle.wire.proofs.Bits.{one_shl, clear-is}
 use Rattle.wire.proofs.prefix.byte_clear.Statement.{statement}
 use Rattle.wire.proofs.prefix.byte_clear.Tie as tie
 
-sub-m : tie.Need-overflow-sub-m
+sub-m : tie.Need-overflow_sub-m
 sub-m c = rw (one_shl (8 - c.args.n) (omega arith)) (pow_pos (8 - c.args.n))
 
-pub byte-clear-spec : {M : Type 1} → statement M
-byte-clear-spec =
+pub byte_clear_spec : {M : Type 1} → statement M
+byte_clear_spec =
     tie.close (tie.spec (λ c. search rules) (λ c. search rules) sub-m (λ c. clear-is c.args.x (8 - c.args.n) (omega arith)))

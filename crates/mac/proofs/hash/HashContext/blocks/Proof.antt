@@ -12,7 +12,7 @@ hold-requires c κs =
     let self = s.args.self in
     let a = s.args.hash in
     let d = s.args.«data».now in
-    let done = blocks-done (parts_of a) (take (words_of a) self.chain) (take (words_of a) all.compress-all.result) self.block d self.count add.wrapping-add-u64.result (length d / 64) s.requires (omega arith) (omega arith) add.wrapping-add-u64.ensures all.compress-all.ensures in
+    let done = blocks-done (parts_of a) (take (words_of a) self.chain) (take (words_of a) all.compress_all.result) self.block d self.count add.wrapping_add_u64-count.result (length d / 64) s.requires (omega arith) (omega arith) add.wrapping_add_u64-count.ensures all.compress_all.ensures in
     omega (arith, done.1)
 
 returns : tie.Need-returns
@@ -24,11 +24,11 @@ returns c =
     let a = s.args.hash in
     let d = s.args.«data».now in
     absorb-rest (parts_of a) _ d (64 * (length d / 64))
-    (blocks-done (parts_of a) (take (words_of a) self.chain) (take (words_of a) all.compress-all.result) self.block d self.count add.wrapping-add-u64.result (length d / 64) s.requires (omega arith) (omega arith) add.wrapping-add-u64.ensures all.compress-all.ensures).0
+    (blocks-done (parts_of a) (take (words_of a) self.chain) (take (words_of a) all.compress_all.result) self.block d self.count add.wrapping_add_u64-count.result (length d / 64) s.requires (omega arith) (omega arith) add.wrapping_add_u64-count.ensures all.compress_all.ensures).0
     c.hold.ensures
 
-pub blocks-spec : {M : Type 1} → statement M
-blocks-spec =
+pub blocks_spec : {M : Type 1} → statement M
+blocks_spec =
     tie.close
     (tie.spec
     (λ c. search rules)

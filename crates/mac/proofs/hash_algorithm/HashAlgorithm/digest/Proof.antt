@@ -6,29 +6,29 @@ use Rattle.mac.proofs.Algorithms.{all-eight, is-sha256, digested-in}
 use Rattle.mac.proofs.hash_algorithm.HashAlgorithm.digest.Statement.{statement}
 use Rattle.mac.proofs.hash_algorithm.HashAlgorithm.digest.Tie as tie
 
-returns : tie.Need-returns
+returns : tie.Need-returns-in-Md5
 returns c =
     let d = c.before.before in
     let f = d.before in
-    digested-in _ Md5 f.before.enum_told.given.1 _ _ _ _ f.first-four.ensures d.digest.ensures c.in-room.ensures
+    digested-in _ Md5 f.before.in-Md5.is _ _ _ _ f.first_four.ensures d.digest-d.ensures c.in_room.ensures
 
-returns-2 : tie.Need-returns-2
+returns-2 : tie.Need-returns-in-Sha1
 returns-2 c =
     let d = c.before.before in
     let f = d.before in
-    digested-in _ Sha1 f.before.enum-told2.given.1 _ _ _ _ f.first-five.ensures d.digest2.ensures c.in-room2.ensures
+    digested-in _ Sha1 f.before.in-Sha1.is _ _ _ _ f.first_five.ensures d.digest-d-in-Sha1.ensures c.in_room-in-Sha1.ensures
 
-returns-3 : tie.Need-returns-3
+returns-3 : tie.Need-returns-in_default-self
 returns-3 c =
     let t = c.before in
     let a = t.before.before.args in
     let lh : length a.h ≡ 8 = search rules in
-    let lr : length c.digest3.result ≡ 32 = search rules in
-    digested-in _ Sha256 (is-sha256 a.self t.before.match.keys2 t.match2.keys2) _ a.h _ _ (sym (all-eight a.h lh))
-    c.digest3.ensures (sym (filled-full digest_room c.digest3.result lr))
+    let lr : length c.digest.result ≡ 32 = search rules in
+    digested-in _ Sha256 (is-sha256 a.self t.before.in_default.in_default-own.keys2 t.in_default-self.in_default-self-own.keys2) _ a.h _ _ (sym (all-eight a.h lh))
+    c.digest.ensures (sym (filled-full digest_room c.digest.result lr))
 
-pub digest-spec : {M : Type 1} → statement M
-digest-spec =
+pub digest_spec : {M : Type 1} → statement M
+digest_spec =
     tie.close
     (tie.spec
     (λ c. search rules)

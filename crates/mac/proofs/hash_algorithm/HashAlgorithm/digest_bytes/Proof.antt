@@ -4,13 +4,13 @@ use Rattle.mac.proofs.Algorithms.{bytes-in}
 use Rattle.mac.proofs.hash_algorithm.HashAlgorithm.digest_bytes.Statement.{statement}
 use Rattle.mac.proofs.hash_algorithm.HashAlgorithm.digest_bytes.Tie as tie
 
-pub digest-bytes-spec : {M : Type 1} → statement M
-digest-bytes-spec =
+pub digest_bytes_spec : {M : Type 1} → statement M
+digest_bytes_spec =
     tie.close
     (tie.spec
     (λ c. search rules)
     (λ c. search rules)
     (λ c. search rules)
-    (λ c. bytes-in _ Sha1 c.enum_told.given.1)
-    (λ c. bytes-in _ Sha256 c.enum-told2.given.1)
-    (λ c. bytes-in _ Md5 c.enum-told3.given.1))
+    (λ c. bytes-in _ Sha1 c.in-Sha1.is)
+    (λ c. bytes-in _ Sha256 c.in-Sha256.is)
+    (λ c. bytes-in _ Md5 c.in-Md5.is))

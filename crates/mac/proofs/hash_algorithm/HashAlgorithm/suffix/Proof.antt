@@ -4,8 +4,8 @@ use Rattle.mac.proofs.Algorithms.{suffix-in}
 use Rattle.mac.proofs.hash_algorithm.HashAlgorithm.suffix.Statement.{statement}
 use Rattle.mac.proofs.hash_algorithm.HashAlgorithm.suffix.Tie as tie
 
-pub suffix-spec : {M : Type 1} → statement M
-suffix-spec =
+pub suffix_spec : {M : Type 1} → statement M
+suffix_spec =
     tie.close
     (tie.spec
     (λ c. search rules)
@@ -14,6 +14,6 @@ suffix-spec =
     (λ c κs. search rules)
     (λ c. search rules)
     (λ c κs. search rules)
-    (λ c. suffix-in _ Sha1 c.before.enum_told.given.1 _ _ c.bytes64.ensures)
-    (λ c. suffix-in _ Sha256 c.before.enum-told2.given.1 _ _ c.bytes642.ensures)
-    (λ c. suffix-in _ Md5 c.before.enum-told3.given.1 _ _ c.count-bytes.ensures))
+    (λ c. suffix-in _ Sha1 c.before.in-Sha1.is _ _ c.bytes64.ensures)
+    (λ c. suffix-in _ Sha256 c.before.in-Sha256.is _ _ c.bytes64-in-Sha256.ensures)
+    (λ c. suffix-in _ Md5 c.before.in-Md5.is _ _ c.count_bytes.ensures))

@@ -8,7 +8,7 @@ returns : tie.Need-returns
 returns c =
     let i = c.before in
     let k = i.before in
-    keyed (parts_of k.before.before.args.hash) _ k.key-block.ensures c.pad2.ensures i.pad.ensures
+    keyed (parts_of k.before.before.args.hash) _ k.key_block-k.ensures c.pad-outer.ensures i.pad-inner.ensures
 
 pub new_spec : {M : Type 1} → statement M
 new_spec = tie.close (tie.spec (λ c κs. search rules) (λ c κs. search rules) (λ c κs. search rules) returns)

@@ -10,5 +10,5 @@ returns c =
     let s = c.before.before.before.before in
     λ i. record { outer = take (words_of s.args.hash) s.args.self.outer; inner = c.update.ensures i }
 
-pub update-spec : {M : Type 1} → statement M
-update-spec = tie.close (tie.spec (λ c κs. search rules) returns)
+pub update_spec : {M : Type 1} → statement M
+update_spec = tie.close (tie.spec (λ c κs. search rules) returns)

@@ -6,6 +6,6 @@ use Rattle.recording.proofs.desk.Desk.stop.Tie as tie
 returns : tie.Need-returns
 returns c = stops c.args.self c.args.line
 
-pub stop-spec : {M : Type 1} → statement M
-stop-spec =
+pub stop_spec : {M : Type 1} → statement M
+stop_spec =
     tie.close (tie.spec returns)

@@ -4,8 +4,8 @@ use Rattle.recording.proofs.Spelling.{puts}
 use Rattle.recording.proofs.line.Text.put.Statement.{statement}
 use Rattle.recording.proofs.line.Text.put.Tie as tie
 
-copy-at-requires : tie.Need-copy-at-requires
-copy-at-requires c κs =
+copy_at-requires : tie.Need-copy_at-requires
+copy_at-requires c κs =
     let b = c.before.before.before in
     let l : length b.args.self.bytes ≡ 64 = search rules in
     omega (arith, b.requires, l)
@@ -18,4 +18,4 @@ returns c =
 
 pub put_spec : {M : Type 1} → statement M
 put_spec =
-    tie.close (tie.spec (λ c. search rules) copy-at-requires (λ c. search rules) returns)
+    tie.close (tie.spec (λ c. search rules) copy_at-requires (λ c. search rules) returns)

@@ -16,6 +16,6 @@ returns c =
     let e = rest_of b.args.s.now b.args.from in
     (c.put.ensures.0 ∙ ap (λ (z : List ℕ). text_of b.args.self ++ z) e, c.put.ensures.1 ∙ ap (λ (z : List ℕ). b.args.self.length + length z) e)
 
-pub put-from-spec : {M : Type 1} → statement M
-put-from-spec =
+pub put_from_spec : {M : Type 1} → statement M
+put_from_spec =
     tie.close (tie.spec (λ c. search rules) (λ c. search rules) (λ c. search rules) put-requires returns)

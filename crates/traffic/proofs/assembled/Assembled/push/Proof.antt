@@ -6,8 +6,8 @@ use borrow.Author.Rules.{rules}
 use Rattle.traffic.proofs.assembled.Assembled.push.Statement.{statement}
 use Rattle.traffic.proofs.assembled.Assembled.push.Tie as tie
 
-copy-at-requires : tie.Need-copy-at-requires
-copy-at-requires c κs = let l : length c.before.before.before.args.self.bytes ≡ 104 = search rules in omega arith
+copy_at-requires : tie.Need-copy_at-requires
+copy_at-requires c κs = let l : length c.before.before.before.args.self.bytes ≡ 104 = search rules in omega arith
 
 pub push_spec : {M : Type 1} → statement M
-push_spec = tie.close (tie.spec (λ c. search rules) copy-at-requires (λ c. search rules) (λ c. search rules))
+push_spec = tie.close (tie.spec (λ c. search rules) copy_at-requires (λ c. search rules) (λ c. search rules))

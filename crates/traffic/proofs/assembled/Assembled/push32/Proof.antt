@@ -5,7 +5,7 @@ use Rattle.traffic.proofs.assembled.Assembled.push32.Statement.{statement}
 use Rattle.traffic.proofs.assembled.Assembled.push32.Tie as tie
 
 returns : tie.Need-returns
-returns c = pushed-is c.before.before.bytes32.ensures c.push.ensures
+returns c = pushed-is c.before.before.bytes32-b.ensures c.push.ensures
 
-pub push32-spec : {M : Type 1} → statement M
-push32-spec = tie.close (tie.spec (λ c κs. search rules) (λ c. search rules) (λ c κs. search rules) returns)
+pub push32_spec : {M : Type 1} → statement M
+push32_spec = tie.close (tie.spec (λ c κs. search rules) (λ c. search rules) (λ c κs. search rules) returns)

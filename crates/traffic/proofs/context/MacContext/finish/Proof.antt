@@ -7,26 +7,26 @@ use Rattle.traffic.proofs.Cases.{hmac-end, cmac-end, digest-end}
 use Rattle.traffic.proofs.context.MacContext.finish.Statement.{statement}
 use Rattle.traffic.proofs.context.MacContext.finish.Tie as tie
 
-returns : tie.Need-returns
+returns : tie.Need-returns-then-algorithm-eq-DIGEST
 returns c =
     let i = c.before.before.before.before in
     let s = i.before.args.self in
-    digest-end s.algorithm s.hmac (take s.key_len s.key) i.if1.true (view s.cmac) c.finish-keyed.ensures
+    digest-end s.algorithm s.hmac (take s.key_len s.key) i.if-algorithm-eq-DIGEST.true (view s.cmac) c.finish_keyed.ensures
 
-returns-2 : tie.Need-returns-2
+returns-2 : tie.Need-returns-then-is_hmac
 returns-2 c =
-    let h = c.before.hash-for in
+    let h = c.before.hash_for in
     let i = c.before.before.before in
     let s = i.before.before.before.args.self in
-    hmac-end s.algorithm (sym i.before.is-hmac.ensures ∙ i.if2.true) h.result h.ensures (view s.cmac)
+    hmac-end s.algorithm (sym i.before.is_hmac.ensures ∙ i.if-is_hmac.true) h.result h.ensures (view s.cmac)
     (take s.key_len s.key) s.hmac c.finish.ensures
 
-returns-3 : tie.Need-returns-3
+returns-3 : tie.Need-returns
 returns-3 c =
     let i = c.before.before.before in
     let s = i.before.before.before.args.self in
-    cmac-end s.algorithm s.hmac (take s.key_len s.key) i.before.before.if1.false
-    (sym i.before.is-hmac.ensures ∙ i.if2.false) (view s.cmac) c.before.finish2.ensures c.padded.ensures
+    cmac-end s.algorithm s.hmac (take s.key_len s.key) i.before.before.if-algorithm-eq-DIGEST.false
+    (sym i.before.is_hmac.ensures ∙ i.if-is_hmac.false) (view s.cmac) c.before.finish-2.ensures c.padded.ensures
 
 pub finish_spec : {M : Type 1} → statement M
 finish_spec =
