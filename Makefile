@@ -17,18 +17,28 @@ MAKEFLAGS += --no-print-directory
 .PHONY: all proved archive operator demonstration test guard house expected bench soak clean
 
 ARCHIVE := target/staticlib/libembankery.a
-SOURCES := crates.txt $(shell find crates -name '*.rt' -o -name '*.antt')
+DESK := target/bin/desk
+SOURCES := crates.txt $(shell find crates -name out -prune -o \( -name '*.rt' -o -name '*.antt' \) -print)
+# What rt makes of a crate lies in its out/; the archive and the programs are copied from there to target/.
+copy = mkdir -p $(@D) && cp $(1) $@
 
 all: proved archive operator demonstration
 
 # Proves what has changed, and runs each program against its stored output.
 proved:
-	rt check
+	rt all check
 
 archive: $(ARCHIVE)
 
 $(ARCHIVE): $(SOURCES)
-	rt staticlib embankery
+	cd crates/embankery && rt lib
+	$(call copy,crates/embankery/out/libembankery.a)
+
+# rt builds a program to run it, and leaves it in its crate's out/. What this run prints is not looked at: it may end where
+# there is no input.
+target/bin/vectors target/bin/packets target/bin/rollover $(DESK): target/bin/%: $(SOURCES)
+	cd crates/$* && { rt run > /dev/null < /dev/null || [ -x out/$* ]; }
+	$(call copy,crates/$*/out/$*)
 
 # The operator's command, over the archive; beside the programs.
 operator: archive
@@ -36,7 +46,7 @@ operator: archive
 	mkdir -p target/bin && cp rust/target/release/embankery target/bin/embankery
 
 # The published vectors, of the functions and of the calls, then two ends that exchange segments across the rollover.
-demonstration: proved
+demonstration: proved target/bin/vectors target/bin/packets target/bin/rollover $(DESK)
 	cd crates/vectors/data && ../../../target/bin/vectors
 	cd crates/packets/data && ../../../target/bin/packets
 	target/bin/rollover
@@ -68,19 +78,23 @@ test:
 	@.ci/run
 else
 # The cheap checks come first. rt ci's last line, its verdict, is held back until the tests on the archive have
-# passed too; if anything fails on the way, it is not printed as a line at all. It counts crates and edits.
+# passed too; if anything fails on the way, it is not printed as a line at all. It counts crates and edits. An edit
+# that rt could not try as it stands ("N bad" of its line "rt: ok") fails the gate too. The archive and the desk are
+# those that rt makes of what rt ci has just proved.
 test: guard house
-	@verdict=$$(mktemp); trap 'rm -f "$$verdict"' EXIT; \
+	@said=$$(mktemp); trap 'rm -f "$$said"' EXIT; \
 	failed() { echo "make test: FAILED$$*"; exit 1; }; \
-	rt ci | awk -v keep="$$verdict" 'NR > 1 { print last; fflush() } { last = $$0 } END { print last > keep }' \
-	    || failed " in rt ci: $$(cat "$$verdict")"; \
-	all=$$(($$(grep -c '^[a-z0-9_]*:' crates.txt) + $$(.ci/count edits | sed 's/ .*//'))); \
-	grep -qx "$$all passed, 0 failed" "$$verdict" \
-	    || failed ": rt ci ended with: $$(cat "$$verdict"), and not with $$all, the crates and edits"; \
-	rt staticlib embankery || failed ": no archive"; \
+	rt ci | tee "$$said" | awk 'NR > 1 { print last; fflush() } { last = $$0 }' \
+	    || failed " in rt ci: $$(tail -n 1 "$$said")"; \
+	all=$$(($$(grep -Ec '^[a-z0-9_]+( staticlib)?:' crates.txt) + $$(.ci/count edits | sed 's/ .*//'))); \
+	tail -n 1 "$$said" | grep -qx "$$all passed, 0 failed" \
+	    || failed ": rt ci ended with: $$(tail -n 1 "$$said"), and not with $$all, the crates and edits"; \
+	grep -q '^rt: ok' "$$said" || failed ": rt ci does not say ok"; \
+	if grep '^rt: ok' "$$said" | grep -Eq ', [0-9]+ bad'; then failed ": an edit is bad"; fi; \
+	rm -f $(ARCHIVE) $(DESK); $(MAKE) archive $(DESK) || failed ": no archive or no desk"; \
 	$(run_tests) || failed " in the Rust tests"; \
 	$(compare_tests) || failed ": what the tests say (<) is not what .ci/expected has (>)"; \
-	cat "$$verdict"
+	tail -n 1 "$$said"
 endif
 
 # After a change of the number of edits or tests: runs the tests and writes their numbers. Look at the difference.
@@ -89,4 +103,4 @@ expected: archive
 	@.ci/count $(TESTS) > .ci/expected; git diff --unified=0 .ci/expected; .ci/guard
 
 clean:
-	rm -rf target rust/target
+	rm -rf target rust/target crates/*/out

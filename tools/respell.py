@@ -23,8 +23,18 @@ def table():
         return dict(line.rstrip("\n").split("\t") for line in it if line.strip())
 
 
-def turned(text, names):
-    return WORD.sub(lambda m: names.get(m.group(), m.group()), text)
+# Names that are only fields and variables outside these folders keep no ending.
+ONLY_IN = {"send_id_of": "crates/recording/", "ask_id_of": "crates/recording/"}
+# Fields whose name is also a definition's.
+FIELD = re.compile(r"(?<=\.)(source|destination)_port_of\b|\b(source|destination)_port_of(?= =| : ℕ$)", re.M)
+
+
+def turned(text, names, path=""):
+    text = WORD.sub(lambda m: names.get(m.group(), m.group()), text)
+    for name, folder in ONLY_IN.items():
+        if folder not in os.path.abspath(path):
+            text = re.sub(rf"\b{name}\b", name[:-3], text)
+    return FIELD.sub(lambda m: (m[1] or m[2]) + "_port", text)
 
 
 def files(folders):
@@ -41,7 +51,7 @@ def main(argv):
     for path in paths:
         with open(path, encoding="utf-8") as it:
             old = it.read()
-        new = turned(old, names)
+        new = turned(old, names, path)
         if new != old:
             with open(path, "w", encoding="utf-8") as it:
                 it.write(new)

@@ -1,4 +1,4 @@
-//! Links libembankery.a, which `rt staticlib embankery` writes to target/staticlib of this
+//! Links libembankery.a, which `make archive` writes to target/staticlib of this
 //! repository. EMBANKERY_ARCHIVE_DIR, if set, names another folder that has it.
 
 use std::path::{Path, PathBuf};
@@ -15,7 +15,7 @@ fn main() {
     println!("cargo:rerun-if-changed={}", archive.display());
     if !archive.is_file() {
         eprintln!("error: {} is not there.", archive.display());
-        eprintln!("error: run `rt staticlib embankery` at the top of the repository, or `make`.");
+        eprintln!("error: run `make archive` at the top of the repository, or `make`.");
         std::process::exit(1);
     }
     println!("cargo:rustc-link-search=native={}", folder.display());

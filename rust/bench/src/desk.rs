@@ -94,7 +94,7 @@ fn ran(which: &str) -> f64 {
 /// The program's time by that of judging; nothing where it is not there.
 pub fn against_judging() -> Option<Outcome> {
     let Some(program) = program::desk() else {
-        println!("\ntarget/bin/desk is not there (rt check desk makes it): it is not timed.");
+        println!("\ntarget/bin/desk is not there (`make` makes it): it is not timed.");
         return None;
     };
     let mut table = Table::new(

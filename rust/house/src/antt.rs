@@ -112,36 +112,32 @@ pub struct Use {
     pub names: Vec<String>,
 }
 
-/// The use lines of a file of antt, or the ghost use lines of one of Rattle.
+/// The use lines of a file of antt, or the ghost use lines of one of Rattle; also those that pass their names on.
 pub fn uses(text: &str) -> Vec<Use> {
-    let line_of = |line: &str| {
-        let line = line.trim_end_matches(';');
-        let line = line.strip_prefix("ghost ").unwrap_or(line);
-        line.strip_prefix("use ").map(str::to_string)
-    };
-    let lines = text.lines().map(code).filter_map(line_of);
-    lines
-        .map(|line| {
-            let line = line.split(" as ").next().unwrap_or(&line).to_string();
-            let (module, names) = line.split_once(".{").unwrap_or((&line, ""));
-            let names = names.trim_end_matches('}').split(',');
-            Use {
-                module: module.to_string(),
-                names: names.map(|name| name.trim().to_string()).collect(),
-            }
-        })
-        .collect()
+    text.lines().map(code).filter_map(used).collect()
 }
 
-/// The file of `specs/` that a module of this repository's crates stands in, if it is one.
-pub fn spec_file(module: &str) -> Option<String> {
-    let rest = module.strip_prefix("Rattle·")?;
-    let (owner, rest) = rest.split_once(['.', '·'])?;
-    let rest = rest
-        .strip_prefix("specs.specs.")
-        .or(rest.strip_prefix("specs."))?;
-    let file = rest.split('.').next()?;
-    (file != "declared").then(|| format!("crates/{owner}/specs/{file}.antt"))
+fn used(line: &str) -> Option<Use> {
+    let line = line.trim_end_matches(';');
+    let line = line.strip_prefix("pub ").unwrap_or(line);
+    let line = line.strip_prefix("ghost ").unwrap_or(line);
+    let line = line.strip_prefix("use ")?;
+    let there = |name: &str| name.split(" as ").next().unwrap_or(name).trim().to_string();
+    let (module, names) = line.split_once(".{").unwrap_or((line, ""));
+    Some(Use {
+        module: there(module),
+        names: names.trim_end_matches('}').split(',').map(there).collect(),
+    })
+}
+
+/// The file that a module of a crate stands in: `Rattle.keys.specs.Table`. None of std's modules, and of those that
+/// only have the types of a crate's code.
+pub fn file(module: &str) -> Option<String> {
+    let mut parts = module.strip_prefix("Rattle.")?.split('.');
+    let (owner, folder) = (parts.next()?, parts.next().unwrap_or("src"));
+    let file = parts.next().unwrap_or("Lib");
+    let made = folder == "specs" && file == "declared";
+    (owner != "std" && !made).then(|| format!("crates/{owner}/{folder}/{file}.antt"))
 }
 
 #[cfg(test)]
@@ -163,17 +159,39 @@ mod tests {
     }
 
     #[test]
+    fn used() {
+        let text = "use a.b.{c, d as e, f}\npub use a.g\nuse a.h as i\nghost use Rattle.a.specs.B.{◌≡◌};\n-- use j\n";
+        let found = uses(text);
+        let found: Vec<_> = found
+            .iter()
+            .map(|used| (used.module.as_str(), used.names.join(" ")))
+            .collect();
+        let one = |module, names: &str| (module, names.to_string());
+        let wanted = [
+            one("a.b", "c d f"),
+            one("a.g", ""),
+            one("a.h", ""),
+            one("Rattle.a.specs.B", "◌≡◌"),
+        ];
+        assert_eq!(found, wanted);
+    }
+
+    #[test]
     fn files() {
-        let file = |module| spec_file(module);
         assert_eq!(
-            file("Rattle·keys.specs.Table").unwrap(),
+            file("Rattle.keys.specs.Table").unwrap(),
             "crates/keys/specs/Table.antt"
         );
         assert_eq!(
-            file("Rattle·keys·specs.specs.Table").unwrap(),
-            "crates/keys/specs/Table.antt"
+            file("Rattle.keys.proofs.MatchLaws").unwrap(),
+            "crates/keys/proofs/MatchLaws.antt"
         );
-        assert_eq!(file("Rattle·keys.specs.declared.entry.Pair"), None);
+        assert_eq!(
+            file("Rattle.keys.specs").unwrap(),
+            "crates/keys/specs/Lib.antt"
+        );
+        assert_eq!(file("Rattle.keys.specs.declared.entry.Pair"), None);
+        assert_eq!(file("Rattle.std.specs.Prelude"), None);
         assert_eq!(file("lib.Dec"), None);
     }
 }

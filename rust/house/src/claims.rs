@@ -1,6 +1,7 @@
 //! docs/CLAIMS.md names only what is there: its first section says how it names things.
 
 use crate::crates::{crates, Crate};
+use crate::reading::is_laws;
 use crate::{antt, rattle, Report, Tree};
 use std::collections::{BTreeMap, BTreeSet};
 
@@ -85,9 +86,10 @@ impl<'a> Index<'a> {
                 .into_iter()
                 .find(|path| self.tree.has(path));
         }
-        let mut places = own
-            .iter()
-            .map(|owner| format!("crates/{owner}/specs/{word}"));
+        let place =
+            |folder: &'static str| move |owner: &String| format!("crates/{owner}/{folder}/{word}");
+        let laws = own.iter().filter(|_| is_laws(word)).map(place("proofs"));
+        let mut places = own.iter().map(place("specs")).chain(laws);
         places.find(|path| self.tree.has(path))
     }
 }
@@ -120,7 +122,7 @@ fn row(index: &Index, own: &[String], line: &str, faults: &mut Vec<String>) -> u
             if index.is_crate(word)
                 || LANGUAGE.contains(&word)
                 || word.starts_with("rt ")
-                || word.starts_with("lib.")
+                || word.starts_with("Rattle.std.")
             {
                 continue;
             } else if let Some(target) = word.strip_prefix("make") {

@@ -28,9 +28,11 @@ pub fn crates(tree: &Tree) -> Vec<Crate> {
     let lines = lines.map(|line| line.split('#').next().unwrap_or(""));
     let listed: Vec<(String, Vec<String>)> = lines
         .filter_map(|line| line.split_once(':'))
-        .map(|(name, rest)| {
+        .map(|(head, rest)| {
+            // behind the name stand words of rt's, as `staticlib`
+            let name = head.split_whitespace().next().unwrap_or("");
             (
-                name.trim().to_string(),
+                name.to_string(),
                 rest.split_whitespace().map(str::to_string).collect(),
             )
         })
@@ -82,10 +84,10 @@ fn uses(tree: &Tree, name: &str, known: &BTreeSet<String>) -> BTreeMap<String, H
     found
 }
 
-/// The crates that a line names by `Rattle·crate`.
+/// The crates that a line names by `Rattle.crate`.
 fn cited(line: &str) -> Vec<&str> {
     let is_part = |c: char| c.is_ascii_alphanumeric() || c == '_';
-    let rests = line.split("Rattle·").skip(1);
+    let rests = line.split("Rattle.").skip(1);
     let name = |rest: &'_ str| rest.find(|c| !is_part(c)).unwrap_or(rest.len());
     rests.map(|rest| &rest[..name(rest)]).collect()
 }

@@ -77,24 +77,14 @@ type Named = (String, String);
 
 /// The types that a file imports, by their name there.
 fn imported(owner: &str, text: &str) -> BTreeMap<String, Named> {
-    let lines = text
-        .lines()
-        .map(rattle::code)
-        .filter_map(|line| line.strip_prefix("use "));
-    let paths = lines.map(|line| {
-        line.trim_end()
-            .trim_end_matches(';')
-            .split("::")
-            .collect::<Vec<_>>()
-    });
-    let types = paths.filter(|path| {
+    let types = rattle::imports(text).into_iter().filter(|(path, _)| {
         path.last()
             .is_some_and(|name| name.starts_with(char::is_uppercase))
     });
-    let named = |path: Vec<&str>| {
-        let of = if path[0] == "crate" { owner } else { path[0] };
+    let named = |(path, here): (Vec<String>, String)| {
+        let of = if path[0] == "crate" { owner } else { &path[0] };
         let name = path[path.len() - 1].to_string();
-        (name.clone(), (of.to_string(), name))
+        (here, (of.to_string(), name))
     };
     types.map(named).collect()
 }

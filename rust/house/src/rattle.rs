@@ -10,6 +10,7 @@ pub fn code(line: &str) -> &str {
 const KINDS: [&str; 8] = [
     "fn", "struct", "enum", "const", "static", "type", "trait", "mod",
 ];
+const USES: [&str; 3] = ["use ", "pub use ", "pub(crate) use "];
 const BEFORE: [&str; 4] = ["pub", "pub(crate)", "extern", "\"C\""];
 
 /// Functions, types and constants, `Type::function` for one of an `impl`, and the names of a contract's clauses.
@@ -47,6 +48,33 @@ fn name(text: &str) -> String {
     text.split(other).next().unwrap_or(text).to_string()
 }
 
+/// What a file's use lines bring in: the path of each name, and the name here. Braces are not nested, as `rt fmt` has it.
+pub fn imports(text: &str) -> Vec<(Vec<String>, String)> {
+    let mut found = Vec::new();
+    let mut lines = text.lines().map(code);
+    while let Some(line) = lines.next() {
+        let rest = USES.iter().find_map(|front| line.strip_prefix(front));
+        let Some(mut tree) = rest.map(str::to_string) else {
+            continue;
+        };
+        while !tree.contains(';') {
+            let Some(line) = lines.next() else { break };
+            tree += line;
+        }
+        let tree = tree.split(';').next().unwrap_or("");
+        let (above, names) = tree.split_once('{').unwrap_or(("", tree));
+        let names = names.trim_end_matches('}').split(',').map(str::trim);
+        for name in names.filter(|name| !name.is_empty()) {
+            let (name, here) = name.split_once(" as ").unwrap_or((name, name));
+            let path = format!("{above}{name}");
+            let path: Vec<String> = path.split("::").map(str::to_string).collect();
+            let here = here.rsplit("::").next().unwrap_or(here).to_string();
+            found.push((path, here));
+        }
+    }
+    found
+}
+
 /// The first names of the paths `a::b` in a line.
 pub fn path_starts(line: &str) -> Vec<&str> {
     let is_part = |c: char| c.is_ascii_alphanumeric() || c == '_';
@@ -77,5 +105,21 @@ mod tests {
             path_starts("use crate::keys::x; keys::table::find(mac::f())"),
             ["crate", "keys", "mac"]
         );
+    }
+
+    #[test]
+    fn used() {
+        let text = "use a::B;\npub use crate::c::{\n    D, e::f, // x\n    H as I,\n};\nghost use k.{L};\n";
+        let found: Vec<String> = imports(text)
+            .into_iter()
+            .map(|(path, here)| path.join("::") + " " + &here)
+            .collect();
+        let wanted = [
+            "a::B B",
+            "crate::c::D D",
+            "crate::c::e::f f",
+            "crate::c::H I",
+        ];
+        assert_eq!(found, wanted);
     }
 }

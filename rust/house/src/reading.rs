@@ -8,8 +8,8 @@ pub const READING: &str = "docs/READING.md";
 const BELIEVED: &str = "## The files to believe";
 const WORKING: &str = "## Working definitions";
 
-/// Words that only a proof has.
-pub const PROOF_WORDS: [&str; 19] = [
+/// Words that only a proof has. None of them may be imported either.
+pub const PROOF_WORDS: [&str; 31] = [
     "omega",
     "arith",
     "cc",
@@ -27,14 +27,32 @@ pub const PROOF_WORDS: [&str; 19] = [
     "transport",
     "absurd",
     "∙",
+    "◌∙◌",
     "tie",
     "unfolding",
+    "unfold",
+    "grind",
+    "grw",
+    "hlevel",
+    "assumption",
+    "ground",
+    "rules",
+    "goal",
+    "of_calls",
+    "ruleset",
+    "axiom",
 ];
 
-/// Modules of the kit that only a proof uses.
-const PROOF_MODULES: [&str; 2] = ["native.Mathlib.Omega", "borrow.Author"];
+/// Where the whole path of a name begins; a listed file names others by its use lines alone.
+const MODULES: [&str; 5] = ["Rattle.", "package.", "mathlib.", "native.", "lib."];
+/// Modules of the kit that only a proof uses, and all below them.
+const PROOF_MODULES: [&str; 3] = ["Rattle.std.proofs", "native.Mathlib.Omega", "borrow.Author"];
 /// Modules of laws, with the definitions that stand among them.
-const LAW_MODULES: [(&str, &str); 2] = [("mathlib.Core.Path", "_≡_"), ("lib.Seq", "paste")];
+const LAW_MODULES: [(&str, &str); 3] = [
+    ("Rattle.std.proofs.Math.Seq", "paste"),
+    ("lib.Seq", "paste"),
+    ("mathlib.Core.Path", "◌≡◌"),
+];
 
 /// The paths of the bullets under a heading of READING, up to the next heading of its kind.
 fn listed(text: &str, heading: &str) -> Vec<String> {
@@ -49,7 +67,7 @@ fn listed(text: &str, heading: &str) -> Vec<String> {
     lines.filter_map(path).collect()
 }
 
-/// Whether a file of specs/ is named as one of laws.
+/// Whether a file is named as one of laws; it stands in specs/ or in proofs/.
 pub fn is_laws(path: &str) -> bool {
     path.ends_with("Laws.antt")
 }
@@ -68,33 +86,48 @@ pub fn proofs(text: &str) -> Vec<String> {
     }
     for (number, line) in text.lines().enumerate() {
         let line = antt::code(line);
-        if line.starts_with("use ") {
+        if line.starts_with("use ") || line.starts_with("pub use ") {
             continue;
         }
-        let words = line.split(|c: char| c.is_whitespace() || "(){}[];,=".contains(c));
-        if let Some(word) = words.into_iter().find(|word| PROOF_WORDS.contains(word)) {
+        let mut words = line.split(|c: char| c.is_whitespace() || "(){}[];,=".contains(c));
+        // a name may be written by its whole path
+        let of_proofs = |word: &&str| {
+            let last = word.rsplit('.').next().unwrap_or(word);
+            PROOF_WORDS.contains(&last) || MODULES.iter().any(|top| word.starts_with(top))
+        };
+        if let Some(word) = words.find(of_proofs) {
             found.push(format!("line {}: `{word}`", number + 1));
         }
     }
     for used in antt::uses(text) {
-        let of_proofs = PROOF_MODULES
+        let of_laws = LAW_MODULES
             .iter()
-            .any(|module| used.module.starts_with(module));
-        let is_law = |(module, definition): &(&str, &str)| {
-            used.module == *module && used.names.iter().any(|name| name != definition)
+            .find(|(module, _)| *module == used.module);
+        let of_proofs = match of_laws {
+            Some((_, definition)) => used.names.iter().any(|name| name != definition),
+            None => PROOF_MODULES
+                .iter()
+                .any(|module| used.module.starts_with(module)),
         };
-        if of_proofs || LAW_MODULES.iter().any(is_law) {
+        if of_proofs {
             found.push(format!("it uses {} for proofs", used.module));
+        }
+        let last = |name: &&String| {
+            let word = name.rsplit('.').next().unwrap_or(name);
+            PROOF_WORDS.contains(&word)
+        };
+        if let Some(name) = used.names.iter().find(last) {
+            found.push(format!("it uses {name} of {}", used.module));
         }
     }
     found
 }
 
-/// The specs of this repository that a file uses.
+/// The files of the crates' definitions and laws that a file uses.
 fn cited(text: &str) -> Vec<String> {
     antt::uses(text)
         .iter()
-        .filter_map(|used| antt::spec_file(&used.module))
+        .filter_map(|used| antt::file(&used.module))
         .collect()
 }
 
@@ -116,6 +149,14 @@ pub fn check(tree: &Tree) -> Report {
             faults.push(format!("{READING} lists {path}, which is not there"));
             continue;
         };
+        let place = if path.ends_with(".antt") {
+            "/specs/"
+        } else {
+            "/src/"
+        };
+        if !path.contains(place) {
+            faults.push(format!("{READING} lists {path}, which is not in {place}"));
+        }
         let proofs = if path.ends_with(".antt") {
             proofs(text)
         } else {

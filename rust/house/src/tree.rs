@@ -12,6 +12,13 @@ pub struct Tree {
 
 const MADE: [&str; 2] = [".git", "target"];
 
+/// The prover's work: `crates/NAME/out`, some gigabytes. A folder of that name anywhere else is read.
+fn is_out(path: &str) -> bool {
+    let mut parts = path.split('/');
+    let ends = (parts.next(), parts.nth(1), parts.next());
+    ends == (Some("crates"), Some("out"), None)
+}
+
 impl Tree {
     /// The repository that this package stands in.
     pub fn read() -> Tree {
@@ -59,7 +66,7 @@ fn walk(folder: &Path, at: &str, files: &mut BTreeMap<String, String>) {
         let name = entry.file_name().into_string().unwrap();
         let path = format!("{at}{name}");
         if entry.file_type().unwrap().is_dir() {
-            if !MADE.contains(&name.as_str()) {
+            if !MADE.contains(&name.as_str()) && !is_out(&path) {
                 walk(&entry.path(), &format!("{path}/"), files);
             }
         } else {
@@ -74,4 +81,17 @@ pub fn between<'a>(text: &'a str, from: &str, to: &str) -> Option<&'a str> {
     let start = text.find(from)? + from.len();
     let length = text[start..].find(to)?;
     Some(&text[start..start + length])
+}
+
+#[cfg(test)]
+mod tests {
+    use super::*;
+
+    #[test]
+    fn what_is_left_out() {
+        assert!(is_out("crates/mac/out"));
+        for path in ["out", "crates/out", "crates/mac/src/out", "rust/house/out"] {
+            assert!(!is_out(path), "{path}");
+        }
+    }
 }

@@ -126,15 +126,30 @@ fn proofs_in_files_to_believe() {
         "\nabbrev pub same : (n : ℕ) → n ≡ n\nsame n = refl\n",
         "\nabbrev pub below : ℕ → Type 0\nbelow n = (omega arith)\n",
         "\nuse native.Mathlib.Omega.{arith}\n",
-        "\nuse mathlib.Core.Path.{_≡_, sym}\n",
+        "\nuse Rattle.std.proofs.Common.{ℕ}\n",
+        "\nuse Rattle.std.proofs.Math.Seq.{paste, ext_get_or}\n",
+        "\nuse Rattle.std.specs.Prelude.{◌≡◌, refl as same}\n",
+        "\nuse mathlib.Core.Path.{◌≡◌, sym}\n",
+        "\naxiom same : (n : ℕ) → n ≡ n\n",
+        "\nabbrev pub same : ℕ → ℕ\nsame n = Rattle.rules.proofs.PositionLaws.twice n\n",
     ] {
         finds(reading::check, &believed_with(line), words);
     }
-    let laws = believed_with("\nuse Rattle·rules·specs.specs.PositionLaws.{sound}\n");
+    for line in [
+        "\nuse Rattle.rules.proofs.PositionLaws.{sound}\n",
+        "\npub use Rattle.rules.proofs.PositionLaws\n",
+    ] {
+        finds(
+            reading::check,
+            &believed_with(line),
+            "rests on crates/rules/proofs/PositionLaws.antt",
+        );
+    }
+    let working = believed_with("\nuse Rattle.checks.specs.Begin.{Begins}\n");
     finds(
         reading::check,
-        &laws,
-        "rests on crates/rules/specs/PositionLaws.antt",
+        &working,
+        "rests on crates/checks/specs/Begin.antt",
     );
     let definition = believed_with("\nabbrev pub twice : ℕ → ℕ\ntwice n = n + n -- refl\n");
     let holds = |fault: &String| fault.contains("Position.antt");
@@ -158,9 +173,23 @@ fn files_to_believe_that_are_not_listed() {
     let laws = changed(
         reading::READING,
         listed,
-        "- `crates/rules/specs/PositionLaws.antt`",
+        "- `crates/rules/proofs/PositionLaws.antt`",
     );
     finds(reading::check, &laws, "PositionLaws.antt holds proofs");
+    finds(
+        reading::check,
+        &laws,
+        "PositionLaws.antt, which is not in /specs/",
+    );
+    let new = |name: &str| {
+        let path = format!("crates/rules/specs/{name}.antt");
+        reading::check(&Tree::read().with(&path, String::new())).faults
+    };
+    let words = "Planted.antt is not named Laws";
+    assert!(new("Planted").iter().any(|fault| fault.contains(words)));
+    assert!(!new("PlantedLaws")
+        .iter()
+        .any(|fault| fault.contains("Planted")));
 }
 
 #[test]
@@ -182,5 +211,9 @@ fn lines_that_are_too_long() {
         assert!(!finds_in(path, 140), "{path}");
         assert!(finds_in(path, 141), "{path}");
     }
-    assert!(!finds_in("crates/rules/specs/PositionLaws.antt", 141));
+    assert!(!finds_in("crates/rules/proofs/PositionLaws.antt", 141));
+    let planted = "crates/rules/specs/PlantedLaws.antt";
+    let tree = Tree::read().with(planted, "≡".repeat(141));
+    let of_planted = |fault: &String| fault.starts_with(planted);
+    assert!(!layout::check(&tree).faults.iter().any(of_planted));
 }
