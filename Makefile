@@ -1,5 +1,5 @@
 # make         proves all crates, builds the archive for C and Rust and the operator's command, and runs the demonstration
-# make test    the gate: proves all from nothing, with the must-fail edits, and runs every test
+# make test    the gate: every proof (rt ci keeps what it proved on this machine), the must-fail edits, and every test
 # make bench   the archive's speed against plain Rust's; fails where a wanted ratio is missed
 # make soak    compares the archive with the reference for a minute, or make soak TIME=3600 for an hour
 # make clean   removes what the others made
@@ -37,6 +37,7 @@ $(ARCHIVE): $(SOURCES)
 # rt builds a program to run it, and leaves it in its crate's out/. What this run prints is not looked at: it may end where
 # there is no input.
 target/bin/vectors target/bin/packets target/bin/rollover $(DESK): target/bin/%: $(SOURCES)
+	rm -f crates/$*/out/$*
 	cd crates/$* && { rt run > /dev/null < /dev/null || [ -x out/$* ]; }
 	$(call copy,crates/$*/out/$*)
 
