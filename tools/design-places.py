@@ -53,8 +53,8 @@ NOT_A_PLACE = [
     (2, r"twin-types .*Ids ~ Tally ~ Index ~ Answer$", "pairs of numbers that have nothing in common"),
     (2, r"twin-types .*Meeting ~ SynJudged$", "an index each, of other things"),
     (2, r"twins .*width_of ~ \S+ family_of ~ \S+ most_bits$", "one number or another by the family: other numbers, of other things"),
-    (2, r"near-twins .*(front_agrees|zero_from|octet_sum|block_close) ~ \S+ (zero_from|octet_sum|block_close)$", "folds of other things; their "
-        "loops stand under point 3"),
+    (2, r"near-twins .*(front_agrees|zero_from|octet_sum|block_close) ~ \S+ (zero_from|octet_sum|block_close)$",
+     "folds of other things; their loops stand under point 3"),
     (2, r"near-twins .*words\.rt load ~ \S+ head_of$", "an array's elements by number, of other things: point 4 has both"),
     (2, r"near-twins .*secret_number ~ \S+ md5_number$", "each table's own tests"),
     (2, r"twins .*kind_listed ~ \S+ secret_of$", "both ask which table it is, and no more"),
@@ -63,10 +63,12 @@ NOT_A_PLACE = [
     (2, r"twins .*report\.rt place ~ \S+ sized$", "print four things, other ones"),
     (2, r"twins crates/rollover/src/(report|rows)\.rt (columns|opening_title|same):", "each prints words of its own"),
     (2, r"near-twins .*report\.rt counts ~ \S+ ends$", "each prints words of its own"),
-    (5, r"parameters-together .* \((a, b, c|a, b, c, d|x, y, z)\):", "the arguments of the standards' own functions, and bytes side by side"),
+    (5, r"parameters-together .* \((a, b, c|a, b, c, d|x, y, z)\):",
+     "the arguments of the standards' own functions, and bytes side by side"),
     (4, r"equality .* shares:", "asks whether one of two IDs is shared, which is no equality"),
     (4, r"equality .* selectors_overlap:", "asks whether two selectors overlap, which is no equality"),
     (4, r"equality .* front_agrees:", "equality of a part of two strings"),
+    (6, r"array-with-zeros-behind crates/octets/src/lib\.rt padded:", "the one function that puts zeros behind a string"),
     (6, r"array-with-zeros-behind .* with_checksum:", "a header as long as its room"),
 ]
 
@@ -236,10 +238,10 @@ class File:
             e = close(code, w.end() - 1)
             contract.append((w.group(1), code[w.end() : e - 1]))
             at = e
-        b = re.compile(r"\s*\{").match(code, at)
+        b = re.compile(r"\s*[{;]").match(code, at)
         if not b:
             return
-        end = close(code, b.end() - 1)
+        end = close(code, b.end() - 1) if code[b.end() - 1] == "{" else b.end() + 1
         line = self.line(m.start(2))
         owner = next((i[0] for i in self.impls if i[1] <= m.start() < i[2]), "")
         pairs = []
@@ -357,13 +359,16 @@ def point1(files):
             bools = [n for n, t in s.fields if t == "bool" and re.fullmatch(r"there|more|ok|found|valid|some|present|is_\w+|has_\w+", n)]
             own = [n for n, t in s.fields if t in failing]
             if bools and len(s.fields) > 1:
-                out.append(Place(1, "flag-with-value", s, "struct %s: %s: bool with %s" % (s.name, bools[0], [n for n, _ in s.fields if n not in bools])))
+                beside = [n for n, _ in s.fields if n not in bools]
+                out.append(Place(1, "flag-with-value", s, "struct %s: %s: bool with %s" % (s.name, bools[0], beside)))
             elif said.search(s.comment):
                 out.append(Place(1, "value-with-meaning-elsewhere", s, "struct %s: %s" % (s.name, said.search(s.comment).group(0))))
             elif own and len(s.fields) > 1:
-                out.append(Place(1, "answer-with-values-beside", s, "struct %s: %s with %s" % (s.name, own, [n for n, _ in s.fields if n not in own])))
+                beside = [n for n, _ in s.fields if n not in own]
+                out.append(Place(1, "answer-with-values-beside", s, "struct %s: %s with %s" % (s.name, own, beside)))
     none = re.compile(
-        r"[^.;:]*(?:\b0 (?:if|where)\b|\b0 stands for|\b0 for (?:any|none)|\bor 0 for none|\bthe length where\b|`\w+` if there is none|gives 0\b|"
+        r"[^.;:]*(?:\b0 (?:if|where)\b|\b0 stands for|\b0 for (?:any|none)|\bor 0 for none|\bthe length where\b|"
+        r"`\w+` if there is none|gives 0\b|"
         r"gives \w+'s length|counts as 0|reads as 0|has 0 for each|where there is none|zeros, where)[^.;]*"
     )
     bad = re.compile(r"\breturn (\d\d)\s*;")
@@ -371,13 +376,20 @@ def point1(files):
         for fn in f.fns:
             number = re.fullmatch(INTEGER, fn.ret or "")
             m = none.search(fn.comment)
-            if re.fullmatch(r"u8|u16", fn.ret or "") and (fn.name.endswith("_number") or fn.name.startswith("number_") or (bad.search(fn.body) and re.search(r"(?m)^\s*0\s*$", fn.body))):
+            named = fn.name.endswith("_number") or fn.name.startswith("number_")
+            given = bad.search(fn.body) and re.search(r"(?m)^\s*0\s*$", fn.body)
+            or_0 = (
+                re.fullmatch(r"\s*if [^{]*\.len\(\) \{[^{}]*\} else \{\s*0\s*\}\s*", fn.body)
+                or re.search(r"_\s*=>\s*0\s*,|\b\w+::" + FAILURE + r"(?:\([^)]*\))?\s*=>\s*0\b", fn.body)
+                or re.search(r"\breturn 0\s*;", fn.body) and "len()" in fn.body
+            )
+            if re.fullmatch(r"u8|u16", fn.ret or "") and (named or given):
                 out.append(Place(1, "refusal-number", fn, "-> %s, 0 for none" % fn.ret))
             elif m and (number or "0 stands for" in m.group(0) or fn.ret.startswith(("[", "Ids", "&"))) and "Option" not in fn.ret:
                 out.append(Place(1, "sentinel", fn, m.group(0)))
             elif fn.ret == "usize" and re.search(r"\bFirst \(", str(fn.contract)):
                 out.append(Place(1, "sentinel", fn, "the end where there is none"))
-            elif number and (re.fullmatch(r"\s*if [^{]*\.len\(\) \{[^{}]*\} else \{\s*0\s*\}\s*", fn.body) or re.search(r"_\s*=>\s*0\s*,|\b\w+::" + FAILURE + r"(?:\([^)]*\))?\s*=>\s*0\b", fn.body) or len(re.findall(r"\breturn 0\s*;", fn.body)) >= 1 and "len()" in fn.body):
+            elif number and or_0:
                 out.append(Place(1, "sentinel", fn, "0 where there is none"))
             for q in re.finditer(r"let\s+(\w+::)*(\w+)(\([^)]*\))?\s*=\s*([^;{]*?)\s*else\s*\{\s*return\b([^;]*);", fn.body):
                 if q.group(2) in ("Some", "Ok") and q.group(5).strip() not in ("None", q.group(4).strip()):
@@ -411,7 +423,8 @@ def point1(files):
                 if kind.match(n) and re.fullmatch(r"u8|u16|u32|u64", t):
                     taken.setdefault(n, []).append(fn)
         for n, fns in taken.items():
-            p = Place(1, "number-for-kind", fns[0], "in %d: %s" % (len(fns), ", ".join(fn.name for fn in fns)), name="parameter " + n, others=fns[1:])
+            said_of = "in %d: %s" % (len(fns), ", ".join(fn.name for fn in fns))
+            p = Place(1, "number-for-kind", fns[0], said_of, name="parameter " + n, others=fns[1:])
             p.end, p.word = p.start, n + "|number"
             out.append(p)
         for c in f.consts:
@@ -422,6 +435,13 @@ def point1(files):
     return out
 
 
+def listed(items, sign=", "):
+    """Functions by crate or file and name."""
+    if sign == ", ":
+        return sign.join("%s %s" % (it.file.crate, it.name) for it in items)
+    return sign.join("%s %s" % (it.file.path.split("/", 1)[1], it.name) for it in items)
+
+
 def point2(files):
     out, fns = [], [(fn, shape(fn.body)) for f in files for fn in f.fns]
     groups = collections.OrderedDict()
@@ -430,7 +450,9 @@ def point2(files):
             key = (" ".join(s), len(fn.params))
             groups.setdefault(key, []).append(fn)
     used = set()
-    least = re.compile(r"if (\w+(?:\.len\(\))?) < (\w+(?:\.len\(\))?) \{\s*(\w+(?:\.len\(\))?)(?: as \w+)?\s*\} else \{\s*(\w+(?:\.len\(\))?)(?: as \w+)?\s*\}")
+    one = r"(\w+(?:\.len\(\))?)"
+    cast = r"(?: as \w+)?"
+    least = re.compile(r"if %s < %s \{\s*%s%s\s*\} else \{\s*%s%s\s*\}" % (one, one, one, cast, one, cast))
     for fn, s in fns:
         for m in least.finditer(fn.body):
             if {m.group(1), m.group(2)} == {m.group(3), m.group(4)}:
@@ -443,7 +465,8 @@ def point2(files):
         if len(fns_of) > 1:
             for fn in fns_of:
                 used.add(id(fn))
-            out.append(Place(2, "twins", fns_of[0], "same body but for names, numbers and types: " + " ~ ".join("%s %s" % (fn.file.path.split("/", 1)[1], fn.name) for fn in fns_of), others=fns_of[1:]))
+            text = "same body but for names, numbers and types: " + listed(fns_of, " ~ ")
+            out.append(Place(2, "twins", fns_of[0], text, others=fns_of[1:]))
     rest = [(fn, shape(fn.body)) for fn, s in fns if len(s) >= 40 and "extern" not in fn.head]
     parent = list(range(len(rest)))
 
@@ -465,7 +488,7 @@ def point2(files):
         near.setdefault(root(k), []).append(fn)
     for fns_of in near.values():
         if len(fns_of) > 1 and not all(id(fn) in used for fn in fns_of):
-            out.append(Place(2, "near-twins", fns_of[0], "nearly the same body: " + " ~ ".join("%s %s" % (fn.file.path.split("/", 1)[1], fn.name) for fn in fns_of), others=fns_of[1:]))
+            out.append(Place(2, "near-twins", fns_of[0], "nearly the same body: " + listed(fns_of, " ~ "), others=fns_of[1:]))
     types = collections.OrderedDict()
     for f in files:
         for s in f.structs:
@@ -473,7 +496,8 @@ def point2(files):
                 types.setdefault(tuple(shape(t, False) for _, t in s.fields).__repr__(), []).append(s)
     for same in types.values():
         if len(same) > 1:
-            out.append(Place(2, "twin-types", same[0], "same fields but for names and sizes: " + " ~ ".join(s.name for s in same), others=same[1:]))
+            text = "same fields but for names and sizes: " + " ~ ".join(s.name for s in same)
+            out.append(Place(2, "twin-types", same[0], text, others=same[1:]))
     rows = collections.OrderedDict()
     for f in files:
         for s in f.structs:
@@ -481,7 +505,8 @@ def point2(files):
                 rows.setdefault(tuple(n for n, _ in s.fields[1:]), []).append(s)
     for same in rows.values():
         if len(same) > 1 and len(set(tuple(t for _, t in s.fields) for s in same)) > 1:
-            out.append(Place(2, "twin-types", same[0], "same fields behind the first: " + " ~ ".join(s.name for s in same), others=same[1:]))
+            text = "same fields behind the first: " + " ~ ".join(s.name for s in same)
+            out.append(Place(2, "twin-types", same[0], text, others=same[1:]))
     tables = collections.OrderedDict()
     for f in files:
         for head, a, b in f.impls:
@@ -491,7 +516,8 @@ def point2(files):
                 tables.setdefault(f.path, []).append(it)
     for same in tables.values():
         if len(same) > 1:
-            out.append(Place(2, "types-of-constants", same[0], "types that differ in constants: " + " ~ ".join(s.name for s in same), others=same[1:]))
+            text = "types that differ in constants: " + " ~ ".join(s.name for s in same)
+            out.append(Place(2, "types-of-constants", same[0], text, others=same[1:]))
     return out
 
 
@@ -537,7 +563,7 @@ def point4(files):
                 m = (
                     re.search(r"(\w+)\[(\w+)\] (?:[!=]=|\^) (\w+)\[\2\]", fn.body)
                     or re.search(r"\b(\w+)\.(\w+) [!=]= (\w+)\.\2\b", fn.body)
-                    or re.fullmatch(r"\s*(\w+) == (\w+)\s*", fn.body)
+                    or (re.fullmatch(INTEGER, types[0]) and re.fullmatch(r"\s*(\w+) == (\w+)\s*", fn.body))
                 )
                 if m:
                     out.append(Place(4, "equality", fn, m.group(0)))
@@ -545,8 +571,8 @@ def point4(files):
                 left = re.sub(r"\b[A-Z]\w*(?:::[A-Z]\w*)?\b|\b\w+\s*:", " ", fn.body)
                 left = re.sub(r"\[\s*0(?:u\d+|usize)?\s*;[^\]]*\]|\b0(?:u\d+)?\b|\bfalse\b|\blet\b|\w+\(\)", " ", left)
                 names = set(re.findall(r"let (\w+)", fn.body))
-                left = re.sub(r"\b\w+\b", lambda m: " " if m.group(0) in names or re.search(r"\b%s\s*:" % m.group(0), fn.body) or m.group(0) in ("key", "conn", "pair") else m.group(0), left)
-                if not re.search(r"\w", left):
+                left = [w for w in re.findall(r"\w+", left) if w not in names and not re.search(r"\b%s\s*:" % w, fn.body)]
+                if not left:
                     out.append(Place(4, "default-by-hand", fn, "-> " + fn.ret))
             m = re.fullmatch(r"\s*match (\w+) \{.*\}\s*", fn.body, re.S)
             if m and m.group(1) in others:
@@ -559,7 +585,8 @@ def point4(files):
                 r"\[\w+ \+ 3\], \w+\[\w+ \+ 2\]", fn.body)
             if m:
                 out.append(Place(4, "bytes-of-a-number", fn, m.group(0)))
-            m = re.search(r"(\w+)\[0\](?:\)|\s|[^,;\w])*,\s*[^;]*?\1\[1\](?:\)|\s|[^,;\w])*,\s*[^;]*?\1\[2\](?:\)|\s|[^,;\w])*,\s*[^;]*?\1\[3\]", fn.body)
+            then = r"(?:\)|\s|[^,;\w])*,\s*[^;]*?\1"
+            m = re.search(r"(\w+)\[0\]" + then + r"\[1\]" + then + r"\[2\]" + then + r"\[3\]", fn.body)
             if m:
                 out.append(Place(4, "copied-element-by-element", fn, m.group(1) + "[0], [1], [2], [3] .."))
             if fn.owner or re.match(r"[A-Z]", fn.ret or ""):
@@ -567,10 +594,16 @@ def point4(files):
                     copied = re.findall(r"(?:^|,)\s*(\w+)\s*(?:,|$)", q.group(2).replace(",", ",,"))
                     copied = [c for c in copied if re.search(r"let %s = \w+\.%s;" % (c, c), fn.body)]
                     copied += [x for x, y in re.findall(r"(\w+): \w+\.(\w+)\b(?=\s*,|\s*$)", q.group(2)) if x == y]
-                    if len(copied) >= 2 and (q.group(1) in fn.owner or q.group(1) in fn.ret or q.group(1) in [t for _, t in fn.params] or "Self" in fn.ret):
+                    own = q.group(1) in fn.owner or q.group(1) in fn.ret or q.group(1) in types or "Self" in fn.ret
+                    if len(copied) >= 2 and own:
                         a = f.line(fn.at + q.start())
                         out.append(Place(4, "fields-copied", fn, "%s { %s }" % (q.group(1), ", ".join(copied)), a, f.line(fn.at + q.end())))
             raw = f.text[fn.at : fn.at + len(fn.body)]
+            words = (
+                len(re.findall(r"(?:=>|\{)\s*(?:\w+::)*\w+\((?:rt, )?b\"[^\"]*\"", raw)) >= 2
+                or len(re.findall(r"=>\s*(?:\w+::)*\w+\(rt, b\"", raw)) >= 2
+                or re.search(r"if [^{]*\{\s*text\(rt, b\"[^\"]*\"\);\s*\} else \{\s*text\(rt, b\"[^\"]*\"\);", raw)
+            )
             m = (
                 re.search(r"% 10\b|48 \+|- 48\b|- 87\b", fn.body)
                 or re.search(r"if \w+ < 1?0+ \{\s*text\(", fn.body)
@@ -578,7 +611,7 @@ def point4(files):
             )
             if m:
                 out.append(Place(4, "printing", fn, m.group(0)))
-            elif len(re.findall(r"(?:=>|\{)\s*(?:\w+::)*\w+\((?:rt, )?b\"[^\"]*\"", raw)) >= 2 or len(re.findall(r"=>\s*(?:\w+::)*\w+\(rt, b\"", raw)) >= 2 or re.search(r"if [^{]*\{\s*text\(rt, b\"[^\"]*\"\);\s*\} else \{\s*text\(rt, b\"[^\"]*\"\);", raw):
+            elif words:
                 out.append(Place(4, "printing", fn, "words for a value chosen by hand"))
     return out
 
@@ -603,10 +636,13 @@ def point5(files):
                         plain = re.sub(r"(?<![\w.])%s(?!\w)" % re.escape(n), "<%s>" % t.replace("&mut ", "&").replace("'_ ", ""), plain)
                     if plain not in seen:
                         seen.add(plain)
-                        facts.setdefault((plain, "" if re.search(r"<[^<>]*[^\w<>][^<>]*>|[a-z]{4}", re.sub(r"<%s>" % INTEGER, "", plain)) else f.crate), []).append(fn)
+                        # A fact about numbers alone is the same one only inside a crate.
+                        spoken = re.search(r"<[^<>]*[^\w<>][^<>]*>|[a-z]{4}", re.sub(r"<%s>" % INTEGER, "", plain))
+                        facts.setdefault((plain, "" if spoken else f.crate), []).append(fn)
     for (fact, _), fns in facts.items():
         if len(fns) >= 3:
-            out.append(Place(5, "fact-in-contracts", fns[0], "%s, in %d: %s" % (fact, len(fns), ", ".join("%s %s" % (fn.file.crate, fn.name) for fn in fns)), name="fact " + fact, others=fns[1:]))
+            text = "%s, in %d: %s" % (fact, len(fns), listed(fns))
+            out.append(Place(5, "fact-in-contracts", fns[0], text, name="fact " + fact, others=fns[1:]))
             out[-1].word = "fact|requires|contract|invariant|bound|length|asks"
     fns = [fn for f in files for fn in f.fns if "extern" not in fn.head]
     taken = {id(fn): [False] * len(fn.params) for fn in fns}
@@ -626,7 +662,9 @@ def point5(files):
         for fn, i, j in v:
             for x in range(i, j):
                 taken[id(fn)][x] = True
-        out.append(Place(5, "parameters-together", v[0][0], "(%s), in %d: %s" % (", ".join("%s: %s" % p for p in k), len(v), ", ".join("%s %s" % (x[0].file.crate, x[0].name) for x in v)), name="(%s)" % ", ".join(n for n, _ in k), others=[x[0] for x in v[1:]]))
+        fns_of = [x[0] for x in v]
+        text = "(%s), in %d: %s" % (", ".join("%s: %s" % p for p in k), len(v), listed(fns_of))
+        out.append(Place(5, "parameters-together", fns_of[0], text, name="(%s)" % ", ".join(n for n, _ in k), others=fns_of[1:]))
         out[-1].word = "parameter|together|struct|group|one by one"
     return out
 
@@ -649,9 +687,11 @@ def point6(files):
                 out.append(Place(6, "parallel-arrays", same[0], " ~ ".join(c.name for c in same), others=same[1:]))
         for fn in f.fns:
             lent = [n for n, t in fn.params if t in ("&mut [u8]",)]
-            if lent and re.fullmatch(r"usize|u64|u32", fn.ret or "") and "IsPrefixLen" in str(fn.contract) + fn.comment or lent and re.search(r"gives how many|how many bytes (?:it|were)", fn.comment):
+            counts = re.fullmatch(r"usize|u64|u32", fn.ret or "") and "IsPrefixLen" in str(fn.contract)
+            if lent and (counts or re.search(r"gives how many|how many bytes (?:it|were)", fn.comment)):
                 out.append(Place(6, "buffer-and-count", fn, "%s -> %s" % (lent[0], fn.ret)))
-            if re.search(r"[Zz]eros (?:stand )?behind|in an array that has room|room that there is for all", fn.comment) and fn.ret.startswith("["):
+            behind = re.search(r"[Zz]eros (?:stand )?behind|in an array that has room|room that there is for all", fn.comment)
+            if behind and fn.ret.startswith("["):
                 out.append(Place(6, "array-with-zeros-behind", fn, "-> " + fn.ret))
             for kind, head, body, a, b, behind in loops(fn):
                 index = collections.defaultdict(set)
@@ -662,11 +702,13 @@ def point6(files):
                     if len(xs) > 1:
                         out.append(Place(6, "parallel-arrays", fn, "%s by %s" % (", ".join(sorted(xs)), i), a, b))
                         break
-                step = re.search(r"\b(\w+)\s*(?:\+=\s*|=\s*\1\s*\+\s*)([a-z_]\w*(?:\([^;]*\))?(?:\.\w+)?)\s*;", body) or re.search(r"\b(at|i)\s*=\s*(e\b(?:\s*\+\s*1)?|past\([^;]*\))\s*;", body)
+                step = re.search(r"\b(\w+)\s*(?:\+=\s*|=\s*\1\s*\+\s*)([a-z_]\w*(?:\([^;]*\))?(?:\.\w+)?)\s*;", body)
+                step = step or re.search(r"\b(at|i)\s*=\s*(e\b(?:\s*\+\s*1)?|past\([^;]*\))\s*;", body)
                 if kind == "while" and step and re.search(r"\b%s\b" % step.group(1), head + body):
                     out.append(Place(6, "walked-by-hand", fn, "while %s .. %s" % (head, step.group(0)), a, b))
                 hits = re.finditer(r"\bif ([^{]*)\{\s*return\s+(?:true|\w+\s*;|[A-Z]\w*\s*\{|Some\()", body)
-                r = next((h for h in hits if "return false" not in h.group(0) and not re.match(r"!|\w+ [!=]= (?:0|limit)\b", h.group(1))), None)
+                hits = [h for h in hits if "return false" not in h.group(0)]
+                r = next((h for h in hits if not re.match(r"!|\w+ [!=]= (?:0|limit)\b", h.group(1))), None)
                 if r:
                     out.append(Place(6, "search", fn, re.sub(r"\s+", " ", r.group(0)), a, b))
     return out
@@ -684,7 +726,8 @@ def point7(files):
                 type_of = dict((n.lstrip("&"), t) for n, t in fn.params).get(m.group(1), "")
                 if len(set(called)) >= 2 and not re.search(r"\b\w+::%s\b" % FAILURE, arms):
                     a = f.line(fn.at + m.start())
-                    out.append(Place(7, "match-chooses-function", fn, "match %s: %s -> %s" % (m.group(1), type_of, ", ".join(dict.fromkeys(called))), a, a + arms.count("\n")))
+                    text = "match %s: %s -> %s" % (m.group(1), type_of, ", ".join(dict.fromkeys(called)))
+                    out.append(Place(7, "match-chooses-function", fn, text, a, a + arms.count("\n")))
             chain = re.findall(r"if (\w+(?:\.\w+)*) (?:==|<|<=|>) [\w:\.]+ \{\s*return " + call, fn.body)
             if len({c for _, c in chain}) >= 2:
                 out.append(Place(7, "if-chain-chooses-function", fn, ", ".join(dict.fromkeys(c for _, c in chain))))
@@ -758,7 +801,8 @@ def table(places, tree):
             row.append("%d/%d/%d" % (len(mine), kept, len(mine) - kept))
             total.update({(n, "found"): len(mine), (n, "kept"): kept})
         print("%-12s" % crate + "".join("%14s" % r for r in row))
-    print("%-12s" % "all" + "".join("%14s" % ("%d/%d/%d" % (total[n, "found"], total[n, "kept"], total[n, "found"] - total[n, "kept"])) for n in range(1, 8)))
+    row = ["%d/%d/%d" % (total[n, "found"], total[n, "kept"], total[n, "found"] - total[n, "kept"]) for n in range(1, 8)]
+    print("%-12s" % "all" + "".join("%14s" % r for r in row))
     print("not a place: " + ", ".join("point %d: %d" % (n, sum(1 for p in places if p.point == n and p.reason)) for n in range(1, 8)))
 
 
@@ -788,7 +832,8 @@ def main(args):
         for f in files:
             for line, why, text in f.marks:
                 mine = [p for p in places if p.kept and p.kept[1].startswith("%s:%d " % (f.path, line))]
-                print("%s:%d  %s\n    covers: %s" % (f.path, line, text, "; ".join("%d %s %s" % (p.point, p.pattern, p.name) for p in mine) or "NOTHING"))
+                covers = "; ".join("%d %s %s" % (p.point, p.pattern, p.name) for p in mine) or "NOTHING"
+                print("%s:%d  %s\n    covers: %s" % (f.path, line, text, covers))
             for line, text in f.odd:
                 print("%s:%d  %s\n    IN ANOTHER FORM" % (f.path, line, text))
         return None
@@ -799,8 +844,11 @@ def main(args):
             for pattern in dict.fromkeys(p.pattern for p in mine):
                 rows = []
                 for crate in crates(tree):
-                    names = [p.text.split(": ", 1)[1] if n == 2 and not pattern.startswith("min") else p.name for p in mine if p.pattern == pattern and p.crate == crate]
-                    names = ["`%s`" % re.sub(r"(\w+)/src/(\S+)\.rt ", r"\1/\2 ", x) + (" (%d)" % c if c > 1 else "") for x, c in collections.Counter(names).items()]
+                    these = [p for p in mine if p.pattern == pattern and p.crate == crate]
+                    whole = n == 2 and not pattern.startswith("min")
+                    names = collections.Counter(p.text.split(": ", 1)[1] if whole else p.name for p in these)
+                    short = [(re.sub(r"(\w+)/src/(\S+)\.rt ", r"\1/\2 ", x), c) for x, c in names.items()]
+                    names = ["`%s`" % x + (" (%d)" % c if c > 1 else "") for x, c in short]
                     if names:
                         rows.append("%s: %s" % (crate, ", ".join(names)))
                 print("- %s (%d). %s." % (pattern, sum(1 for p in mine if p.pattern == pattern), "; ".join(rows)))
