@@ -59,7 +59,7 @@ impl HashContext {
         let held = (self.count % 64) as usize;
         octets::copy_at(&mut block, held, data);
         HashContext {
-            chain: hash.compress(chain, &block),
+            chain: hash.compress_all(chain, &block),
             block,
             count,
         }
