@@ -31,7 +31,12 @@ fn key_block(hash: HashAlgorithm, key: &[u8]) -> [u8; 64]
 fn xored(k: [u8; 64], x: u8) -> [u8; 64]
     ensures { result ≡ xored_of x k }
 {
-    k.map(|b| b ^ x)
+    // Kept (proof): `k.map(|b| b ^ x)` was tried: the search finds nothing of what a closure gives that captures x.
+    let mut out = k;
+    for i in 0..64 {
+        out[i] = k[i] ^ x;
+    }
+    out
 }
 
 // The chaining value after the block of a pad.

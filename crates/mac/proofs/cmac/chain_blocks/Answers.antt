@@ -1,13 +1,14 @@
-use Rattle.std.proofs.Common.{◌≡◌, ℕ, ◌<◌, ◌≤◌, ◌*◌, ◌/◌, List, [], get_or, take, length, ap, sym, ◌∙◌, arith, length-take}
+use Rattle.std.proofs.Common.{◌≡◌, ℕ, ◌/◌, length, ap, ◌∙◌, arith, length-take}
 use Rattle.mac.specs.AesWords.{round_keys}
 use Rattle.mac.specs.Cmac.{before, chained}
-use Rattle.mac.proofs.CmacSteps.{block-at, chained_more}
+use Rattle.mac.proofs.Chunks.{chunk-in}
+use Rattle.mac.proofs.CmacSteps.{chained_more}
 use Rattle.mac.proofs.cmac.chain_blocks.Goals as goal
 
 pub loop-block-preserved : goal.loop-block-preserved
 loop-block-preserved c =
     chained_more (round_keys c.args.cipher.now.keys) c.args.chain c.args.«data».now c.loop-block.block-index c.loop-block.invariant
-    (block-at c.blocks_before-n.result (length c.args.«data».now / 16) c.loop-block.block-index c.args.«data».now c.as_chunks.ensures.front c.loop-block-test.true)
+    (chunk-in 16 c.blocks_before-n.result (length c.args.«data».now / 16) c.loop-block.block-index c.args.«data».now c.as_chunks.ensures.front c.loop-block-test.true)
     c.xor.ensures c.encrypt-next.ensures
 
 pub returns : goal.returns

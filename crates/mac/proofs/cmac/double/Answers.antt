@@ -1,4 +1,4 @@
-use Rattle.std.proofs.Common.{◌≡◌, ℕ, ◌+◌, ◌/◌, ◌<◌, List, get_or, refl, replicate, arith, lt-ltb}
+use Rattle.std.proofs.Common.{◌≡◌, ℕ, ◌+◌, ◌/◌, ◌<◌, List, get_or, refl, arith, lt-ltb}
 use Rattle.mac.specs.Cmac.{shifted, double_at, double}
 use Rattle.mac.proofs.BlockBytes.{written-more, written_all}
 use Rattle.mac.proofs.cmac.double.Goals as goal

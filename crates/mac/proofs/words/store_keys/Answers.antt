@@ -1,4 +1,4 @@
-use Rattle.std.proofs.Common.{◌≡◌, ℕ, List, ◌<◌, get_or, map, [], ◌∷◌, rules}
+use Rattle.std.proofs.Common.{get_or, [], rules}
 use Rattle.std.proofs.lemmas.List.FromFn.{fill_by_all}
 use Rattle.mac.specs.AesWords.{state}
 use Rattle.mac.proofs.words.store_keys.Goals as goal
