@@ -34,6 +34,7 @@ fn four_rounds<const N: usize, H: Rounds<N>>(from: [u32; N], w: &[u32; 16], at: 
     ensures { result ≡ rounds_in H.step H.place at 4 w.now from.entry }
 {
     let mut s = from;
+    // Kept (no plainer): t is the round's number, which the round itself takes; no array is gone over.
     for t in at..at + 4 {
         s = H::round(t, w, s);
     }
@@ -63,6 +64,7 @@ fn eight_words<H: Schedule>(w: &mut [u32; 16], from: usize)
     requires { from + 8 ≤ 16 }
     ensures { (W : List ℕ) → length W ≡ 16 → w.old ≡ ring H.next_word from W → w.new ≡ ring H.next_word (from + 8) W }
 {
+    // Kept (no plainer): a word is made of four places of the ring that is written, so no iterator can lend it.
     for i in from..from + 8 {
         w[i] = H::next(w, i);
     }
@@ -82,6 +84,7 @@ pub(crate) fn next_words<H: Schedule>(w: &mut [u32; 16])
 pub(crate) fn sum<const N: usize>(h: [u32; N], s: [u32; N]) -> [u32; N]
     ensures { result ≡ sums N h.entry s.entry }
 {
+    // Kept (proof): `array::from_fn` was tried: nothing is known of what a generic function's closure gives, without clauses longer than this.
     let mut out = h;
     for i in 0..N {
         out[i] = out[i].wrapping_add(s[i]);

@@ -96,6 +96,7 @@ pub fn initial() -> [u32; 5]
 pub fn compress(h: [u32; 5], words: [u32; 16]) -> [u32; 5]
     ensures { result ≡ compress_words h words }
 {
+    // Kept (no plainer): written out, as the round's number has to be a constant where f_t and K_t are picked; SHA-256 has one stretch less.
     let mut w = words;
     let s = sixteen_rounds::<5, Sha1>(h, &w, 0);
     next_words::<Sha1>(&mut w);

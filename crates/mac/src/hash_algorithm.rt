@@ -11,6 +11,7 @@ ghost use Rattle.mac.specs.HashContexts.{parts_of, words_of, digest_bytes_of, di
 
 use compression::words::{self, HighFirst, LowFirst};
 
+// Kept (no plainer): which one a connection uses is known at run time alone, so contexts over a type H would stand in an enum of contexts.
 #[derive(Clone, Copy)]
 pub enum HashAlgorithm {
     Sha1,
