@@ -1,4 +1,4 @@
-use Rattle.std.proofs.Common.{◌≡◌, List, ℕ, Bool, ◌&&◌, length, refl, sym, ap, ◌∙◌, rules}
+use Rattle.std.proofs.Common.{◌≡◌, Bool, ◌&&◌, length, refl, sym, ap, ◌∙◌, rules}
 use Rattle.mac.specs.Aes.{key_expansion, cipher}
 use Rattle.digests.specs.Digests.{sixteen, room, into, aes128_into}
 use Rattle.digests.proofs.Written.{refused, given, unsized, sized, full}
