@@ -4,8 +4,8 @@
 use Rattle.std.specs.Prelude.{ℕ, Bool, true, false, cond, not, List, [], length, eqb}
 use Rattle.rules.specs.declared.Verdict.{Verdict}
 use Rattle.rules.specs.declared.Verdict.TheVariants.{Accept, Pass, Drop}
-use Rattle.rules.specs.declared.Done.{Done}
-use Rattle.rules.specs.declared.Done.TheVariants as D
+use Rattle.rules.specs.Done.{Done}
+use Rattle.rules.specs.Done as D
 use Rattle.rules.specs.declared.State.{State}
 use Rattle.tables.specs.Tables.{Tables}
 use Rattle.tables.specs.Preparing.{prepare_answer, prepare_output}
@@ -13,8 +13,8 @@ use Rattle.rules.specs.Answers.{Answer, answer, table_answer}
 use Rattle.rules.specs.Connection.{arrival_of}
 use Rattle.rules.specs.Calls.{judged, judged_syn, opened_passively, opened_actively, opened_actively_md5, asked, signed, output}
 use Rattle.rules.specs.declared.Judged.{Judged}
-use Rattle.rules.specs.declared.Settled.{Settled}
-use Rattle.rules.specs.declared.Signed.{Signed}
+use Rattle.rules.specs.Results.{Settled}
+use Rattle.rules.specs.Results.{Signed}
 use Rattle.states.specs.Layout.{is_state_of, decode_of, encode_of}
 use Rattle.boundary.specs.Word.{word, of_judged, of_syn_judged, of_signed, of_settled}
 

@@ -13,7 +13,7 @@ use Rattle.keys.specs.Places.{At, here, there}
 use Rattle.keys.specs.declared.entry.Entry.{Entry}
 use Rattle.keys.specs.declared.entry.Pair.{Pair}
 use Rattle.keys.specs.declared.table.By.{By}
-use Rattle.keys.specs.declared.table.Found.{Found}
+use Rattle.keys.specs.Table.{Found}
 
 module _ (test : Entry → Bool) where
   -- the first entry that passes the test is found

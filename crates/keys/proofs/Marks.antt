@@ -17,7 +17,7 @@ use Rattle.keys.proofs.Walk.{size_at, Walking, walk_start, walk_refused, walk_st
 use Rattle.keys.specs.declared.entry.Ids.{Ids}
 use Rattle.keys.specs.declared.entry.Entry.{Entry}
 use Rattle.keys.specs.declared.table.TableKind.{TableKind}
-use Rattle.keys.specs.declared.table.Loaded.TheVariants.{Refused}
+use Rattle.keys.specs.Table.{fault}
 
 -- both IDs of an entry are marked
 abbrev Marked : List ℕ → List ℕ → Entry → Type 0
@@ -87,7 +87,7 @@ module _ {t : List ℕ} {kind : TableKind} {limit : ℕ} {sends recvs : List ℕ
       ∙ ap (λ (j : ℕ). number_of (item_tests kind (take j (entries t)) (item_at t at))) (ke ∙ ap (λ (y : Ids). compared sends recvs y i) de)
       ∙ ap (λ (b : Bool). number_of (own_tests kind (item_at t at) ++ (test 17 b ∷ []))) (enough sends recvs (entries t) (item_at t at).entry i w.marked)
 
-  pub load-refused : at < length t → (i ≡ limit → ⊥) → (n ≡ 0 → ⊥) → Refused n i ≡ loaded kind limit t
+  pub load-refused : at < length t → (i ≡ limit → ⊥) → (n ≡ 0 → ⊥) → fault n i ≡ loaded kind limit t
   load-refused h e z = walk_refused w.walking n h e number z
 
   pub load_step : (s : ℕ) → n ≡ 0 → s ≡ size_at t at → (1 ≤ s) × (at + s ≤ length t)

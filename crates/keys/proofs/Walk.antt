@@ -26,10 +26,11 @@ use Rattle.keys.specs.declared.entry.Selector.{Selector}
 use Rattle.keys.specs.declared.entry.Entry.{Entry}
 use Rattle.keys.specs.declared.table.TableKind.{TableKind}
 use Rattle.keys.specs.declared.table.TableKind.TheVariants.{Keys, Md5}
-use Rattle.keys.specs.declared.table.Loaded.{Loaded}
-use Rattle.keys.specs.declared.table.Loaded.TheVariants.{Valid, Refused}
-use Rattle.keys.specs.declared.table.Found.{Found}
-use Rattle.keys.specs.declared.table.Meeting.{Meeting}
+use Rattle.keys.specs.Table.{Loaded}
+use Rattle.std.specs.Prelude.{Ok}
+use Rattle.keys.specs.Table.{fault}
+use Rattle.keys.specs.Table.{Found}
+use Rattle.keys.specs.Table.{Meeting}
 
 -- what begins at `at`
 
@@ -234,7 +235,7 @@ module _ (t : List ℕ) (at : ℕ) where
 taken_more : (l b r : List Entry) (e : Entry) (i : ℕ) → length b ≡ i → l ≡ b ++ (e ∷ r) → take (i + 1) l ≡ b ++ (e ∷ [])
 taken_more l b r e i h q = (λ k. take (sym h k + 1) (q k)) ∙ take-append-add b (e ∷ r) 1
 
-refused-by : (n i : ℕ) (o r : Loaded) → (n ≡ 0 → ⊥) → refusing n i o ≡ r → Refused n i ≡ r
+refused-by : (n i : ℕ) (o r : Loaded) → (n ≡ 0 → ⊥) → refusing n i o ≡ r → fault n i ≡ r
 refused-by zero i o r k h = absurd (k refl)
 refused-by (suc n) i o r k h = h
 
@@ -260,11 +261,11 @@ module _ {t : List ℕ} {kind : TableKind} {limit at i : ℕ} (w : Walking t kin
   unfolding loaded_from
   begin h = sym (ap (loaded_from kind limit i (take i (entries t))) (items_at t at h)) ∙ w.rest
 
-  pub walk-full : at < length t → i ≡ limit → Refused 12 i ≡ loaded kind limit t
+  pub walk-full : at < length t → i ≡ limit → fault 12 i ≡ loaded kind limit t
   unfolding number_of
   walk-full h e = rw (eq-eqb i limit e) at (begin h)
 
-  pub walk_refused : (n : ℕ) → at < length t → (i ≡ limit → ⊥) → n ≡ number_of (item_tests kind (take i (entries t)) (item_at t at)) → (n ≡ 0 → ⊥) → Refused n i ≡ loaded kind limit t
+  pub walk_refused : (n : ℕ) → at < length t → (i ≡ limit → ⊥) → n ≡ number_of (item_tests kind (take i (entries t)) (item_at t at)) → (n ≡ 0 → ⊥) → fault n i ≡ loaded kind limit t
   unfolding number_of
   walk_refused n h e q k = refused-by n i _ (loaded kind limit t) k (rw (ne_eqb i limit e, sym q) at (begin h))
 
@@ -299,7 +300,7 @@ module _ {t : List ℕ} {kind : TableKind} {limit at i : ℕ} (w : Walking t kin
             ∙ passed-by (number_of (item_tests kind b x)) i _ (loaded kind limit t) (sym q ∙ z) (rw (ne_eqb i limit e) at (begin h));
       }
 
-  pub walk-done : length t ≤ at → Valid i ≡ loaded kind limit t
+  pub walk-done : length t ≤ at → Ok i ≡ loaded kind limit t
   unfolding loaded_from
   walk-done h = sym (ap (loaded_from kind limit i (take i (entries t))) (items-end t at h)) ∙ w.rest
 

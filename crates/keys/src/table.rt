@@ -5,11 +5,10 @@ ghost use Rattle.std.specs.Prelude.{◌≡◌, cond, ◌&&◌, [], ◌∷◌, �
 ghost use Rattle.keys.specs.Entry.{size, item, item_at, sound, entries};
 ghost use Rattle.keys.specs.Match.{share, overlap};
 ghost use Rattle.keys.specs.Table.{number_of, kind_listed_of, item_tests, clashing, loaded};
-ghost use Rattle.keys.specs.Table.{nobody, found, any_of, has_id_of, answers, meets, meets_any_of, place_of};
+ghost use Rattle.keys.specs.Table.{found, found_of, any_of, has_id_of, answers, meets, meets_any_of, place_of};
 
 use crate::entry::{
-    Entry, Ids, Pair, Secret, Selector, Side, entry_of, ids_of, known_kind, plain_kind,
-    selector_of, size_of,
+    Entry, Ids, Pair, Selector, entry_of, ids_of, known_kind, plain_kind, selector_of, size_of,
 };
 use wire::bytes::byte_at;
 
@@ -20,11 +19,11 @@ pub enum TableKind {
     Md5,
 }
 
-// What the loader answers: the table is valid and has so many entries, or it is refused with a number at the entry of an index.
-#[derive(Clone, Copy)]
-pub enum Loaded {
-    Valid(usize),
-    Refused(u8, usize),
+// What the loader refuses a table with: a number, at the entry of an index.
+#[derive(Clone, Copy, PartialEq, Eq, Debug)]
+pub struct Fault {
+    pub number: u8,
+    pub index: usize,
 }
 
 // What a search asks of an entry that matches the pair: nothing more, its SendID, or its RecvID.
@@ -35,19 +34,11 @@ pub enum By {
     Recv(u8),
 }
 
-// What a search answers. Where nothing is there, the index is 0 and the entry all zero.
+// An entry that a search found, and where it stands among the table's.
 #[derive(Clone, Copy)]
-pub struct Found {
-    pub there: bool,
+pub struct Hit {
     pub index: usize,
     pub entry: Entry,
-}
-
-// What a search by another table's entries answers. Where nothing is there, the index is 0.
-#[derive(Clone, Copy)]
-pub struct Meeting {
-    pub there: bool,
-    pub index: usize,
 }
 
 // How many bytes the entry at `at` has; 0 where none of a known kind begins there or it is not there whole.
@@ -159,7 +150,7 @@ fn to_compare(sends: &[u8; 256], recvs: &[u8; 256], ids: Ids, i: usize) -> usize
 
 // The table's answer where so many entries are allowed. The SendIDs and RecvIDs of the entries passed are marked: an entry that
 // shares neither clashes with none of them.
-pub fn load(table: &[u8], limit: usize, kind: TableKind) -> Loaded
+pub fn load(table: &[u8], limit: usize, kind: TableKind) -> Result<usize, Fault>
     ensures { result ≡ loaded kind limit table.now }
 {
     let mut sends = [0u8; 256];
@@ -168,19 +159,25 @@ pub fn load(table: &[u8], limit: usize, kind: TableKind) -> Loaded
     let mut i: usize = 0;
     while at < table.len() {
         if i == limit {
-            return Loaded::Refused(12, i);
+            return Err(Fault {
+                number: 12,
+                index: i,
+            });
         }
         let ids = ids_at(table, at);
         let n = number_at(table, at, to_compare(&sends, &recvs, ids, i), kind);
         if n != 0 {
-            return Loaded::Refused(n, i);
+            return Err(Fault {
+                number: n,
+                index: i,
+            });
         }
         sends[ids.send as usize] = 1;
         recvs[ids.recv as usize] = 1;
         at = at + size_at(table, at);
         i += 1;
     }
-    Loaded::Valid(i)
+    Ok(i)
 }
 
 fn has_id(by: By, ids: Ids) -> bool
@@ -204,64 +201,27 @@ fn answers_at(table: &[u8], at: usize, pair: Pair, by: By) -> bool
     crate::matching::matches(selector_of(&table[at..]), pair)
 }
 
-pub fn nothing() -> Found
-    ensures { result ≡ nobody }
-{
-    let a = [0u8; 16];
-    let k = [0u8; 80];
-    let side = Side {
-        low: 0,
-        high: 0,
-        bits: 0,
-        address: a,
-    };
-    let selector = Selector {
-        family: 0,
-        local: side,
-        remote: side,
-    };
-    let ids = Ids { send: 0, recv: 0 };
-    let secret = Secret {
-        flags: 0,
-        algorithm: 0,
-        mac_bytes: 0,
-        key_len: 0,
-        key: k,
-    };
-    let e = Entry {
-        selector: selector,
-        ids: ids,
-        secret: secret,
-    };
-    Found {
-        there: false,
-        index: 0,
-        entry: e,
-    }
-}
-
 // The first entry that answers.
-pub fn find(table: &[u8], pair: Pair, by: By) -> Found
-    ensures { result ≡ found (answers by pair) 0 (entries table.now) }
+pub fn find(table: &[u8], pair: Pair, by: By) -> Option<Hit>
+    ensures { found_of result ≡ found (answers by pair) 0 (entries table.now) }
 {
     let mut at: usize = 0;
     let mut i: usize = 0;
     while at < table.len() {
         let n = size_at(table, at);
         if n == 0 {
-            return nothing();
+            return None;
         }
         if answers_at(table, at, pair, by) {
-            return Found {
-                there: true,
+            return Some(Hit {
                 index: i,
                 entry: entry_of(&table[at..]),
-            };
+            });
         }
         at = at + n;
         i += 1;
     }
-    nothing()
+    None
 }
 
 // How many entries the bytes have, up to the first that is not whole or not of a known kind.
@@ -300,7 +260,7 @@ fn meets_any(table: &[u8], s: Selector) -> bool
 }
 
 // The first entry of `table` that matches a pair which some entry of `others` matches too.
-pub fn find_meeting(table: &[u8], others: &[u8]) -> Meeting
+pub fn find_meeting(table: &[u8], others: &[u8]) -> Option<usize>
     ensures { result ≡ place_of (found (meets_any_of (entries others.now)) 0 (entries table.now)) }
 {
     let mut at: usize = 0;
@@ -308,22 +268,13 @@ pub fn find_meeting(table: &[u8], others: &[u8]) -> Meeting
     while at < table.len() {
         let n = size_at(table, at);
         if n == 0 {
-            return Meeting {
-                there: false,
-                index: 0,
-            };
+            return None;
         }
         if meets_any(others, selector_of(&table[at..])) {
-            return Meeting {
-                there: true,
-                index: i,
-            };
+            return Some(i);
         }
         at = at + n;
         i += 1;
     }
-    Meeting {
-        there: false,
-        index: 0,
-    }
+    None
 }

@@ -6,15 +6,15 @@ use Rattle.wire.specs.declared.options.Options.{Options}
 use Rattle.wire.specs.declared.options.Options.TheVariants as O
 use Rattle.wire.specs.Options.{options_of, is_malformed, ao_in}
 use Rattle.wire.specs.Header.{area}
-use Rattle.keys.specs.declared.table.Found.{Found}
-use Rattle.tables.specs.declared.Admitted.{Admitted}
-use Rattle.tables.specs.declared.Admitted.TheVariants.{Valid, Refused}
+use Rattle.keys.specs.Table.{Found}
+use Rattle.tables.specs.Tables.{Admitted}
+use Rattle.std.specs.Prelude.{Ok, Err}
 use Rattle.tables.specs.Tables.{Tables, send_entry, md5_entry}
 use Rattle.tables.proofs.ValidLaws.{valid-count}
 use Rattle.rules.specs.declared.Outcome.{Outcome}
 use Rattle.rules.specs.declared.Outcome.TheVariants.{Good, Passed, Bad}
 use Rattle.rules.specs.declared.State.{State}
-use Rattle.rules.specs.declared.Settled.{Settled}
+use Rattle.rules.specs.Results.{Settled}
 use Rattle.octets.specs.Tests.{first}
 use Rattle.octets.specs.TestLaws.{first_passes}
 use Rattle.rules.specs.Segment.{malformed, ao}
@@ -107,8 +107,8 @@ unfolding table_answer outcome_answer
 table-number b = go (tables b).answer refl
   where
     go : (o : Admitted) → (tables b).answer ≡ o → table_answer (tables b).answer ≡ table_number (tables b)
-    go (Valid n) e = rw e (ap (answer 0) (valid-count b.form b.keys b.md5 n e).0)
-    go (Refused n i) e = rw e refl
+    go (Ok n) e = rw e (ap (answer 0) (valid-count b.form b.keys b.md5 n e).0)
+    go (Err r) e = rw e refl
 
 -- An option area: the number is given exactly where the test of 21 or 31 in Calls.antt, `malformed`, applies, and else the count that the
 -- tests of 22, 25 and 31 go by.

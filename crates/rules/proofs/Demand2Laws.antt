@@ -5,7 +5,7 @@ use Rattle.std.proofs.Common.{sym, ◌∙◌, subst₂, arith, length-drop, take
 use Rattle.std.proofs.Math.Bool.{Bool, cond}
 use Rattle.wire.specs.Header.{source_port_of, destination_port_of}
 use Rattle.keys.specs.declared.entry.Entry.{Entry}
-use Rattle.keys.specs.declared.table.Found.{Found}
+use Rattle.keys.specs.Table.{Found}
 use Rattle.keys.specs.Entry.{is_family_of, width, padded}
 use Rattle.tables.specs.Tables.{Tables, no_index, recv_entry}
 use Rattle.rules.specs.declared.Outcome.{Outcome}

@@ -21,10 +21,10 @@ use Rattle.keys.specs.Table.{any_of, number_of, clashing, loaded_from, loaded, n
 use Rattle.tables.specs.Tables.{Tables, besides, admitted, any_entry}
 use Rattle.tables.specs.Valid.{ValidTables}
 use Rattle.tables.proofs.ValidLaws.{valid-bytes}
-use Rattle.rules.specs.declared.Place.TheVariants.{At}
+use Rattle.std.specs.Prelude.{Some}
 use Rattle.rules.specs.declared.Outcome.{Outcome}
 use Rattle.rules.specs.declared.Outcome.TheVariants.{Good}
-use Rattle.rules.specs.declared.Signing.TheVariants as S
+use Rattle.rules.specs.Signing as S
 use Rattle.rules.specs.declared.State.{State}
 use Rattle.rules.specs.declared.Judged.{Judged}
 use Rattle.rules.specs.Position.{position}
@@ -49,7 +49,7 @@ use Rattle.rules.specs.Inhabited.{hidden_pair, from_them, our_state, theirs, seg
 use Rattle.rules.specs.Inhabited.{Arrivals, all, Demand3NotEmpty, opener, syn_segment, syn_bytes, BareSynNotEmpty, md5_entry4, md5_table}
 use Rattle.rules.specs.Inhabited.{md5_passive, syn_ack_segment, syn_ack_bytes, OpenedMd5NotEmpty, md5_theirs, open_bytes_md5, OpenMd5NotEmpty}
 use Rattle.rules.specs.Inhabited.{md5_opener, syn_bytes_md5, BareSynMd5NotEmpty, unknown_syn, no_table, UnknownKeyNotEmpty}
-use Rattle.tables.specs.declared.Admitted.TheVariants.{Valid}
+use Rattle.std.specs.Prelude.{Ok}
 use Rattle.rules.specs.Inhabited.{our_prepared, PreparedNotEmpty}
 use Rattle.rules.specs.Prepared.{PreparedFrom}
 use Rattle.rules.proofs.PreparedLaws.{prepared-means}
@@ -143,7 +143,7 @@ record Signs (b : Lent) (e : Entry) (q : State) (s : List ℕ) (x : ℕ) : Type 
   short : e.secret.mac_bytes ≤ 16
   fresh : Fresh s
   octets : Octets s
-  place : place_on_lem q.conn q.sent (sequence s) ≡ At x
+  place : place_on_lem q.conn q.sent (sequence s) ≡ Some x
 
 module _ (b : Lent) (e : Entry) (q : State) (s : List ℕ) (x : ℕ) (g : Signs b e q s x) where
   abbrev bytes : List ℕ
@@ -639,7 +639,7 @@ octets-by [] e i = omega arith
 octets-by (x ∷ s) e zero = ltb-true x 256 (and-true (ltb x 256) (below s) e).0
 octets-by (x ∷ s) e (suc i) = octets-by s (and-true (ltb x 256) (below s) e).1 i
 
-three : (tables our_bytes).answer ≡ Valid 3
+three : (tables our_bytes).answer ≡ Ok 3
 unfolding agree clear_to mac_bytes_of known_kind_of family_of_lem extra body width side_of selector_of_lem mac_length_of ids_of secret_of_lem entry_of item items entries_of
     holds matches meet overlap share clash number_of clashing loaded_from loaded found nobody answers any_of meets_any_of besides admitted
 three = refl

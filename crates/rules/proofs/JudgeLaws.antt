@@ -9,8 +9,8 @@ use Rattle.wire.specs.Bytes.{same_bytes}
 use Rattle.wire.proofs.BytesLaws.{eq-of-same}
 use Rattle.wire.specs.Header.{source_port_of, destination_port_of, sequence, syn, ack}
 use Rattle.tables.specs.declared.Index.{Index}
-use Rattle.tables.specs.declared.Admitted.{Admitted}
-use Rattle.tables.specs.declared.Admitted.TheVariants.{Valid, Refused}
+use Rattle.tables.specs.Tables.{Admitted}
+use Rattle.std.specs.Prelude.{Ok, Err}
 use Rattle.tables.specs.Tables.{Tables, no_index, recv_entry}
 use Rattle.tables.specs.Valid.{ValidTables}
 use Rattle.rules.specs.declared.Outcome.{Outcome}
@@ -38,8 +38,8 @@ is_counted_bad Passed = false
 is_counted_bad (Bad n i) = is_counted n
 
 pub refusal-bad : (c : Admitted) → is_bad (refusal c) ≡ true
-refusal-bad (Valid n) = refl
-refusal-bad (Refused n i) = refl
+refusal-bad (Ok n) = refl
+refusal-bad (Err r) = refl
 
 -- no pass
 abbrev pub not_passed : Outcome → Bool
@@ -48,8 +48,8 @@ not_passed Passed = false
 not_passed (Bad n i) = true
 
 pub refusal-not-passed : (c : Admitted) → not_passed (refusal c) ≡ true
-refusal-not-passed (Valid n) = refl
-refusal-not-passed (Refused n i) = refl
+refusal-not-passed (Ok n) = refl
+refusal-not-passed (Err r) = refl
 
 -- tests that failed, put together
 pub nonzero : (n : ℕ) → eqb n 0 ≡ false → 0 < n

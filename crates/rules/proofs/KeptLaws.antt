@@ -4,8 +4,8 @@ use Rattle.std.specs.Prelude.{ℕ, ◌+◌, ◌-◌, ◌^◌, ◌<◌, ◌≡◌
 use Rattle.std.proofs.Common.{ap, sym, ◌∙◌, subst, arith, ltb-true}
 use Rattle.tables.specs.Tables.{Tables}
 use Rattle.wire.specs.Header.{sequence}
-use Rattle.rules.specs.declared.Place.{Place}
-use Rattle.rules.specs.declared.Place.TheVariants.{At, Nowhere}
+use Rattle.rules.specs.Position.{Place}
+use Rattle.std.specs.Prelude.{Some, None}
 use Rattle.rules.specs.declared.Outcome.{Outcome}
 use Rattle.rules.specs.declared.Outcome.TheVariants.{Good, Passed, Bad}
 use Rattle.rules.specs.declared.Connection.{Connection}
@@ -26,7 +26,7 @@ use Rattle.rules.specs.History.{Call, judge, sign, ask, next, ended}
 use Rattle.rules.specs.Kept.{Kept, CallsKeep}
 
 -- a position lies below 2^64
-position-below : (reference s x : ℕ) → reference < 2 ^ 64 → position reference s ≡ At x → x < 2 ^ 64
+position-below : (reference s x : ℕ) → reference < 2 ^ 64 → position reference s ≡ Some x → x < 2 ^ 64
 unfolding position
 position-below reference s x h e =
     go (ltb d (2 ^ 31)) (ltb (reference + d) (2 ^ 64)) (ltb (2 ^ 31) d) (leb (2 ^ 32 - d) reference) refl refl refl refl
@@ -50,8 +50,8 @@ at_value : (l : Connection) (reference s x : ℕ) → is_open_of l ≡ true → 
 at_value l reference s x o w h e = go (position reference s) refl
   where
     go : (p : Place) → position reference s ≡ p → x < 2 ^ 64
-    go (At y) q = let z : y ≡ x = cc (rw (o, w, q) at e) in subst (λ (n : ℕ). n < 2 ^ 64) z (position-below reference s y h q)
-    go Nowhere q = let z : 0 ≡ x = cc (rw (o, w, q) at e) in omega (arith, z)
+    go (Some y) q = let z : y ≡ x = cc (rw (o, w, q) at e) in subst (λ (n : ℕ). n < 2 ^ 64) z (position-below reference s y h q)
+    go None q = let z : 0 ≡ x = cc (rw (o, w, q) at e) in omega (arith, z)
 
 -- what an accepted segment comes to: its position and, on the TCP-AO way, its RNextKeyID
 pub good-is : (t : Tables) (l : Connection) (reference : ℕ) (a : Arrival) (x r : ℕ) → check t l reference a ≡ Good x r

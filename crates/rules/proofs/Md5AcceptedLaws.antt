@@ -10,12 +10,12 @@ use Rattle.wire.specs.Header.{sequence, syn, ack}
 use Rattle.wire.specs.declared.options.Occurrence.{Occurrence}
 use Rattle.keys.specs.declared.entry.Pair.{Pair}
 use Rattle.keys.specs.declared.entry.Entry.{Entry}
-use Rattle.keys.specs.declared.table.Found.{Found}
+use Rattle.keys.specs.Table.{Found}
 use Rattle.keys.specs.Entry.{is_family_of, key_of}
 use Rattle.keys.proofs.MatchLaws.{and-true}
 use Rattle.tables.specs.Tables.{Tables, md5_entry}
 use Rattle.tables.specs.Valid.{ValidTables}
-use Rattle.rules.specs.declared.Place.{Place}
+use Rattle.rules.specs.Position.{Place}
 use Rattle.rules.specs.declared.Outcome.TheVariants.{Good}
 use Rattle.rules.specs.declared.Connection.{Connection}
 use Rattle.rules.specs.declared.State.{State}

@@ -15,7 +15,7 @@ use Rattle.keys.specs.Entry.{entries_of}
 use Rattle.keys.specs.Match.{holds, matches, meet, overlap, share, clash}
 use Rattle.keys.specs.Table.{any_of, number_of, clashing, loaded_from, loaded, nobody, found, answers, meets_any_of}
 use Rattle.tables.specs.Tables.{besides, admitted, md5_entry}
-use Rattle.rules.specs.declared.Place.TheVariants.{At}
+use Rattle.std.specs.Prelude.{Some}
 use Rattle.rules.specs.declared.Outcome.{Outcome}
 use Rattle.rules.specs.declared.Outcome.TheVariants.{Good}
 use Rattle.rules.specs.Mac.{pseudo_header, blank}
@@ -53,13 +53,13 @@ syn-table-md5 t a strict way =
     let g = syn_groups t a strict in
     (λ j. first
     (joined (g.input ∷ g.size ∷ g.sum ∷ g.form ∷ g.arrival ∷ syn-key-md5 t a strict way j ∷ syn-mac-md5 t a strict way j ∷ []))
-    (good_by (way j) (At (sequence a.segment)) a.segment))
+    (good_by (way j) (Some (sequence a.segment)) a.segment))
     ∙ rw way
     (first_flat (syn_rows_md5 t (md5_entry t (arrival_pair_of a)) a) (Good (sequence a.segment) 0))
 
 pub sign-table-md5 : SignTableMd5
 sign-table-md5 t s room q way =
-    sign-rows t s room q (md5_entry t q.conn.pair) (At (sequence s)) 5 (outgoing-md5 t q way)
+    sign-rows t s room q (md5_entry t q.conn.pair) (Some (sequence s)) 5 (outgoing-md5 t q way)
     (place-md5 q.conn q.sent (sequence s) way)
     (ap (λ (b : Bool). cond b md5_option_bytes (added_bytes_of (outgoing t q).entry)) way)
 

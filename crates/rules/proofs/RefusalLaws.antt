@@ -8,12 +8,12 @@ use Rattle.std.proofs.Math.Seq.{drop_at}
 use Rattle.keys.specs.declared.entry.Pair.{Pair}
 use Rattle.keys.specs.declared.entry.Entry.{Entry}
 use Rattle.tables.specs.Tables.{Tables, send_entry, recv_entry, md5_entry}
-use Rattle.rules.specs.declared.Place.{Place}
-use Rattle.rules.specs.declared.Place.TheVariants.{At, Nowhere}
+use Rattle.rules.specs.Position.{Place}
+use Rattle.std.specs.Prelude.{Some, None}
 use Rattle.rules.specs.declared.Outcome.{Outcome}
 use Rattle.rules.specs.declared.Outcome.TheVariants.{Good, Passed, Bad}
-use Rattle.rules.specs.declared.Signing.TheVariants as S
-use Rattle.rules.specs.declared.Done.TheVariants as D
+use Rattle.rules.specs.Signing as S
+use Rattle.rules.specs.Done as D
 use Rattle.rules.specs.declared.State.{State}
 use Rattle.octets.specs.Tests.{first}
 use Rattle.octets.specs.TestLaws.{NoneApplies, none-applied}
@@ -34,8 +34,8 @@ use Rattle.rules.specs.Refusals.{RefusalLeaves, PassedEmpty, SigningWrites}
 
 drop-left : (n : ℕ) (q : State) (b : Bool) (p : Place) → is_open_of q.conn ≡ b → slot n ≡ p → cond (is_open_of q.conn) (with_drop_of n q) q ≡ cond (is_open_of q.conn && is_counted n) (one_more_of n q) q
 unfolding count_drop_of
-drop-left n q true (At i) p e = rw (p, e)
-drop-left n q true Nowhere p e = rw (p, e)
+drop-left n q true (Some i) p e = rw (p, e)
+drop-left n q true None p e = rw (p, e)
 drop-left n q false c p e = rw p
 
 judge-left : (t : Tables) (q : State) (o : Outcome) (n : ℕ) → by_verdict (verdict_of_lem o) ≡ D.Refused n → after_judging_of t q o ≡ cond (is_open_of q.conn && is_counted n) (one_more_of n q) q

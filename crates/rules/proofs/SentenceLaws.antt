@@ -7,12 +7,12 @@ use Rattle.wire.specs.Prefix.{clear_to}
 use Rattle.checksum.specs.Checksum.{ones_sum, checksum_of, checksummed}
 use Rattle.keys.specs.Algorithm.{mac_bytes_of, output_bits_of}
 use Rattle.keys.specs.declared.entry.Pair.{Pair}
-use Rattle.keys.specs.declared.table.Found.{Found}
+use Rattle.keys.specs.Table.{Found}
 use Rattle.keys.specs.Entry.{known_kind_of, family_of_lem, extra, body, is_family_of, width, side_of, selector_of_lem, ids_of, mac_length_of, secret_of_lem, entry_of, key_of}
 use Rattle.keys.specs.Table.{number_of}
 use Rattle.tables.specs.Tables.{Tables, send_entry, recv_entry, any_entry}
-use Rattle.rules.specs.declared.Place.{Place}
-use Rattle.rules.specs.declared.Place.TheVariants.{At}
+use Rattle.rules.specs.Position.{Place}
+use Rattle.std.specs.Prelude.{Some}
 use Rattle.rules.specs.declared.Outcome.{Outcome}
 use Rattle.rules.specs.declared.Outcome.TheVariants.{Good, Passed}
 use Rattle.rules.specs.declared.State.{State}
@@ -80,7 +80,7 @@ syn-table t a strict way =
     let found = recv_entry t (arrival_pair_of a) (key_id_of a.segment) in
     (λ j. first
     (joined (g.input ∷ g.size ∷ g.sum ∷ g.form ∷ g.arrival ∷ syn-key-ao t a strict way j ∷ syn-mac-ao t a strict way j ∷ []))
-    (good_by (way j) (At (sequence a.segment)) a.segment))
+    (good_by (way j) (Some (sequence a.segment)) a.segment))
     ∙ (λ j. first
     (joined
     (g.input
@@ -88,8 +88,8 @@ syn-table t a strict way =
     ∷ g.sum
     ∷ g.form
     ∷ g.arrival
-    ∷ key_tests (syn_missing_of t (arrival_pair_of a)) (unknown-row t (arrival_pair_of a) strict j) found (At (sequence a.segment)) a.segment
-    ∷ mac_tests found.entry (arriving_syn a) (At (sequence a.segment)) a.segment ∷ []))
+    ∷ key_tests (syn_missing_of t (arrival_pair_of a)) (unknown-row t (arrival_pair_of a) strict j) found (Some (sequence a.segment)) a.segment
+    ∷ mac_tests found.entry (arriving_syn a) (Some (sequence a.segment)) a.segment ∷ []))
     (Good (sequence a.segment) (rnext_key_id a.segment)))
     ∙ first_flat (syn_rows t strict found a) (Good (sequence a.segment) (rnext_key_id a.segment))
 

@@ -11,13 +11,13 @@ use Rattle.wire.proofs.BytesLaws.{eq-of-same}
 use Rattle.wire.specs.Header.{sequence}
 use Rattle.keys.specs.declared.entry.Pair.{Pair}
 use Rattle.keys.specs.declared.entry.Entry.{Entry}
-use Rattle.keys.specs.declared.table.Found.{Found}
+use Rattle.keys.specs.Table.{Found}
 use Rattle.keys.specs.Entry.{is_family_of, key_of}
-use Rattle.tables.specs.declared.Admitted.{Admitted}
-use Rattle.tables.specs.declared.Admitted.TheVariants.{Valid, Refused}
+use Rattle.tables.specs.Tables.{Admitted}
+use Rattle.std.specs.Prelude.{Ok, Err}
 use Rattle.tables.specs.Tables.{Tables, recv_entry, any_entry, md5_entry}
-use Rattle.rules.specs.declared.Place.{Place}
-use Rattle.rules.specs.declared.Place.TheVariants.{At}
+use Rattle.rules.specs.Position.{Place}
+use Rattle.std.specs.Prelude.{Some}
 use Rattle.rules.specs.declared.Outcome.{Outcome}
 use Rattle.rules.specs.declared.Outcome.TheVariants.{Good, Passed, Bad}
 use Rattle.rules.specs.declared.Verdict.TheVariants.{Accept}
@@ -68,7 +68,7 @@ accepts Passed e v = let z : ◌≡◌ {A = ℕ} 0 1 = cc in absurd (omega arith
 accepts (Bad n i) e v = let z : ◌≡◌ {A = ℕ} 0 1 = cc in absurd (omega arith)
 
 -- "An MD5 accept has extension 0": the position is the segment's number
-no-extension : (s : List ℕ) → Octets s → (y : Place) → y ≡ At (sequence s) → (k x r e : ℕ) → Good (value y) k ≡ Good x r
+no-extension : (s : List ℕ) → Octets s → (y : Place) → y ≡ Some (sequence s) → (k x r e : ℕ) → Good (value y) k ≡ Good x r
     → extension_of_lem x ≡ e → e ≡ 0
 no-extension s octets y at k x r e g h =
     let z : sequence s ≡ x = ap value (sym at) ∙ cc in
@@ -132,8 +132,8 @@ not_good Passed = true
 not_good (Bad n i) = true
 
 refusal-not-good : (c : Admitted) → not_good (refusal c) ≡ true
-refusal-not-good (Valid n) = refl
-refusal-not-good (Refused n i) = refl
+refusal-not-good (Ok n) = refl
+refusal-not-good (Err r) = refl
 
 missing-not-good : (t : Tables) (p : Pair) → not_good (syn_missing_of t p) ≡ true
 missing-not-good t p = go (any_entry t p)
@@ -160,7 +160,7 @@ module _ (t : Tables) (a : Arrival) (strict : Bool) (e : ℕ) (v : (judged_syn t
           let unknown = unknown-passes not_good t (arrival_pair_of a) strict refl refl in
           rw (p, refusal-not-good t.answer, missing, unknown)
 
-  syn-given : good_by (syn_is_md5 t (arrival_pair_of a)) (At (sequence a.segment)) a.segment ≡ Good syn-good.0 syn-good.1
+  syn-given : good_by (syn_is_md5 t (arrival_pair_of a)) (Some (sequence a.segment)) a.segment ≡ Good syn-good.0 syn-good.1
   unfolding check_syn_of
   syn-given = sym (first-clear (syn_groups t a strict) _ syn-clear) ∙ syn-good.2
 
@@ -173,7 +173,7 @@ pub syn-accepted-by-md5 : SynAcceptedByMd5
 syn-accepted-by-md5 t a strict e octets way v = (
   by-md5 a.segment f c.form key,
   record { there = found.0; digest = found.1 },
-  no-extension a.segment octets (At (sequence a.segment)) refl _ (syn-good t a strict e v).0 _ e (syn-given t a strict e v)
+  no-extension a.segment octets (Some (sequence a.segment)) refl _ (syn-good t a strict e v).0 _ e (syn-given t a strict e v)
       (syn-good t a strict e v).3,
 )
   where
@@ -288,8 +288,8 @@ module _ (q : State) (opens : is_open_of q.conn ≡ true) (way : is_md5_of q.con
       go : (f r : Bool) → not (is_family_of q.conn.pair.family) ≡ f → is_refused t.answer ≡ r → (c : Admitted) → t.answer ≡ c
           → (settled_by_lem (first (ask_tests t id q.conn) unrefused) q (with_asked_of id q)).state ≡ q
       go true r p d c k = rw p
-      go false true p d (Valid n) k = rw (p, d, k)
-      go false true p d (Refused n i) k = rw (p, d, k)
+      go false true p d (Ok n) k = rw (p, d, k)
+      go false true p d (Err r) k = rw (p, d, k)
       go false false p d c k = rw (p, d, way)
 
   next-stays : (c : Call) → Stays q (next c q)

@@ -5,19 +5,19 @@ use Rattle.std.specs.Prelude.{ℕ, ◌+◌, Bool, cond, List, length}
 use Rattle.wire.specs.declared.options.Options.{Options}
 use Rattle.wire.specs.declared.options.Options.TheVariants as O
 use Rattle.tables.specs.declared.Index.{Index}
-use Rattle.tables.specs.declared.Admitted.{Admitted}
-use Rattle.tables.specs.declared.Admitted.TheVariants.{Valid, Refused}
+use Rattle.tables.specs.Tables.{Admitted}
+use Rattle.std.specs.Prelude.{Ok, Err}
 use Rattle.tables.specs.Tables.{Tables, send_entry, md5_entry}
-use Rattle.rules.specs.declared.Place.{Place}
-use Rattle.rules.specs.declared.Place.TheVariants.{At, Nowhere}
+use Rattle.rules.specs.Position.{Place}
+use Rattle.std.specs.Prelude.{Some, None}
 use Rattle.rules.specs.declared.Outcome.{Outcome}
 use Rattle.rules.specs.declared.Outcome.TheVariants.{Good, Passed, Bad}
 use Rattle.rules.specs.declared.Verdict.{Verdict}
 use Rattle.rules.specs.declared.Verdict.TheVariants.{Accept, Pass, Drop}
-use Rattle.rules.specs.declared.Signing.{Signing}
-use Rattle.rules.specs.declared.Signing.TheVariants as S
-use Rattle.rules.specs.declared.Done.{Done}
-use Rattle.rules.specs.declared.Done.TheVariants as D
+use Rattle.rules.specs.Signing.{Signing}
+use Rattle.rules.specs.Signing as S
+use Rattle.rules.specs.Done.{Done}
+use Rattle.rules.specs.Done as D
 use Rattle.rules.specs.declared.Connection.{Connection}
 use Rattle.rules.specs.declared.State.{State}
 use Rattle.octets.specs.Tests.{first}
@@ -63,13 +63,13 @@ done_answer (D.Refused n) i = refused n i
 
 -- the tables: how many entries the key table has, or "10 to 17 .. with the entry's index", or 45, or 44
 unfoldable pub table_answer : Admitted → Answer
-table_answer (Valid n) = answer 0 n
-table_answer (Refused n i) = refused n i
+table_answer (Ok n) = answer 0 n
+table_answer (Err r) = refused r.number r.index
 
 -- a position, or 28 (when signing 36)
 unfoldable pub place_answer : ℕ → Place → Answer
-place_answer n (At x) = answer 0 x
-place_answer n Nowhere = answer n 0
+place_answer n (Some x) = answer 0 x
+place_answer n None = answer n 0
 
 -- "Otherwise the answer is 28 or 36."
 abbrev pub position_number : (n reference s : ℕ) → Answer

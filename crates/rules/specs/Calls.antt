@@ -5,14 +5,14 @@ use Rattle.wire.specs.Bytes.{same_bytes}
 use Rattle.wire.specs.Header.{source_port_of, destination_port_of, sequence, header_end_of, syn, ack, size_faults}
 use Rattle.keys.specs.declared.entry.Pair.{Pair}
 use Rattle.keys.specs.declared.entry.Entry.{Entry}
-use Rattle.keys.specs.declared.table.Found.{Found}
+use Rattle.keys.specs.Table.{Found}
 use Rattle.keys.specs.Entry.{is_family_of, key_of}
 use Rattle.tables.specs.declared.Index.{Index}
-use Rattle.tables.specs.declared.Admitted.{Admitted}
-use Rattle.tables.specs.declared.Admitted.TheVariants.{Valid, Refused}
+use Rattle.tables.specs.Tables.{Admitted}
+use Rattle.std.specs.Prelude.{Ok, Err}
 use Rattle.tables.specs.Tables.{Tables, no_index, send_entry, recv_entry, any_entry, md5_entry}
-use Rattle.rules.specs.declared.Place.{Place}
-use Rattle.rules.specs.declared.Place.TheVariants.{At}
+use Rattle.rules.specs.Position.{Place}
+use Rattle.std.specs.Prelude.{Some}
 use Rattle.rules.specs.declared.Outcome.{Outcome}
 use Rattle.rules.specs.declared.Outcome.TheVariants.{Good, Passed, Bad}
 use Rattle.rules.specs.declared.Verdict.{Verdict}
@@ -21,10 +21,10 @@ use Rattle.rules.specs.declared.Connection.{Connection}
 use Rattle.rules.specs.declared.State.{State}
 use Rattle.rules.specs.declared.Judged.{Judged}
 use Rattle.rules.specs.declared.SynJudged.{SynJudged}
-use Rattle.rules.specs.declared.Signing.TheVariants as S
-use Rattle.rules.specs.declared.Signed.{Signed}
-use Rattle.rules.specs.declared.Done.TheVariants as D
-use Rattle.rules.specs.declared.Settled.{Settled}
+use Rattle.rules.specs.Signing as S
+use Rattle.rules.specs.Results.{Signed}
+use Rattle.rules.specs.Done as D
+use Rattle.rules.specs.Results.{Settled}
 use Rattle.octets.specs.Tests.{Test, test, tests, joined, first}
 use Rattle.rules.specs.Mac.{Flow, leaving_hidden_of, arriving_hidden_of, segment_mac}
 use Rattle.rules.specs.Checksum.{sums_right, with_checksum_of}
@@ -54,12 +54,12 @@ address_tests a b = test (refuse 19) (not (sized a b)) ∷ []
 -- 10 to 17 with the entry's index, of the key table, then of the MD5 table; Ticket 9: "refused with 45 at the first such MD5 entry, behind
 -- the key table's and then the MD5 table's refusals and before 20"; Ticket 8: 44 "in the place of 10 to 16, without an index"
 abbrev pub is_refused : Admitted → Bool
-is_refused (Valid n) = false
-is_refused (Refused n i) = true
+is_refused (Ok n) = false
+is_refused (Err r) = true
 
 abbrev pub refusal : Admitted → Outcome
-refusal (Valid n) = refuse 0
-refusal (Refused n i) = Bad n i
+refusal (Ok n) = refuse 0
+refusal (Err r) = Bad r.number r.index
 
 abbrev pub table_tests : Tables → List (Test Outcome)
 table_tests t = test (refusal t.answer) (is_refused t.answer) ∷ []
@@ -216,10 +216,10 @@ syn_groups t a strict =
       key =
           cond (syn_is_md5 t (arrival_pair_of a)) (md5_tests (md5_entry t (arrival_pair_of a)) a.segment)
           (key_tests (syn_missing_of t (arrival_pair_of a)) (syn_unknown_of t (arrival_pair_of a) strict)
-          (recv_entry t (arrival_pair_of a) (key_id_of a.segment)) (At (sequence a.segment)) a.segment);
+          (recv_entry t (arrival_pair_of a) (key_id_of a.segment)) (Some (sequence a.segment)) a.segment);
       mac =
           cond (syn_is_md5 t (arrival_pair_of a)) (digest_tests (md5_entry t (arrival_pair_of a)).entry (arriving_syn a) a.segment)
-          (mac_tests (recv_entry t (arrival_pair_of a) (key_id_of a.segment)).entry (arriving_syn a) (At (sequence a.segment)) a.segment);
+          (mac_tests (recv_entry t (arrival_pair_of a) (key_id_of a.segment)).entry (arriving_syn a) (Some (sequence a.segment)) a.segment);
     }
 
 abbrev pub judge_syn_tests : Tables → Arrival → Bool → List (Test Outcome)
@@ -227,7 +227,7 @@ judge_syn_tests t a strict = in_order (syn_groups t a strict)
 
 unfoldable pub check_syn_of : Tables → Arrival → Bool → Outcome
 check_syn_of t a strict =
-    first (judge_syn_tests t a strict) (good_by (syn_is_md5 t (arrival_pair_of a)) (At (sequence a.segment)) a.segment)
+    first (judge_syn_tests t a strict) (good_by (syn_is_md5 t (arrival_pair_of a)) (Some (sequence a.segment)) a.segment)
 
 -- "A verdict is accept with its extension, pass, or drop with a number. The new state stands beside it."
 abbrev pub verdict_of_lem : Outcome → Verdict

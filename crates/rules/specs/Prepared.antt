@@ -5,7 +5,7 @@ use Rattle.octets.specs.Each.{Octets}
 use Rattle.tables.specs.Tables.{Tables}
 use Rattle.tables.specs.Preparing.{prepared_of}
 use Rattle.tables.specs.Valid.{ValidTables}
-use Rattle.tables.specs.declared.Admitted.TheVariants.{Valid}
+use Rattle.std.specs.Prelude.{Ok}
 use Rattle.rules.specs.declared.State.{State}
 use Rattle.rules.specs.Connection.{Arrival}
 use Rattle.rules.specs.Calls.{judged, judged_syn, opened_passively, opened_actively, opened_actively_md5, asked, signed, output}
@@ -17,7 +17,7 @@ pub record PreparedFrom (bytes prepared : Lent) : Type 0 where
   pub keys-octets : Octets bytes.keys
   pub md5-octets : Octets bytes.md5
   pub count : ℕ
-  pub valid : (tables bytes).answer ≡ Valid count
+  pub valid : (tables bytes).answer ≡ Ok count
   pub prepared-form : prepared.form ≡ 0 → ⊥
   pub written : prepared.keys ≡ prepared_of bytes.keys bytes.md5
   pub alone : prepared.md5 ≡ []

@@ -4,11 +4,11 @@ use Rattle.std.specs.Prelude.{ℕ, ◌+◌, ◌<◌, min, max, ◌≡◌, Bool, 
 use Rattle.wire.specs.Header.{sequence}
 use Rattle.keys.specs.declared.entry.Ids.{Ids}
 use Rattle.tables.specs.Tables.{Tables, send_entry, recv_entry}
-use Rattle.rules.specs.declared.Place.TheVariants.{At}
+use Rattle.std.specs.Prelude.{Some}
 use Rattle.rules.specs.declared.Verdict.TheVariants.{Accept, Drop}
 use Rattle.rules.specs.declared.State.{State}
-use Rattle.rules.specs.declared.Signing.TheVariants as S
-use Rattle.rules.specs.declared.Done.TheVariants as D
+use Rattle.rules.specs.Signing as S
+use Rattle.rules.specs.Done as D
 use Rattle.rules.specs.Position.{position}
 use Rattle.rules.specs.Segment.{key_id_of, rnext_key_id}
 use Rattle.rules.specs.Connection.{Arrival, pair_of_lem, arrival_pair_of, is_open_of, is_md5_of, next_key_of}
@@ -42,7 +42,7 @@ sent_to x q =
 abbrev pub SignedOpen : Type 0
 SignedOpen = (t : Tables) (s out : List ℕ) (q : State) (n : ℕ) → is_open_of q.conn ≡ true → is_md5_of q.conn ≡ false
     → (signed t s out q).answer ≡ S.Signed n
-    → (x : ℕ) × (position q.sent (sequence s) ≡ At x) × ((signed t s out q).state ≡ sent_to x q)
+    → (x : ℕ) × (position q.sent (sequence s) ≡ Some x) × ((signed t s out q).state ≡ sent_to x q)
 
 -- Ticket 9, on the MD5 way: "after opening neither it nor signing moves a reference"
 abbrev pub SignedOpenMd5 : Type 0
@@ -160,7 +160,7 @@ seen_to x t rnext q =
 abbrev pub AcceptedOpen : Type 0
 AcceptedOpen = (t : Tables) (a : Arrival) (q : State) (e : ℕ) → is_open_of q.conn ≡ true → is_md5_of q.conn ≡ false
     → q.accepted < 18446744073709551616 → (judged t a q).verdict ≡ Accept e
-    → (x : ℕ) × (position q.seen (sequence a.segment) ≡ At x) × ((judged t a q).state ≡ seen_to x t (rnext_key_id a.segment) q)
+    → (x : ℕ) × (position q.seen (sequence a.segment) ≡ Some x) × ((judged t a q).state ≡ seen_to x t (rnext_key_id a.segment) q)
 
 -- Ticket 9, an MD5 acceptance: one more is counted, and nothing else moves
 abbrev pub AcceptedOpenMd5 : Type 0

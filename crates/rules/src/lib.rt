@@ -5,21 +5,15 @@
 #![tactic(auto)]
 
 use keys::entry::Pair;
-use tables::Index;
-
-// The position of a sequence number, or none (document 01, "Positions").
-#[derive(Clone, Copy)]
-pub enum Place {
-    At(u64),
-    Nowhere,
-}
+use std::marker::Model;
+use tables::{Index, Refusal};
 
 // Where a number names no entry.
 pub const NO_INDEX: Index = Index { table: 0, entry: 0 };
 
 // What the tests of an arriving or outgoing segment come to: its position and RNextKeyID; pass; or document 01's or 02's number, with the
 // entry's table and index beside 10 to 17 and 45, and zeros beside every other number.
-#[derive(Clone, Copy)]
+#[derive(Clone, Copy, PartialEq, Eq, Debug)]
 pub enum Outcome {
     Good(u64, u8),
     Passed,
@@ -34,7 +28,7 @@ pub struct Hidden {
 }
 
 // "A verdict is accept with its extension, pass, or drop with a number."
-#[derive(Clone, Copy)]
+#[derive(Clone, Copy, PartialEq, Eq, Debug)]
 pub enum Verdict {
     Accept(u32),
     Pass,
@@ -84,30 +78,23 @@ pub struct SynJudged {
     pub index: Index,
 }
 
-// What signing answers: how many bytes were written, or the number of its refusal.
+// What signing gives: how many bytes were written, and the new state.
 #[derive(Clone, Copy)]
-pub enum Signing {
-    Signed(usize),
-    Refused(u8),
-}
-
-#[derive(Clone, Copy)]
-pub struct Signed {
-    pub answer: Signing,
-    pub index: Index,
+pub struct SignedSegment {
+    pub len: usize,
     pub state: State,
 }
 
-// What an active opening and the operator's call answer.
-#[derive(Clone, Copy)]
-pub enum Done {
-    Done,
-    Refused(u8),
+// A segment that arrives, between the addresses that it came with: whole, and any bytes of any lengths. A contract sees the three.
+#[derive(Drop)]
+pub struct LentArrival<'a> {
+    pub source: &'a [u8],
+    pub destination: &'a [u8],
+    pub segment: &'a [u8],
 }
 
-#[derive(Clone, Copy)]
-pub struct Settled {
-    pub answer: Done,
-    pub index: Index,
-    pub state: State,
+impl<'a> Model for LentArrival<'a> {
+    ghost use Rattle.rules.specs.Connection.{Arrival, arrival_of};
+    ghost Value = { Arrival };
+    ghost view = { λ a. arrival_of a.source.now a.destination.now a.segment.now };
 }

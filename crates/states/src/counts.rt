@@ -3,7 +3,7 @@
 ghost use Rattle.std.specs.Prelude.{◌≡◌, max};
 ghost use Rattle.rules.specs.Connection.{bump as bump_of, slot as slot_of, count_drop_of};
 
-use rules::{Place, SLOTS};
+use rules::SLOTS;
 
 // "Counts of acceptances and of each drop stop at 2^64-1."
 pub fn bump(n: u64) -> u64
@@ -14,36 +14,35 @@ pub fn bump(n: u64) -> u64
 
 // "drops 20 to 29 on an open connection add one to that number's count": the place of a number's count, if it has one. Behind 29 stand 40
 // (document 02, Ticket 5), 46 and 47 (Ticket 9).
-fn slot(n: u8) -> Place
+fn slot(n: u8) -> Option<usize>
     ensures { result ≡ slot_of n }
 {
     if n == 40 {
-        return Place::At(10);
+        return Some(10);
     }
     if n == 46 {
-        return Place::At(11);
+        return Some(11);
     }
     if n == 47 {
-        return Place::At(12);
+        return Some(12);
     }
     if n < 20 {
-        return Place::Nowhere;
+        return None;
     }
     if 29 < n {
-        return Place::Nowhere;
+        return None;
     }
-    Place::At((n - 20) as u64)
+    Some((n - 20) as usize)
 }
 
 pub fn count_drop(n: u8, drops: [u64; SLOTS]) -> [u64; SLOTS]
     ensures { result ≡ count_drop_of n drops }
 {
-    let Place::At(i) = slot(n) else {
+    let Some(i) = slot(n) else {
         return drops;
     };
-    let k = i as usize;
     let mut next = drops;
-    next[k] = bump(next[k]);
+    next[i] = bump(next[i]);
     next
 }
 

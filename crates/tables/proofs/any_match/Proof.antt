@@ -2,7 +2,7 @@
 use borrow.Author.Rules.{rules}
 use mathlib.Core.Path.{sym, ap, ◌∙◌}
 use Rattle.keys.proofs.FoundLaws.{any_found}
-use Rattle.keys.specs.declared.table.Found.{Found}
+use Rattle.keys.specs.Table.{Found}
 use Rattle.tables.proofs.any_match.Statement.{statement}
 use Rattle.tables.proofs.any_match.Tie as tie
 

@@ -2,7 +2,7 @@
 use Prim.Native.Nat.{◌<◌, ◌^◌}
 use mathlib.Core.Path.{sym, ap, ◌∙◌, subst}
 use borrow.Author.Rules.{rules}
-use Rattle.rules.specs.declared.Done.{Done}
+use Rattle.rules.specs.Done.{Done}
 use Rattle.rules.specs.Answers.{done_answer}
 use Rattle.boundary.specs.Word.{word}
 use Rattle.boundary.proofs.answer.of_done.Goals as goal

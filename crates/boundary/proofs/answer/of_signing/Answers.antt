@@ -2,7 +2,7 @@
 use Prim.Native.Nat.{◌<◌, ◌^◌}
 use mathlib.Core.Path.{sym, ap, ◌∙◌, subst}
 use borrow.Author.Rules.{rules}
-use Rattle.rules.specs.declared.Signing.{Signing}
+use Rattle.rules.specs.Signing.{Signing}
 use Rattle.rules.specs.Answers.{signing_answer}
 use Rattle.boundary.specs.Word.{word}
 use Rattle.boundary.proofs.answer.of_signing.Goals as goal

@@ -2,7 +2,7 @@
 use Prim.Native.Nat.{◌<◌, ◌^◌}
 use mathlib.Core.Path.{sym, ap, ◌∙◌, subst}
 use borrow.Author.Rules.{rules}
-use Rattle.tables.specs.declared.Admitted.{Admitted}
+use Rattle.tables.specs.Tables.{Admitted}
 use Rattle.rules.specs.Answers.{table_answer}
 use Rattle.boundary.specs.Word.{word}
 use Rattle.boundary.proofs.answer.of_table.Goals as goal

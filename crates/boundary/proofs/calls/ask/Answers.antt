@@ -3,7 +3,7 @@ use Prim.Native.Nat.{◌<◌, ◌^◌}
 use mathlib.Core.Bool.{not}
 use mathlib.Core.Path.{sym, ap, ◌∙◌, subst}
 use Rattle.tables.specs.Tables.{tables_of}
-use Rattle.rules.specs.declared.Settled.{Settled}
+use Rattle.rules.specs.Results.{Settled}
 use Rattle.rules.specs.Calls.{asked}
 use Rattle.states.specs.Layout.{decode_of, encode_of}
 use Rattle.boundary.specs.Word.{of_settled}

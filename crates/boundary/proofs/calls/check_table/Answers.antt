@@ -1,7 +1,7 @@
 -- `boundary::calls::check_table` meets its contract. Assumes nothing.
 use Prim.Native.Nat.{◌<◌, ◌^◌}
 use mathlib.Core.Path.{sym, ap, ◌∙◌, subst}
-use Rattle.tables.specs.declared.Admitted.{Admitted}
+use Rattle.tables.specs.Tables.{Admitted}
 use Rattle.rules.specs.Answers.{table_answer}
 use Rattle.boundary.specs.Word.{word}
 use Rattle.boundary.specs.Exports.{check_table_export, answers}

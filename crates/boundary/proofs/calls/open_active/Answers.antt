@@ -4,7 +4,7 @@ use mathlib.Core.Path.{sym, ap, ◌∙◌, subst}
 use mathlib.Core.Bool.{Bool, cond, not}
 use mathlib.Core.List.{List}
 use Rattle.tables.specs.Tables.{tables_of}
-use Rattle.rules.specs.declared.Settled.{Settled}
+use Rattle.rules.specs.Results.{Settled}
 use Rattle.rules.specs.Calls.{opened_actively}
 use Rattle.states.specs.Layout.{encode_of}
 use Rattle.boundary.specs.Word.{of_settled}

@@ -3,7 +3,7 @@ use Prim.Native.Nat.{◌<◌, ◌^◌}
 use mathlib.Core.Bool.{not}
 use mathlib.Core.Path.{sym, ap, ◌∙◌, subst}
 use Rattle.tables.specs.Tables.{tables_of}
-use Rattle.rules.specs.declared.Signed.{Signed}
+use Rattle.rules.specs.Results.{Signed}
 use Rattle.rules.specs.Calls.{signed, output}
 use Rattle.states.specs.Layout.{decode_of, encode_of}
 use Rattle.boundary.specs.Word.{of_signed}
