@@ -4,7 +4,7 @@
 
 ghost use Rattle.std.specs.Prelude.{◌≡◌, ◌+◌, ◌≤◌, length};
 ghost use Rattle.std.proofs.Math.Seq.{paste};
-ghost use Rattle.octets.specs.Octets.{be16 as be16_of, be32 as be32_of, get16, get32};
+ghost use Rattle.octets.specs.Octets.{be16 as be16_of, be32 as be32_of, get16, get32, get64, padded_of};
 ghost use Rattle.octets.specs.Octets.{bytes16 as bytes16_of, bytes32 as bytes32_of, bytes64 as bytes64_of};
 
 // Copies the whole of src to the place `at` of dst. What stands before and behind it stays.
@@ -12,23 +12,29 @@ pub fn copy_at(dst: &mut [u8], at: usize, src: &[u8])
     requires { at + length src.now ≤ length dst.old }
     ensures { dst.new ≡ paste dst.old at src.now (length src.now) }
 {
-    let mut i: usize = 0;
-    while i < src.len() {
-        dst[at + i] = src[i];
-        i += 1;
-    }
+    dst[at..at + src.len()].copy_from_slice(src);
+}
+
+// The whole of s in an array that has room for it. Zeros stand behind it.
+pub fn padded<const N: usize>(s: &[u8]) -> [u8; N]
+    requires { length s.now ≤ N }
+    ensures { result ≡ padded_of N s.now }
+{
+    let mut out = [0; N];
+    out[..s.len()].copy_from_slice(s);
+    out
 }
 
 pub fn be16(a: u8, b: u8) -> u16
     ensures { result ≡ be16_of a b }
 {
-    a as u16 * 256 + b as u16
+    u16::from_be_bytes([a, b])
 }
 
 pub fn be32(a: u8, b: u8, c: u8, d: u8) -> u32
     ensures { result ≡ be32_of a b c d }
 {
-    a as u32 * 16777216 + b as u32 * 65536 + c as u32 * 256 + d as u32
+    u32::from_be_bytes([a, b, c, d])
 }
 
 // The number in the two bytes from `at` on.
@@ -47,34 +53,28 @@ pub fn load32(s: &[u8], at: usize) -> u32
     be32(s[at], s[at + 1], s[at + 2], s[at + 3])
 }
 
+// The number in the eight bytes from `at` on.
+pub fn load64(s: &[u8], at: usize) -> u64
+    requires { at + 8 ≤ length s.now }
+    ensures { result ≡ get64 s.now at }
+{
+    load32(s, at) as u64 * 4294967296 + load32(s, at + 4) as u64
+}
+
 pub fn bytes16(x: u16) -> [u8; 2]
     ensures { result ≡ bytes16_of x }
 {
-    [((x >> 8) % 256) as u8, (x % 256) as u8]
+    u16::to_be_bytes(x)
 }
 
 pub fn bytes32(x: u32) -> [u8; 4]
     ensures { result ≡ bytes32_of x }
 {
-    [
-        ((x >> 24) % 256) as u8,
-        ((x >> 16) % 256) as u8,
-        ((x >> 8) % 256) as u8,
-        (x % 256) as u8,
-    ]
+    u32::to_be_bytes(x)
 }
 
 pub fn bytes64(x: u64) -> [u8; 8]
     ensures { result ≡ bytes64_of x }
 {
-    [
-        ((x >> 56) % 256) as u8,
-        ((x >> 48) % 256) as u8,
-        ((x >> 40) % 256) as u8,
-        ((x >> 32) % 256) as u8,
-        ((x >> 24) % 256) as u8,
-        ((x >> 16) % 256) as u8,
-        ((x >> 8) % 256) as u8,
-        (x % 256) as u8,
-    ]
+    u64::to_be_bytes(x)
 }
