@@ -95,6 +95,8 @@ pub struct LentArrival<'a> {
 
 impl<'a> Model for LentArrival<'a> {
     ghost use Rattle.rules.specs.Connection.{Arrival, arrival_of};
+
     ghost Value = { Arrival };
+
     ghost view = { λ a. arrival_of a.source.now a.destination.now a.segment.now };
 }
