@@ -1,7 +1,7 @@
 -- Every call of documents 01 and 02, for every input: its numbers in order, of which the first that applies is given; then the answer, the
 -- new state, and every byte of the output. What a call knows of its tables is a value of `Tables`.
-use Rattle.std.specs.Prelude.{ℕ, ◌+◌, Bool, true, false, cond, not, ◌&&◌, ◌||◌, List, [], ◌∷◌, ◌++◌, length, drop, replicate, eqb, ltb, Ok}
-use Rattle.std.specs.Prelude.{Err, Some}
+use Rattle.std.specs.Prelude.{ℕ, ◌+◌, Bool, true, false, cond, not, ◌&&◌, ◌||◌, List, [], ◌∷◌, ◌++◌, length, drop, replicate, eqb, ltb}
+use Rattle.std.specs.Prelude.{Ok, Err, Some}
 use Rattle.wire.specs.Bytes.{same_bytes}
 use Rattle.wire.specs.Header.{source_port_of, destination_port_of, sequence, header_end_of, syn, ack, size_faults}
 use Rattle.keys.specs.declared.entry.Pair.{Pair}
