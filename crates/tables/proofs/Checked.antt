@@ -1,6 +1,5 @@
--- The steps of checking the tables: what one has answered, and what follows.
-use Rattle.std.specs.Prelude.{ℕ, ◌+◌, ◌≤◌, ◌<◌, ◌≡◌, refl, Bool, true, false, ◌&&◌, List, [], ◌∷◌, ◌++◌, length, drop, is_some, IsEmpty}
-use Rattle.std.specs.Prelude.{Option, Some, None, Ok, Err}
+-- The steps of checking the tables and of preparing: what one has answered, and what follows.
+use Rattle.std.specs.Prelude.{ℕ, ◌+◌, ◌≤◌, ◌<◌, ◌≡◌, refl, Bool, List, [], ◌∷◌, ◌++◌, length, drop, is_some, Option, Some, None, Ok, Err}
 use Rattle.std.proofs.Common.{sym, ap, ◌∙◌, arith}
 use Rattle.std.proofs.Math.Seq.{paste, take-length}
 use borrow.Author.Tests.{le-leb, lt-leb}
@@ -10,43 +9,24 @@ use Rattle.keys.specs.Entry.{items, entries_of, entries}
 use Rattle.keys.specs.Table.{loaded_from, loaded, nobody, Found, found, found_of, any_of}
 use Rattle.keys.specs.declared.entry.Entry.{Entry}
 use Rattle.keys.specs.declared.table.Hit.{Hit}
-use Rattle.prepared.specs.Prepared.{prepared_bytes, fits, key_part}
-use Rattle.prepared.specs.ReadLaws.{counted}
+use Rattle.prepared.specs.Prepared.{prepared_bytes}
 use Rattle.prepared.specs.ImageLaws.{image-length}
-use Rattle.tables.specs.Tables.{Admitted, refused_with, no_index, max_entries, besides, admitted, prepared_answer, prepared_tables}
+use Rattle.tables.specs.Tables.{refused_with, no_index, max_entries, besides, admitted}
 use Rattle.tables.specs.Preparing.{prepared_of, prepared_length, prepare_answer, prepare_output}
 use Rattle.tables.proofs.ValidLaws.{valid-count}
-use Rattle.tables.specs.declared.Index.{Index}
 use Rattle.tables.specs.declared.Refusal.{Refusal}
 
 -- an MD5 table of no bytes refuses nothing
-pub besides-empty : (k m : List ℕ) (n : ℕ) → length m ≡ 0 → Ok n ≡ besides k m n
+pub besides_empty : (k m : List ℕ) (n : ℕ) → length m ≡ 0 → Ok n ≡ besides k m n
 unfolding besides loaded loaded_from items entries_of found nobody
-besides-empty k [] n h = refl
-besides-empty k (x ∷ m) n h = absurd (omega arith)
+besides_empty k [] n h = refl
+besides_empty k (x ∷ m) n h = absurd (omega arith)
 
 -- a search finds an entry where one answers
-pub any-is : (test : Entry → Bool) (l : List Entry) (h : Option Hit) → found_of h ≡ found test 0 l → is_some h ≡ any_of test l
+pub any_is : (test : Entry → Bool) (l : List Entry) (h : Option Hit) → found_of h ≡ found test 0 l → is_some h ≡ any_of test l
 unfolding nobody
-any-is test l (Some h) e = ap (λ (x : Found). x.there) e ∙ sym (any_found test l 0)
-any-is test l None e = ap (λ (x : Found). x.there) e ∙ sym (any_found test l 0)
-
--- what a prepared table answers
-
-pub prepared-beside : (b m : List ℕ) → (length m ≡ 0 → ⊥) → refused_with 44 no_index ≡ (prepared_tables b m).answer
-unfolding prepared_tables prepared_answer
-prepared-beside b [] n = absurd (n refl)
-prepared-beside b (x ∷ m) n = grind arith
-
-pub prepared-unfit : (b m : List ℕ) → fits b ≡ false → refused_with 44 no_index ≡ (prepared_tables b m).answer
-unfolding prepared_tables prepared_answer
-prepared-unfit b m h = rw h
-
-pub prepared-taken : (b m : List ℕ) (n : ℕ) → length m ≡ 0 → fits b ≡ true → n ≡ length (key_part b)
-    → Ok n ≡ (prepared_tables b m).answer
-unfolding prepared_tables prepared_answer
-prepared-taken b [] n z h q = rw h (ap Ok (q ∙ (counted b h).0))
-prepared-taken b (x ∷ m) n z h q = absurd (omega arith)
+any_is test l (Some h) e = ap (λ (x : Found). x.there) e ∙ sym (any_found test l 0)
+any_is test l None e = ap (λ (x : Found). x.there) e ∙ sym (any_found test l 0)
 
 -- what preparing answers and writes
 

@@ -49,6 +49,7 @@ pub struct LentTables<'a> {
 
 impl<'a> Model for LentTables<'a> {
     ghost Value = { Tables };
+
     ghost view = { λ t. tables_in t.form t.keys.now t.md5.now };
 }
 
@@ -82,15 +83,18 @@ fn check_crossing(keys: &[u8], md5: &[u8], n: usize) -> Result<usize, Refusal>
 }
 
 // The MD5 table's refusals, then 45. Where it has no bytes, nothing is compared.
-#[tactic(auto, unfolding(crate::specs::Tables::besides))]
+#[tactic(auto, using(crate::proofs::Checked::besides_empty), unfolding(crate::specs::Tables::besides))]
 fn check_md5(keys: &[u8], md5: &[u8], n: usize) -> Result<usize, Refusal>
     ensures { result ≡ besides keys.now md5.now n }
 {
     if md5.is_empty() {
         return Ok(n);
     }
-    keys::table::load(md5, MAX_ENTRIES, TableKind::Md5)
-        .map_err(|fault| Refusal::at(fault.number, 1, fault.index))?;
+    keys::table::load(md5, MAX_ENTRIES, TableKind::Md5).map_err(|fault| Refusal::at(
+        fault.number,
+        1,
+        fault.index,
+    ))?;
     check_crossing(keys, md5, n)
 }
 
@@ -99,12 +103,16 @@ fn check_md5(keys: &[u8], md5: &[u8], n: usize) -> Result<usize, Refusal>
 fn check_bytes(keys: &[u8], md5: &[u8]) -> Result<usize, Refusal>
     ensures { result ≡ admitted keys.now md5.now }
 {
-    let n = keys::table::load(keys, MAX_ENTRIES, TableKind::Keys)
-        .map_err(|fault| Refusal::at(fault.number, 0, fault.index))?;
+    let n = keys::table::load(keys, MAX_ENTRIES, TableKind::Keys).map_err(|fault| Refusal::at(
+        fault.number,
+        0,
+        fault.index,
+    ))?;
     check_md5(keys, md5, n)
 }
 
 // 44, or how many key entries a prepared table has.
+#[tactic(auto, using(prepared::specs::ReadLaws::counted), unfolding(crate::specs::Tables::prepared_tables, crate::specs::Tables::prepared_answer))]
 fn check_prepared(keys: &[u8], md5: &[u8]) -> Result<usize, Refusal>
     ensures { result ≡ (prepared_tables keys.now md5.now).answer }
 {
@@ -174,6 +182,7 @@ impl<'a> LentTables<'a> {
     }
 
     // Whether a key entry matches the pair.
+    #[tactic(auto, using(crate::proofs::Checked::any_is))]
     pub fn any_match(&self, pair: Pair) -> bool
         ensures { result ≡ any_entry self.now pair }
     {
