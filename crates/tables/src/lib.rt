@@ -5,13 +5,13 @@
 ghost use Rattle.std.specs.Prelude.{◌≡◌, length};
 ghost use Rattle.keys.specs.Entry.{entries};
 ghost use Rattle.keys.specs.Table.{found, found_of, answers};
-ghost use Rattle.tables.specs.Tables.{Tables, crossing, after_crossing, besides, admitted, bytes_tables, prepared_tables, no_index};
+ghost use Rattle.tables.specs.Tables.{Tables, crossing, after_crossing, besides, admitted, bytes_tables, prepared_answer, no_index};
 ghost use Rattle.tables.specs.Tables.{tables_in, tables_of};
 ghost use Rattle.tables.specs.Tables.{send_entry, recv_entry, any_entry, md5_entry};
 ghost use Rattle.tables.specs.Preparing.{prepare_answer, prepare_output};
 
 use keys::entry::Pair;
-use keys::table::{By, Hit, TableKind};
+use keys::table::{By, Fault, Hit, TableKind, load};
 use prepared::stored::MAX_ENTRIES;
 use std::marker::Model;
 
@@ -64,6 +64,13 @@ impl Refusal {
         }
     }
 
+    // What refuses a table by itself, 0 the key table and 1 the MD5 table.
+    fn in_table(table: u8, fault: Fault) -> Self
+        ensures { result ≡ record { number = fault.number; index = record { table = table; entry = fault.index } } }
+    {
+        Refusal::at(fault.number, table, fault.index)
+    }
+
     // A number that names none.
     pub fn of(number: u8) -> Self
         ensures { result ≡ record { number = number; index = no_index } }
@@ -90,11 +97,7 @@ fn check_md5(keys: &[u8], md5: &[u8], n: usize) -> Result<usize, Refusal>
     if md5.is_empty() {
         return Ok(n);
     }
-    keys::table::load(md5, MAX_ENTRIES, TableKind::Md5).map_err(|fault| Refusal::at(
-        fault.number,
-        1,
-        fault.index,
-    ))?;
+    load(md5, MAX_ENTRIES, TableKind::Md5).map_err(|fault| Refusal::in_table(1, fault))?;
     check_crossing(keys, md5, n)
 }
 
@@ -103,18 +106,14 @@ fn check_md5(keys: &[u8], md5: &[u8], n: usize) -> Result<usize, Refusal>
 fn check_bytes(keys: &[u8], md5: &[u8]) -> Result<usize, Refusal>
     ensures { result ≡ admitted keys.now md5.now }
 {
-    let n = keys::table::load(keys, MAX_ENTRIES, TableKind::Keys).map_err(|fault| Refusal::at(
-        fault.number,
-        0,
-        fault.index,
-    ))?;
+    let n = load(keys, MAX_ENTRIES, TableKind::Keys).map_err(|fault| Refusal::in_table(0, fault))?;
     check_md5(keys, md5, n)
 }
 
 // 44, or how many key entries a prepared table has.
-#[tactic(auto, using(prepared::specs::ReadLaws::counted), unfolding(crate::specs::Tables::prepared_tables, crate::specs::Tables::prepared_answer))]
+#[tactic(auto, using(prepared::specs::ReadLaws::counted), unfolding(crate::specs::Tables::prepared_answer))]
 fn check_prepared(keys: &[u8], md5: &[u8]) -> Result<usize, Refusal>
-    ensures { result ≡ (prepared_tables keys.now md5.now).answer }
+    ensures { result ≡ prepared_answer keys.now md5.now }
 {
     if !md5.is_empty() || !prepared::stored::fits(keys) {
         return Err(Refusal::of(44));
@@ -148,6 +147,7 @@ impl<'a> LentTables<'a> {
     }
 
     // What the tables answer, before a call's own numbers: how many key entries there are, or the refusal.
+    #[tactic(auto, unfolding(crate::specs::Tables::prepared_tables))]
     pub fn check(&self) -> Result<usize, Refusal>
         ensures { result ≡ self.now.answer }
     {
