@@ -136,6 +136,7 @@ fn pair_from(bytes: &[u8]) -> Pair
     }
 }
 
+#[tactic(auto, unfolding(crate::specs::Layout::decode_connection))]
 fn conn_from(bytes: &[u8]) -> Connection
     requires { length bytes.now ≡ state_bytes }
     ensures { result ≡ decode_connection bytes.now }
