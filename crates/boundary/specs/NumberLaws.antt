@@ -6,8 +6,9 @@ use Rattle.std.proofs.Math.Path.{subst⁻¹}
 use Rattle.keys.specs.declared.entry.Pair.{Pair}
 use Rattle.keys.proofs.MatchLaws.{and-true}
 use Rattle.tables.specs.declared.Index.{Index}
-use Rattle.tables.specs.declared.Admitted.{Admitted}
-use Rattle.tables.specs.declared.Admitted.TheVariants.{Valid, Refused}
+use Rattle.tables.specs.Tables.{Admitted}
+use Rattle.std.specs.Prelude.{Ok, Err}
+use Rattle.tables.specs.Tables.{refused_with}
 use Rattle.tables.proofs.ValidLaws.{valid-count}
 use Rattle.tables.specs.Preparing.{prepared_length, prepare_answer}
 use Rattle.tables.specs.Tables.{no_index, admitted, max_entries, send_entry, md5_entry, any_entry}
@@ -15,10 +16,10 @@ use Rattle.rules.specs.declared.Outcome.{Outcome}
 use Rattle.rules.specs.declared.Outcome.TheVariants.{Good, Passed, Bad}
 use Rattle.rules.specs.declared.Verdict.{Verdict}
 use Rattle.rules.specs.declared.Verdict.TheVariants.{Accept, Pass, Drop}
-use Rattle.rules.specs.declared.Signing.{Signing}
-use Rattle.rules.specs.declared.Signing.TheVariants as S
-use Rattle.rules.specs.declared.Done.{Done}
-use Rattle.rules.specs.declared.Done.TheVariants as D
+use Rattle.rules.specs.Signing.{Signing}
+use Rattle.rules.specs.Signing as S
+use Rattle.rules.specs.Done.{Done}
+use Rattle.rules.specs.Done as D
 use Rattle.rules.specs.declared.Connection.{Connection}
 use Rattle.rules.specs.declared.State.{State}
 use Rattle.octets.specs.Tests.{Test, first}
@@ -79,13 +80,13 @@ indexed n i e h = go (eqb n 44) refl (table-number n e)
 
 loaded-fits : (o : Admitted) → Bounded max_entries o → Fits (table_answer o)
 unfolding table_answer
-loaded-fits (Valid n) w = record { number = omega arith; table = omega arith; value = omega arith; together = refl }
-loaded-fits (Refused n i) w =
+loaded-fits (Ok n) w = record { number = omega arith; table = omega arith; value = omega arith; together = refl }
+loaded-fits (Err r) w =
     record {
-      number = number-below n w.0;
+      number = number-below r.number w.0;
       table = omega (arith, w.1);
       value = omega (arith, w.2);
-      together = indexed n i w.0 w.3;
+      together = indexed r.number r.index w.0 w.3;
     }
 
 pub table_fits : TableFits
@@ -94,7 +95,7 @@ table_fits t = loaded-fits (tables t).answer (checked-within t)
 -- preparing gives the tables' refusal, 37, or a length that fits
 record Prepares (o : Admitted) : Type 0 where
   fitting : Fits (table_answer o)
-  bounds : (n : ℕ) (i : Index) → o ≡ Refused n i → (10 ≤ n) × (n ≤ 45)
+  bounds : (n : ℕ) (i : Index) → o ≡ refused_with n i → (10 ≤ n) × (n ≤ 45)
 
 prepares : (k m : List ℕ) (room : ℕ) → Prepares (prepare_answer k m room)
 unfolding prepare_answer table_answer
@@ -104,16 +105,16 @@ prepares k m room = go (admitted k m) (leb (prepared_length k m) room) refl refl
     b = record { form = 0; keys = k; md5 = m }
 
     go : (o : Admitted) (c : Bool) → admitted k m ≡ o → leb (prepared_length k m) room ≡ c → Prepares (prepare_answer k m room)
-    go (Refused n i) c p q =
-        let w : Bounded max_entries (Refused n i) = rw p at (checked-within b) in
-        rw p (record { fitting = loaded-fits (Refused n i) w; bounds = λ j x e. table-bounds b j x (p ∙ e) })
-    go (Valid n) false p q =
+    go (Err r) c p q =
+        let w : Bounded max_entries (refused_with r.number r.index) = rw p at (checked-within b) in
+        rw p (record { fitting = loaded-fits (refused_with r.number r.index) w; bounds = λ j x e. table-bounds b j x (p ∙ e) })
+    go (Ok n) false p q =
         rw (p, q)
         (record {
           fitting = record { number = omega arith; table = omega arith; value = omega arith; together = refl };
           bounds = λ j x e. (let z : 37 ≡ j = cc in (omega arith, omega arith));
         })
-    go (Valid n) true p q =
+    go (Ok n) true p q =
         let c = valid-count 0 k m n p in
         let x = c.0 in
         let y = c.1 in
@@ -138,11 +139,11 @@ refusal-fits : (t : Lent) → fits (refusal (tables t).answer) ≡ true
 refusal-fits t = go (tables t).answer (checked-within t)
   where
     go : (o : Admitted) → Bounded max_entries o → fits (refusal o) ≡ true
-    go (Valid n) w = refl
-    go (Refused n i) w =
-        both (ltb n (2 ^ 8)) _ (lt-ltb n (2 ^ 8) (number-below n w.0))
-        (both (ltb i.table (2 ^ 8)) _ (lt-ltb i.table (2 ^ 8) (omega (arith, w.1)))
-        (both (ltb i.entry (2 ^ 32)) _ (lt-ltb i.entry (2 ^ 32) (omega (arith, w.2))) (indexed n i w.0 w.3)))
+    go (Ok n) w = refl
+    go (Err r) w =
+        both (ltb r.number (2 ^ 8)) _ (lt-ltb r.number (2 ^ 8) (number-below r.number w.0))
+        (both (ltb r.index.table (2 ^ 8)) _ (lt-ltb r.index.table (2 ^ 8) (omega (arith, w.1)))
+        (both (ltb r.index.entry (2 ^ 32)) _ (lt-ltb r.index.entry (2 ^ 32) (omega (arith, w.2))) (indexed r.number r.index w.0 w.3)))
 
 refused-fits : (b : Bool) (n : ℕ) → fits (refuse n) ≡ true → fits (cond b (refuse n) Passed) ≡ true
 refused-fits true n e = e
@@ -273,7 +274,7 @@ signing-tells (S.Refused n) i h = refused-tells n (h n refl)
 
 done-tells : (a : Done) (i : Index) → ((n : ℕ) → a ≡ D.Refused n → 10 ≤ n) → Tells (done_answer a i).number (opens a) false
 unfolding done_answer
-done-tells D.Done i h = record { zero = refl; one = refl }
+done-tells D.Succeeded i h = record { zero = refl; one = refl }
 done-tells (D.Refused n) i h = refused-tells n (h n refl)
 
 pub number-tells : NumberTells
@@ -332,10 +333,10 @@ answered-tells b c = go (is_state_of b)
     go true = word-tells c
     go false = subst⁻¹ (λ (n : ℕ). Tells n false false) (low_bits (answer 18 0) (omega arith)) (record { zero = refl; one = refl })
 
-loaded-tells : (o : Admitted) → ((n : ℕ) (i : Index) → o ≡ Refused n i → (10 ≤ n) × (n ≤ 45)) → Tells (table_answer o).number (not (is_refused o)) false
+loaded-tells : (o : Admitted) → ((n : ℕ) (i : Index) → o ≡ refused_with n i → (10 ≤ n) × (n ≤ 45)) → Tells (table_answer o).number (not (is_refused o)) false
 unfolding table_answer
-loaded-tells (Valid n) h = record { zero = refl; one = refl }
-loaded-tells (Refused n i) h = refused-tells n (h n i refl).0
+loaded-tells (Ok n) h = record { zero = refl; one = refl }
+loaded-tells (Err r) h = refused-tells r.number (h r.number r.index refl).0
 
 pub table-tells : TableTells
 table-tells t =

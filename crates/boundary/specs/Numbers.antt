@@ -6,8 +6,8 @@ use Rattle.std.specs.Prelude.{ℕ, ◌^◌, ◌%◌, ◌<◌, ◌≡◌, Bool, t
 use Rattle.tables.specs.declared.Index.{Index}
 use Rattle.tables.specs.Preparing.{prepare_answer}
 use Rattle.rules.specs.declared.Verdict.{Verdict}
-use Rattle.rules.specs.declared.Signing.{Signing}
-use Rattle.rules.specs.declared.Signing.TheVariants as S
+use Rattle.rules.specs.Signing.{Signing}
+use Rattle.rules.specs.Signing as S
 use Rattle.rules.specs.declared.State.{State}
 use Rattle.rules.specs.Answers.{Answer, answer, table_answer, verdict_answer}
 use Rattle.rules.specs.Connection.{Arrival}

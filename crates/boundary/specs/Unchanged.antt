@@ -7,10 +7,10 @@ use Rattle.octets.specs.Each.{Octets}
 use Rattle.tables.specs.Tables.{Tables}
 use Rattle.tables.specs.Preparing.{prepare_answer}
 use Rattle.tables.specs.declared.Index.{Index}
-use Rattle.tables.specs.declared.Admitted.TheVariants.{Refused}
+use Rattle.tables.specs.Tables.{refused_with}
 use Rattle.rules.specs.declared.Verdict.TheVariants.{Pass, Drop}
-use Rattle.rules.specs.declared.Signing.TheVariants as S
-use Rattle.rules.specs.declared.Done.TheVariants as D
+use Rattle.rules.specs.Signing as S
+use Rattle.rules.specs.Done as D
 use Rattle.rules.specs.declared.Judged.{Judged}
 use Rattle.rules.specs.Connection.{arrival_of, is_open_of, is_counted}
 use Rattle.rules.specs.Calls.{judged, opened_passively, opened_actively, opened_actively_md5, asked, signed}
@@ -54,7 +54,7 @@ ActivelyMd5Refused = (t : Tables) (local remote : List ℕ) (local_port remote_p
 
 -- Preparing that is refused.
 abbrev pub PrepareRefused : Type 0
-PrepareRefused = (k m out : List ℕ) (n : ℕ) (i : Index) → prepare_answer k m (length out) ≡ Refused n i → (prepare_export k m out).out ≡ out
+PrepareRefused = (k m out : List ℕ) (n : ℕ) (i : Index) → prepare_answer k m (length out) ≡ refused_with n i → (prepare_export k m out).out ≡ out
 
 -- The calls on a connection, whose state is decode_of b.
 

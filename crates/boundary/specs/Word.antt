@@ -3,8 +3,8 @@
 use Rattle.std.specs.Prelude.{ℕ, ◌+◌, ◌*◌, ◌^◌, ◌/◌, ◌%◌, ◌<◌, ◌≡◌}
 use Rattle.rules.specs.declared.Judged.{Judged}
 use Rattle.rules.specs.declared.SynJudged.{SynJudged}
-use Rattle.rules.specs.declared.Signed.{Signed}
-use Rattle.rules.specs.declared.Settled.{Settled}
+use Rattle.rules.specs.Results.{Signed}
+use Rattle.rules.specs.Results.{Settled}
 use Rattle.rules.specs.Answers.{Answer, verdict_answer, signing_answer, done_answer}
 
 -- "the number in bits 0 to 7; in bits 8 to 15, beside 10 to 17 and 45, whose entry the index names, 0 the key table's, 1 the MD5 table's;

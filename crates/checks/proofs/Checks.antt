@@ -14,15 +14,15 @@ use Rattle.keys.specs.Entry.{width}
 use Rattle.keys.specs.Table.{nobody}
 use Rattle.keys.proofs.MatchLaws.{or-true, and-true}
 use Rattle.keys.specs.declared.entry.Pair.{Pair}
-use Rattle.keys.specs.declared.table.Found.{Found}
-use Rattle.tables.specs.declared.Admitted.{Admitted}
-use Rattle.tables.specs.declared.Admitted.TheVariants.{Valid, Refused}
+use Rattle.keys.specs.Table.{Found}
+use Rattle.tables.specs.Tables.{Admitted}
+use Rattle.std.specs.Prelude.{Ok, Err}
 use Rattle.tables.specs.Tables.{Tables, tables_of, recv_entry, md5_entry}
 use Rattle.tables.proofs.ValidLaws.{taken-held}
 use Rattle.tables.proofs.SearchLaws.{recv-proper, recv-nobody}
 use Rattle.rules.specs.declared.Connection.{Connection}
-use Rattle.rules.specs.declared.Place.{Place}
-use Rattle.rules.specs.declared.Place.TheVariants.{At}
+use Rattle.rules.specs.Position.{Place}
+use Rattle.std.specs.Prelude.{Some}
 use Rattle.rules.specs.declared.Outcome.{Outcome}
 use Rattle.octets.specs.Tests.{first}
 use Rattle.octets.specs.TestLaws.{NoneApplies, none-split, each_gives}
@@ -77,9 +77,9 @@ module _ (form : ℕ) (k m : List ℕ) (p : Pair) (id : ℕ) where
   entry-mac e = go (tables_of form k m).answer entry_for_lem.there refl refl e
     where
       go : (c : Admitted) (b : Bool) → (tables_of form k m).answer ≡ c → entry_for_lem.there ≡ b → is_refused c ≡ false → entry_for_lem.entry.secret.mac_bytes ≤ 16
-      go (Refused n i) b q h z = let y : ◌≡◌ {A = ℕ} 0 1 = cc in absurd (omega arith)
-      go (Valid n) true q h z = (recv-proper (taken-held form k m n q) p id h).mac-high
-      go (Valid n) false q h z = rw (recv-nobody (tables_of form k m) p id h) (omega arith)
+      go (Err r) b q h z = let y : ◌≡◌ {A = ℕ} 0 1 = cc in absurd (omega arith)
+      go (Ok n) true q h z = (recv-proper (taken-held form k m n q) p id h).mac-high
+      go (Ok n) false q h z = rw (recv-nobody (tables_of form k m) p id h) (omega arith)
 
 -- 25 to 28 by values that are equal to the definitions'
 pub begins-is : (s : List ℕ) {missing m unknown u : Outcome} {found e : Found} {g f : Flow} {place x : Place} → missing ≡ m → unknown ≡ u → found ≡ e → g ≡ f → place ≡ x → {b : Begun}
@@ -90,7 +90,7 @@ begins-is s pm pu pe pf px {b} h =
 
 -- 46, 47, 26 and 27 likewise
 abbrev pub Md5Keyed : List ℕ → Found → Flow → ℕ → Begun → Type 0
-Md5Keyed s found f n b = Begins (first (md5_tests found s) (good_by true (At n) s)) (by_md5_of found.entry f s) b
+Md5Keyed s found f n b = Begins (first (md5_tests found s) (good_by true (Some n) s)) (by_md5_of found.entry f s) b
 
 pub md5-is : (s : List ℕ) {found e : Found} {g f : Flow} {n m : ℕ} → found ≡ e → g ≡ f → n ≡ m → {b : Begun}
     → Md5Keyed s found g n b → Md5Keyed s e f m b
@@ -123,8 +123,8 @@ module _ (t : Tables) (p : Pair) (strict : Bool) (f : Flow) (s : List ℕ) (b : 
       Begins
       (first
       (cond way (md5_tests (md5_entry t p) s)
-      (key_tests (syn_missing_of t p) (syn_unknown_of t p strict) (recv_entry t p (key_id_of s)) (At (sequence s)) s))
-      (good_by way (At (sequence s)) s))
+      (key_tests (syn_missing_of t p) (syn_unknown_of t p strict) (recv_entry t p (key_id_of s)) (Some (sequence s)) s))
+      (good_by way (Some (sequence s)) s))
       (cond way (by_md5_of (md5_entry t p).entry f s) (by_ao (recv_entry t p (key_id_of s)).entry f s)) b
 
   pub syn-ao : syn_is_md5 t p ≡ false → KeyedSyn t p strict f s b → KeyedSynByWay t p strict f s b

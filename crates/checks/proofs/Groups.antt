@@ -10,7 +10,7 @@ use Rattle.wire.specs.declared.header.Header.{Header}
 use Rattle.keys.specs.declared.entry.Pair.{Pair}
 use Rattle.tables.specs.Tables.{Tables}
 use Rattle.rules.specs.declared.Connection.{Connection}
-use Rattle.rules.specs.declared.Place.TheVariants.{At}
+use Rattle.std.specs.Prelude.{Some}
 use Rattle.rules.specs.declared.Outcome.{Outcome}
 use Rattle.rules.specs.declared.Outcome.TheVariants.{Good, Passed, Bad}
 use Rattle.octets.specs.Tests.{first}
@@ -101,7 +101,7 @@ module _ (t : Tables) (a : Arrival) (strict : Bool) where
 
   module _ (b : Begun) where
     abbrev syn_answer : Outcome
-    syn_answer = good_by (syn_is_md5 t (arrival_pair_of a)) (At (sequence a.segment)) a.segment
+    syn_answer = good_by (syn_is_md5 t (arrival_pair_of a)) (Some (sequence a.segment)) a.segment
 
     abbrev syn_expected : ℕ → Expected
     syn_expected = expected_syn t (arrival_pair_of a) (arriving_syn a) a.segment

@@ -15,9 +15,8 @@ use Rattle.wire.specs.OptionPlaceLaws.{found_within}
 use Rattle.wire.specs.declared.options.Occurrence.{Occurrence}
 use Rattle.std.specs.Prelude.{Option, Some, None}
 use Rattle.wire.specs.declared.options.Seen.{Seen}
-use Rattle.keys.specs.declared.table.Found.{Found as Search}
-use Rattle.rules.specs.declared.Place.{Place}
-use Rattle.rules.specs.declared.Place.TheVariants.{At, Nowhere}
+use Rattle.keys.specs.Table.{Found as Search}
+use Rattle.rules.specs.Position.{Place}
 use Rattle.rules.specs.declared.Outcome.{Outcome}
 use Rattle.rules.specs.declared.Outcome.TheVariants.{Good}
 use Rattle.octets.specs.Tests.{first}
@@ -76,10 +75,10 @@ module _ (missing unknown : Outcome) (found : Search) (x : Place) (s : List ℕ)
         exact : not (eqb (ao s).len (4 + found.entry.secret.mac_bytes)) ≡ false
         exact = ap not (eq-eqb _ _ (ap (λ (k : Occurrence). k.len) (sym is) ∙ long))
 
-        pub given-28 : x ≡ Nowhere → Given (refuse 28)
+        pub given-28 : x ≡ None → Given (refuse 28)
         given-28 e = no _ _ some (no _ _ known (no _ _ exact (yes _ _ (ap (λ (k : Place). not (located k)) e) refl)))
 
-        pub given-good : (p : ℕ) → x ≡ At p → {r : ℕ} → r ≡ get_or s (20 + o.at + 3) 0 → Given (Good p r)
+        pub given-good : (p : ℕ) → x ≡ Some p → {r : ℕ} → r ≡ get_or s (20 + o.at + 3) 0 → Given (Good p r)
         given-good p here q =
             no _ _ some (no _ _ known (no _ _ exact (no _ _ (ap (λ (k : Place). not (located k)) here)
             (λ i. Good (ap value (sym here) i) ((q ∙ ap (λ (k : Occurrence). get_or s (20 + k.at + 3) 0) is) i)))))
@@ -87,7 +86,7 @@ module _ (missing unknown : Outcome) (found : Search) (x : Place) (s : List ℕ)
 -- by MD5: a TCP-AO; no option; no entry; another length
 module _ (found : Search) (number : ℕ) (s : List ℕ) {n : ℕ} (many : n ≡ (ao s).count) {o : Occurrence} (is : o ≡ md5 s) where
   abbrev GivenMd5 : Outcome → Type 0
-  GivenMd5 z = z ≡ first (md5_tests found s) (good_by true (At number) s)
+  GivenMd5 z = z ≡ first (md5_tests found s) (good_by true (Some number) s)
 
   pub given-46 : 0 < n → GivenMd5 (refuse 46)
   given-46 h = yes _ _ (lt-ltb 0 (ao s).count (omega (arith, many, h))) refl

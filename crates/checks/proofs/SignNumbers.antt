@@ -11,8 +11,8 @@ use Rattle.wire.specs.declared.options.Seen.{Seen}
 use Rattle.wire.specs.declared.header.Header.{Header}
 use Rattle.rules.specs.declared.Outcome.{Outcome}
 use Rattle.rules.specs.declared.Outcome.TheVariants.{Good}
-use Rattle.rules.specs.declared.Place.{Place}
-use Rattle.rules.specs.declared.Place.TheVariants.{At, Nowhere}
+use Rattle.rules.specs.Position.{Place}
+use Rattle.std.specs.Prelude.{Some, None}
 use Rattle.rules.specs.declared.Connection.{Connection}
 use Rattle.rules.specs.declared.State.{State}
 use Rattle.octets.specs.Tests.{tests, first}
@@ -40,10 +40,10 @@ module _ (added end len : ℕ) where
   grows h k l = no _ _ (le-ltb 60 (end + added) (omega arith)) (no _ _ (le-ltb 65535 (len + added) (omega arith)) refl)
 
 -- 36
-pub unplaced : (l : Connection) (p : Place) (s : Bool) → p ≡ Nowhere → refuse 36 ≡ first (place_lines l p s) unrefused
+pub unplaced : (l : Connection) (p : Place) (s : Bool) → p ≡ None → refuse 36 ≡ first (place_lines l p s) unrefused
 unplaced l p s e = sym (ap (λ (p : Place). first (place_lines l p s) unrefused) e)
 
-pub placed : (l : Connection) (p : Place) (x : ℕ) (b s : Bool) → p ≡ At x → b ≡ s
+pub placed : (l : Connection) (p : Place) (x : ℕ) (b s : Bool) → p ≡ Some x → b ≡ s
     → cond (b && not (eqb x l.isn)) (refuse 36) unrefused ≡ first (place_lines l p s) unrefused
 placed l p x b s e q =
     (λ i. cond (q i && not (eqb x l.isn)) (refuse 36) unrefused) ∙ ap (λ (p : Place). first (place_lines l p s) unrefused) (sym e)

@@ -8,7 +8,7 @@ use Rattle.keys.specs.declared.entry.Ids.{Ids}
 use Rattle.keys.specs.declared.entry.Pair.{Pair}
 use Rattle.tables.specs.Tables.{Tables, recv_entry, md5_entry}
 use Rattle.rules.specs.declared.Connection.{Connection}
-use Rattle.rules.specs.declared.Place.TheVariants.{At}
+use Rattle.std.specs.Prelude.{Some}
 use Rattle.rules.specs.declared.Outcome.{Outcome}
 use Rattle.rules.specs.declared.Outcome.TheVariants.{Good, Passed, Bad}
 use Rattle.octets.specs.Tests.{first}
@@ -85,7 +85,7 @@ expected_syn t p f s = cond (syn_is_md5 t p) (by_md5_of (md5_entry t p).entry f 
 abbrev pub JudgesSyn : Tables → Arrival → Bool → Begun → Type 0
 JudgesSyn t a strict b =
     Begins
-    (first (until_mac (syn_groups t a strict)) (good_by (syn_is_md5 t (arrival_pair_of a)) (At (sequence a.segment)) a.segment))
+    (first (until_mac (syn_groups t a strict)) (good_by (syn_is_md5 t (arrival_pair_of a)) (Some (sequence a.segment)) a.segment))
     (expected_syn t (arrival_pair_of a) (arriving_syn a) a.segment) b
 
 -- their tests by key, by TCP-AO
@@ -99,8 +99,8 @@ Keyed t l reference s b =
 abbrev pub KeyedSyn : Tables → Pair → Bool → Flow → List ℕ → Begun → Type 0
 KeyedSyn t p strict f s b =
     Begins
-    (first (key_tests (syn_missing_of t p) (syn_unknown_of t p strict) (recv_entry t p (key_id_of s)) (At (sequence s)) s)
-    (good_by false (At (sequence s)) s))
+    (first (key_tests (syn_missing_of t p) (syn_unknown_of t p strict) (recv_entry t p (key_id_of s)) (Some (sequence s)) s)
+    (good_by false (Some (sequence s)) s))
     (by_ao (recv_entry t p (key_id_of s)).entry f s) b
 
 -- by either way
@@ -118,8 +118,8 @@ KeyedSynByWay t p strict f s b =
     Begins
     (first
     (cond (syn_is_md5 t p) (md5_tests (md5_entry t p) s)
-    (key_tests (syn_missing_of t p) (syn_unknown_of t p strict) (recv_entry t p (key_id_of s)) (At (sequence s)) s))
-    (good_by (syn_is_md5 t p) (At (sequence s)) s))
+    (key_tests (syn_missing_of t p) (syn_unknown_of t p strict) (recv_entry t p (key_id_of s)) (Some (sequence s)) s))
+    (good_by (syn_is_md5 t p) (Some (sequence s)) s))
     (expected_syn t p f s) b
 
 -- data go into the MAC, and nothing else changes

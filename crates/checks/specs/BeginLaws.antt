@@ -8,9 +8,9 @@ use Rattle.keys.specs.declared.entry.Pair.{Pair}
 use Rattle.keys.specs.Entry.{key_of}
 use Rattle.tables.specs.Tables.{Tables, recv_entry, any_entry, md5_entry}
 use Rattle.rules.specs.declared.Connection.{Connection}
-use Rattle.rules.specs.declared.Place.{Place}
+use Rattle.rules.specs.Position.{Place}
 use Rattle.rules.specs.declared.Outcome.{Outcome}
-use Rattle.rules.specs.declared.Place.TheVariants.{At}
+use Rattle.std.specs.Prelude.{Some}
 use Rattle.rules.specs.declared.Outcome.TheVariants.{Good, Passed, Bad}
 use Rattle.octets.specs.Tests.{Test, test, first}
 use Rattle.octets.specs.TestLaws.{first-none, first-append, first-joined, each_gives, none-applied}
@@ -161,7 +161,7 @@ module _ (t : Tables) (a : Arrival) (strict : Bool) (b : Begun) (begins : Judges
   syn-ends =
       ends (syn_groups t a strict) _ _ _ a.segment
       (compares-is (syn_is_md5 t (arrival_pair_of a)) (md5_entry t (arrival_pair_of a)).entry (recv_entry t (arrival_pair_of a) (key_id_of a.segment)).entry
-      (arriving_syn a) (At (sequence a.segment)) a.segment)
+      (arriving_syn a) (Some (sequence a.segment)) a.segment)
       syn-final b begins gave
 
   -- the way that it goes by, and by TCP-AO the entry found, are those that open

@@ -4,8 +4,8 @@ use Rattle.std.specs.Prelude.{ℕ, ◌≡◌, refl, Bool, true, false, cond, Lis
 use Rattle.std.proofs.Common.{sym, ap, ◌∙◌, inl, inr, arith}
 use denote.Enum.Declared.{tag_of}
 use Rattle.rules.specs.contracts.Outcome.{the_type}
-use Rattle.tables.specs.declared.Admitted.{Admitted}
-use Rattle.tables.specs.declared.Admitted.TheVariants.{Valid, Refused}
+use Rattle.tables.specs.Tables.{Admitted}
+use Rattle.std.specs.Prelude.{Ok, Err}
 use Rattle.rules.specs.declared.Outcome.{Outcome}
 use Rattle.rules.specs.declared.Outcome.TheVariants.{Good, Passed, Bad}
 use Rattle.octets.specs.Tests.{Test, first}
@@ -72,5 +72,5 @@ pass a {y = y} f e g q = behind a [] y e f g q ∙ first-append a [] y
 
 -- the tables' numbers are refusals
 pub refusal-final : (c : Admitted) → is_final (refusal c) ≡ true
-refusal-final (Valid n) = refl
-refusal-final (Refused n i) = refl
+refusal-final (Ok n) = refl
+refusal-final (Err r) = refl

@@ -9,7 +9,7 @@ use Rattle.keys.specs.declared.entry.Pair.{Pair}
 use Rattle.tables.specs.Tables.{Tables}
 use Rattle.rules.specs.declared.Outcome.{Outcome}
 use Rattle.rules.specs.declared.Outcome.TheVariants.{Good}
-use Rattle.rules.specs.declared.Place.{Place}
+use Rattle.rules.specs.Position.{Place}
 use Rattle.rules.specs.declared.Connection.{Connection}
 use Rattle.rules.specs.declared.State.{State}
 use Rattle.octets.specs.Tests.{Test, test, tests, first}

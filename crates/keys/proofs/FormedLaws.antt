@@ -17,7 +17,7 @@ use Rattle.keys.specs.Clash.{Family, Passed, Formed, Listed, Sound, Md5RefusedBo
 use Rattle.keys.specs.declared.entry.Entry.{Entry}
 use Rattle.keys.specs.declared.table.TableKind.{TableKind}
 use Rattle.keys.specs.declared.table.TableKind.TheVariants.{Keys, Md5}
-use Rattle.keys.specs.declared.table.Loaded.TheVariants.{Valid}
+use Rattle.std.specs.Prelude.{Ok}
 
 -- the tests that both tables have
 abbrev own_of : Entry → List (Test ℕ)
@@ -181,7 +181,7 @@ digests (x ∷ l) p s f =
     let g : Formed Md5 x.entry × Each (Formed Md5) (entries_of l) = rw y at f in
     rw y (digest-of x p.0 s.0 g.0, digests l p.1 s.2 g.1)
 
-pub md5-digests : (limit n : ℕ) (t : List ℕ) → loaded Md5 limit t ≡ Valid n → Each Digest (entries t)
+pub md5-digests : (limit n : ℕ) (t : List ℕ) → loaded Md5 limit t ≡ Ok n → Each Digest (entries t)
 md5-digests limit n t e =
     let w = (valid-formed Md5 limit n t e).0 in
     digests (items 0 t) (items-plain 0 t) w.sound w.formed

@@ -21,7 +21,8 @@ use Rattle.keys.proofs.MatchLaws.{and-true, Fields, clash-conflict, conflict-cla
 use Rattle.keys.specs.Table.{number_of, clashing, entry_tests, own_tests, load_tests, loaded_from, loaded}
 use Rattle.keys.specs.declared.entry.Entry.{Entry}
 use Rattle.keys.specs.declared.table.TableKind.{TableKind}
-use Rattle.keys.specs.declared.table.Loaded.TheVariants.{Valid, Refused}
+use Rattle.std.specs.Prelude.{Ok, Err}
+use Rattle.keys.specs.Table.{Loaded, fault}
 use Rattle.keys.proofs.FaultLaws.{number-none, number-low, last-given, given-last, item-lacks, own-lacks, item-low, none_passed, passed_none, listed-sound}
 use Rattle.keys.proofs.PlaceLaws.{each_at, at-seam, at_left, at-below, Apart, Clear, clear_apart, apart-clear, clashing-in}
 use Rattle.keys.proofs.PlaceLaws.{in-clashing, apart-no-conflict, no-conflict-apart}
@@ -45,6 +46,16 @@ data Stops (kind : TableKind) (limit : ℕ) : ℕ → List Entry → List Item �
   go_on : {i k : ℕ} {before : List Entry} {x : Item} {l : List Item} → NoneApplies (front_tests kind limit i x) → clashing x.entry before ≡ false
       → Stops kind limit (i + 1) (before ++ (x.entry ∷ [])) l k → Stops kind limit i before (x ∷ l) k
 
+-- what a fault says
+
+abbrev fault_number : Loaded → ℕ
+fault_number (Ok n) = 0
+fault_number (Err f) = f.number
+
+abbrev fault_index : Loaded → ℕ
+fault_index (Ok n) = 0
+fault_index (Err f) = f.index
+
 module _ (kind : TableKind) (limit : ℕ) where
   good-step : (i : ℕ) (before : List Entry) (x : Item) → NoneApplies (front_tests kind limit i x) → clashing x.entry before ≡ false → number_of (load_tests kind limit i before x) ≡ 0
   good-step i before x p c = given-last 17 (clashing x.entry before) (front_tests kind limit i x) p ∙ ap (λ (b : Bool). cond b 17 0) c
@@ -57,39 +68,39 @@ module _ (kind : TableKind) (limit : ℕ) where
       let p = none-split (front_tests kind limit i x) (test 17 (clashing x.entry before) ∷ []) (number-none (load_tests kind limit i before x) (item-lacks kind before x) e) in
       (p.0, p.1.0)
 
-  from-good : (l : List Item) (i n : ℕ) (before : List Entry) → loaded_from kind limit i before l ≡ Valid n → Good kind limit i before l × (i + length l ≡ n)
+  from-good : (l : List Item) (i n : ℕ) (before : List Entry) → loaded_from kind limit i before l ≡ Ok n → Good kind limit i before l × (i + length l ≡ n)
   unfolding loaded_from
   from-good [] i n before e = (tt, let z : i ≡ n = cc in omega arith)
   from-good (x ∷ l) i n before e = go (number_of (load_tests kind limit i before x)) refl (λ k. from-good l (i + 1) n (before ++ (x.entry ∷ [])) k)
     where
       go : (m : ℕ) → number_of (load_tests kind limit i before x) ≡ m
-          → (loaded_from kind limit (i + 1) (before ++ (x.entry ∷ [])) l ≡ Valid n → Good kind limit (i + 1) (before ++ (x.entry ∷ [])) l × (i + 1 + length l ≡ n))
+          → (loaded_from kind limit (i + 1) (before ++ (x.entry ∷ [])) l ≡ Ok n → Good kind limit (i + 1) (before ++ (x.entry ∷ [])) l × (i + 1 + length l ≡ n))
           → Good kind limit i before (x ∷ l) × (i + suc (length l) ≡ n)
       go zero q ih = let r = ih (rw q at e) in let s = step-good i before x q in ((s.0, s.1, r.0), omega arith)
       go (suc m) q ih = let z : ◌≡◌ {A = ℕ} 0 1 = cc (rw q at e) in absurd (omega arith)
 
-  good-from : (l : List Item) (i : ℕ) (before : List Entry) → Good kind limit i before l → loaded_from kind limit i before l ≡ Valid (i + length l)
+  good-from : (l : List Item) (i : ℕ) (before : List Entry) → Good kind limit i before l → loaded_from kind limit i before l ≡ Ok (i + length l)
   unfolding loaded_from
-  good-from [] i before g = ap Valid (sym (add-zero i))
+  good-from [] i before g = ap Ok (sym (add-zero i))
   good-from (x ∷ l) i before g =
-      rw (good-step i before x g.0 g.1) (good-from l (i + 1) (before ++ (x.entry ∷ [])) g.2 ∙ ap Valid (let e : i + 1 + length l ≡ i + suc (length l) = omega arith in e))
+      rw (good-step i before x g.0 g.1) (good-from l (i + 1) (before ++ (x.entry ∷ [])) g.2 ∙ ap Ok (let e : i + 1 + length l ≡ i + suc (length l) = omega arith in e))
 
-  from-stops : (l : List Item) (i k : ℕ) (before : List Entry) → loaded_from kind limit i before l ≡ Refused 17 k → Stops kind limit i before l k
+  from-stops : (l : List Item) (i k : ℕ) (before : List Entry) → loaded_from kind limit i before l ≡ fault 17 k → Stops kind limit i before l k
   unfolding loaded_from
   from-stops [] i k before e = let z : ◌≡◌ {A = ℕ} 0 1 = cc in absurd (omega arith)
   from-stops (x ∷ l) i k before e = go (number_of (load_tests kind limit i before x)) refl (λ h. from-stops l (i + 1) k (before ++ (x.entry ∷ [])) h)
     where
       go : (m : ℕ) → number_of (load_tests kind limit i before x) ≡ m
-          → (loaded_from kind limit (i + 1) (before ++ (x.entry ∷ [])) l ≡ Refused 17 k → Stops kind limit (i + 1) (before ++ (x.entry ∷ [])) l k) → Stops kind limit i before (x ∷ l) k
+          → (loaded_from kind limit (i + 1) (before ++ (x.entry ∷ [])) l ≡ fault 17 k → Stops kind limit (i + 1) (before ++ (x.entry ∷ [])) l k) → Stops kind limit i before (x ∷ l) k
       go zero q ih = let s = step-good i before x q in go_on s.0 s.1 (ih (rw q at e))
       go (suc m) q ih =
-          let f : Refused (suc m) i ≡ Refused 17 k = rw q at e in
-          let a : suc m ≡ 17 = cc in
-          let b : i ≡ k = cc in
+          let f : fault (suc m) i ≡ fault 17 k = rw q at e in
+          let a : suc m ≡ 17 = ap fault_number f in
+          let b : i ≡ k = ap fault_index f in
           let r = last-given 17 (clashing x.entry before) (front_tests kind limit i x) (own-lacks kind x) (λ z. omega arith) (q ∙ a) in
           subst (Stops kind limit i before (x ∷ l)) b (stop r.0 r.1)
 
-  stops-from : {l : List Item} {i k : ℕ} {before : List Entry} → Stops kind limit i before l k → loaded_from kind limit i before l ≡ Refused 17 k
+  stops-from : {l : List Item} {i k : ℕ} {before : List Entry} → Stops kind limit i before l k → loaded_from kind limit i before l ≡ fault 17 k
   unfolding loaded_from
   stops-from (stop {i} {before} {x} p c) = rw (stop_step i before x p c)
   stops-from (go_on {i} {k} {before} {x} p c s) = rw (good-step i before x p c) (stops-from s)
@@ -241,7 +252,7 @@ module _ (kind : TableKind) (limit : ℕ) where
 
 -- the loader's answers
 
-pub valid-formed : (kind : TableKind) (limit n : ℕ) (t : List ℕ) → loaded kind limit t ≡ Valid n → WellFormed kind limit t × (length (entries t) ≡ n) × Apart (entries t)
+pub valid-formed : (kind : TableKind) (limit n : ℕ) (t : List ℕ) → loaded kind limit t ≡ Ok n → WellFormed kind limit t × (length (entries t) ≡ n) × Apart (entries t)
 unfolding loaded
 valid-formed kind limit n t e =
     let g = from-good kind limit (items 0 t) 0 n [] e in
@@ -251,30 +262,30 @@ valid-formed kind limit n t e =
     let k = g.1 in
     (record { sound = p.0; few = omega arith; formed = p.1 }, omega arith, clear_apart [] (entries t) tt p.2)
 
-pub formed-valid : (kind : TableKind) (limit : ℕ) (t : List ℕ) → WellFormed kind limit t → Apart (entries t) → loaded kind limit t ≡ Valid (length (entries t))
+pub formed-valid : (kind : TableKind) (limit : ℕ) (t : List ℕ) → WellFormed kind limit t → Apart (entries t) → loaded kind limit t ≡ Ok (length (entries t))
 unfolding loaded
 formed-valid kind limit t w a =
     let l = sound-length kind (items 0 t) w.sound in
     let h = w.few in
     good-from kind limit (items 0 t) 0 [] (parts-good kind limit (items 0 t) 0 [] w.sound w.formed (apart-clear [] (entries t) a) (omega arith))
-    ∙ ap Valid (let e : 0 + length (items 0 t) ≡ length (entries t) = omega arith in e)
+    ∙ ap Ok (let e : 0 + length (items 0 t) ≡ length (entries t) = omega arith in e)
 
 -- no number is above 17
 
-from_low : (kind : TableKind) (limit n i : ℕ) (l : List Item) (j : ℕ) (before : List Entry) → loaded_from kind limit j before l ≡ Refused n i → n ≤ 17
+from_low : (kind : TableKind) (limit n i : ℕ) (l : List Item) (j : ℕ) (before : List Entry) → loaded_from kind limit j before l ≡ fault n i → n ≤ 17
 unfolding loaded_from
 from_low kind limit n i [] j before q = let z : ◌≡◌ {A = ℕ} 0 1 = cc in absurd (omega arith)
 from_low kind limit n i (x ∷ l) j before q = go (number_of (load_tests kind limit j before x)) refl (from_low kind limit n i l (j + 1) (before ++ (x.entry ∷ [])))
   where
-    go : (m : ℕ) → number_of (load_tests kind limit j before x) ≡ m → (loaded_from kind limit (j + 1) (before ++ (x.entry ∷ [])) l ≡ Refused n i → n ≤ 17) → n ≤ 17
+    go : (m : ℕ) → number_of (load_tests kind limit j before x) ≡ m → (loaded_from kind limit (j + 1) (before ++ (x.entry ∷ [])) l ≡ fault n i → n ≤ 17) → n ≤ 17
     go zero r ih = ih (rw r at q)
     go (suc m) r ih =
-        let f : Refused (suc m) j ≡ Refused n i = rw r at q in
-        let a : suc m ≡ n = cc in
+        let f : fault (suc m) j ≡ fault n i = rw r at q in
+        let a : suc m ≡ n = ap fault_number f in
         let b = number-low (load_tests kind limit j before x) (item-low kind before x) in
         omega arith
 
-pub refused-low : (kind : TableKind) (limit n i : ℕ) (t : List ℕ) → loaded kind limit t ≡ Refused n i → n ≤ 17
+pub refused-low : (kind : TableKind) (limit n i : ℕ) (t : List ℕ) → loaded kind limit t ≡ fault n i → n ≤ 17
 unfolding loaded
 refused-low kind limit n i t e = from_low kind limit n i (items 0 t) 0 [] e
 
@@ -322,7 +333,7 @@ clash-refused kind limit i t o c =
     (parts-stops kind limit (items 0 t) c.before c.entry c.after 0 [] c.split (omega arith) (subst (λ (j : ℕ). Each (Listed kind) (take (suc j) (items 0 t))) (sym n) c.listed) c.formed c.itself
     (apart-clear [] c.before (no-conflict-apart c.before f.0 c.apart))
     (in-clashing c.entry c.at_place (conflict-clash c.other c.entry c.conflict)))
-    ∙ ap (Refused 17) (let e : 0 + length c.before ≡ i = omega arith in e)
+    ∙ ap (fault 17) (let e : 0 + length c.before ≡ i = omega arith in e)
 
 pub refused-conflicting : RefusedConflicting
 refused-conflicting kind limit i t o e =

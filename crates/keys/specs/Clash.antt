@@ -11,7 +11,7 @@ use Rattle.keys.specs.declared.entry.Entry.{Entry}
 use Rattle.keys.specs.declared.entry.Pair.{Pair}
 use Rattle.keys.specs.declared.table.TableKind.{TableKind}
 use Rattle.keys.specs.declared.table.TableKind.TheVariants.{Md5}
-use Rattle.keys.specs.declared.table.Loaded.TheVariants.{Refused}
+use Rattle.keys.specs.Table.{fault}
 
 abbrev pub Family : ℕ → Type 0
 Family f = (f ≡ 4) ⊎ (f ≡ 6)
@@ -92,19 +92,19 @@ pub record ClashAt (kind : TableKind) (limit : ℕ) (t : List ℕ) (i : ℕ) : T
 
 -- "ID clash, at the later entry", exactly
 abbrev pub RefusedClash : Type 0
-RefusedClash = (kind : TableKind) (limit i : ℕ) (t : List ℕ) → Octets t → loaded kind limit t ≡ Refused 17 i → ClashAt kind limit t i
+RefusedClash = (kind : TableKind) (limit i : ℕ) (t : List ℕ) → Octets t → loaded kind limit t ≡ fault 17 i → ClashAt kind limit t i
 
 abbrev pub ClashRefused : Type 0
-ClashRefused = (kind : TableKind) (limit i : ℕ) (t : List ℕ) → Octets t → ClashAt kind limit t i → loaded kind limit t ≡ Refused 17 i
+ClashRefused = (kind : TableKind) (limit i : ℕ) (t : List ℕ) → Octets t → ClashAt kind limit t i → loaded kind limit t ≡ fault 17 i
 
 -- "a table otherwise well formed is refused with 17 exactly if a socket pair exists that two entries both match while they share SendID or
 -- share RecvID"
 abbrev pub RefusedConflicting : Type 0
-RefusedConflicting = (kind : TableKind) (limit i : ℕ) (t : List ℕ) → Octets t → loaded kind limit t ≡ Refused 17 i → Conflicting (entries t)
+RefusedConflicting = (kind : TableKind) (limit i : ℕ) (t : List ℕ) → Octets t → loaded kind limit t ≡ fault 17 i → Conflicting (entries t)
 
 abbrev pub ConflictingRefused : Type 0
 ConflictingRefused = (kind : TableKind) (limit : ℕ) (t : List ℕ) → WellFormed kind limit t → Conflicting (entries t)
-    → (i : ℕ) × (loaded kind limit t ≡ Refused 17 i)
+    → (i : ℕ) × (loaded kind limit t ≡ fault 17 i)
 
 -- document 02, Ticket 9, of the MD5 table: "17 if two entries match one pair"
 pub record BothMatch (l : List Entry) : Type 0 where
@@ -121,7 +121,7 @@ pub record BothMatch (l : List Entry) : Type 0 where
   pub second : matches two.selector pair ≡ true
 
 abbrev pub Md5RefusedBoth : Type 0
-Md5RefusedBoth = (limit i : ℕ) (t : List ℕ) → Octets t → loaded Md5 limit t ≡ Refused 17 i → BothMatch (entries t)
+Md5RefusedBoth = (limit i : ℕ) (t : List ℕ) → Octets t → loaded Md5 limit t ≡ fault 17 i → BothMatch (entries t)
 
 abbrev pub Md5BothRefused : Type 0
-Md5BothRefused = (limit : ℕ) (t : List ℕ) → WellFormed Md5 limit t → BothMatch (entries t) → (i : ℕ) × (loaded Md5 limit t ≡ Refused 17 i)
+Md5BothRefused = (limit : ℕ) (t : List ℕ) → WellFormed Md5 limit t → BothMatch (entries t) → (i : ℕ) × (loaded Md5 limit t ≡ fault 17 i)

@@ -16,12 +16,11 @@ use Rattle.keys.specs.declared.entry.Entry.{Entry}
 use Rattle.keys.specs.declared.entry.Pair.{Pair}
 use Rattle.keys.specs.declared.table.TableKind.{TableKind}
 use Rattle.keys.specs.declared.table.TableKind.TheVariants.{Keys, Md5}
-use Rattle.keys.specs.declared.table.Loaded.{Loaded}
-use Rattle.keys.specs.declared.table.Loaded.TheVariants.{Valid, Refused}
+use Rattle.std.specs.Prelude.{Result, Ok, Err, Option, Some, None}
+use Rattle.keys.specs.declared.table.Fault.{Fault}
 use Rattle.keys.specs.declared.table.By.{By}
 use Rattle.keys.specs.declared.table.By.TheVariants.{Any, Send, Recv}
-use Rattle.keys.specs.declared.table.Found.{Found}
-use Rattle.keys.specs.declared.table.Meeting.{Meeting}
+use Rattle.keys.specs.declared.table.Hit.{Hit}
 
 -- "The first that applies, in this order, is given"; 0 if none does
 unfoldable pub number_of : List (Test ℕ) → ℕ
@@ -96,19 +95,33 @@ item_tests kind before x = own_tests kind x ++ (test 17 (clashing x.entry before
 abbrev pub load_tests : TableKind → ℕ → ℕ → List Entry → Item → List (Test ℕ)
 load_tests kind limit i before x = test 12 (eqb i limit) ∷ item_tests kind before x
 
+-- what the loader answers: the table is valid and has so many entries, or it is refused with a number at the entry of an index
+abbrev pub Loaded : Type 0
+Loaded = Result ℕ Fault
+
+abbrev pub fault : ℕ → ℕ → Loaded
+fault n i = Err (record { number = n; index = i })
+
 -- a number that is given refuses the table at the index; where it is 0, what follows decides
 abbrev pub refusing : ℕ → ℕ → Loaded → Loaded
 refusing zero i o = o
-refusing (suc n) i o = Refused (suc n) i
+refusing (suc n) i o = fault (suc n) i
 
 -- "table entries are taken one after another, each through to 17 against those before it, with the entry's index from 0"
 unfoldable pub loaded_from : TableKind → ℕ → ℕ → List Entry → List Item → Loaded
-loaded_from kind limit i before [] = Valid i
+loaded_from kind limit i before [] = Ok i
 loaded_from kind limit i before (x ∷ l) =
     refusing (number_of (load_tests kind limit i before x)) i (loaded_from kind limit (i + 1) (before ++ (x.entry ∷ [])) l)
 
 unfoldable pub loaded : TableKind → ℕ → List ℕ → Loaded
 loaded kind limit t = loaded_from kind limit 0 [] (items 0 t)
+
+-- what a search answers: whether anything is there, and where; the definitions above read the entry of either, and where nothing is
+-- there every field is zero
+pub record Found : Type 0 where
+  pub there : Bool
+  pub index : ℕ
+  pub entry : Entry
 
 -- nothing found: every field is zero
 abbrev pub no_side : Side
@@ -157,6 +170,11 @@ meets s e = overlap e.selector s
 unfoldable pub meets_any_of : List Entry → Entry → Bool
 meets_any_of l e = any_of (meets e.selector) l
 
--- whether a search found anything, and where
-abbrev pub place_of : Found → Meeting
-place_of f = record { there = f.there; index = f.index }
+-- where a search found anything, if it did
+abbrev pub place_of : Found → Option ℕ
+place_of f = cond f.there (Some f.index) None
+
+-- what a search of the code found, as the definitions above read it
+abbrev pub found_of : Option Hit → Found
+found_of (Some h) = hit h.index h.entry
+found_of None = nobody

@@ -1,5 +1,5 @@
 -- Tests one behind another. Document 01, "Numbers given back": "The first that applies, in this order, is given."
-use Rattle.std.specs.Prelude.{Bool, false, cond, ◌||◌, List, [], ◌∷◌, ◌++◌}
+use Rattle.std.specs.Prelude.{Bool, false, cond, ◌||◌, List, [], ◌∷◌, ◌++◌, Result, Ok, Err}
 
 -- at least one of the tests applies: where one of several things is wrong, a number is given
 abbrev pub any : List Bool → Bool
@@ -28,3 +28,8 @@ joined (g ∷ gs) = g ++ joined gs
 abbrev pub first : {O : Type 0} → List (Test O) → O → O
 first [] o = o
 first (t ∷ l) o = cond t.applies t.gives (first l o)
+
+-- the same where nothing is given yet if none applies: the first that applies is the error
+abbrev pub checked : {O : Type 0} → List (Test O) → Result Unit O
+checked [] = Ok tt
+checked (t ∷ l) = cond t.applies (Err t.gives) (checked l)

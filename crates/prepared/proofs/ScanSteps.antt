@@ -21,7 +21,7 @@ use Rattle.keys.specs.declared.table.TableKind.{TableKind}
 use Rattle.keys.specs.declared.table.TableKind.TheVariants.{Keys, Md5}
 use Rattle.keys.specs.declared.table.By.{By}
 use Rattle.keys.specs.declared.table.By.TheVariants.{Any, Send, Recv}
-use Rattle.keys.specs.declared.table.Found.{Found}
+use Rattle.keys.specs.Table.{Found}
 use Rattle.prepared.specs.Prepared.{key_count_of, md5_count, total, prepared_bytes, fits, clean_family, clean_selector, front_ids, raw_selector, mark_of}
 use Rattle.prepared.specs.Prepared.{bits_at, mark_at, slot_at, front_at_lem, back_at, stored_at, stored_from, key_part, md5_part}
 use Rattle.prepared.specs.Scan.{get64, top, near_bits, near_front_of, last_byte_of, near_last_of, near_rest, near_back_of, local_bits}

@@ -8,7 +8,7 @@ use Rattle.keys.specs.Table.{loaded}
 use Rattle.keys.specs.declared.entry.Entry.{Entry}
 use Rattle.keys.specs.declared.table.TableKind.{TableKind}
 use Rattle.keys.specs.declared.table.TableKind.TheVariants.{Keys, Md5}
-use Rattle.keys.specs.declared.table.Loaded.TheVariants.{Valid}
+use Rattle.std.specs.Prelude.{Ok}
 use Rattle.prepared.specs.Prepared.{max_entries, key_count_of, md5_count, fits, key_part, md5_part, image}
 
 -- RFC 2385, section 2.0: "the 16-byte MD5 digest"
@@ -24,7 +24,7 @@ Md5sFormed = (b : List ℕ) → Each (Formed Md5) (md5_part b) × Each Digest16 
 
 -- there are valid bytes of a table of the kind that mean this entry and no other
 abbrev pub HeldBy : TableKind → Entry → Type 0
-HeldBy kind e = (t : List ℕ) × (loaded kind max_entries t ≡ Valid 1) × (entries t ≡ e ∷ []) × Octets t
+HeldBy kind e = (t : List ℕ) × (loaded kind max_entries t ≡ Ok 1) × (entries t ≡ e ∷ []) × Octets t
 
 -- literally: each entry that is there could be held by valid bytes
 abbrev pub KeysHeld : Type 0
@@ -47,7 +47,7 @@ pub record ReadBack (k m : List ℕ) : Type 0 where
   pub md5s : md5_part (image (entries k) (entries m)) ≡ entries m
 
 abbrev pub PreparedRead : Type 0
-PreparedRead = (k m : List ℕ) (i j : ℕ) → Octets k → Octets m → loaded Keys max_entries k ≡ Valid i → loaded Md5 max_entries m ≡ Valid j
+PreparedRead = (k m : List ℕ) (i j : ℕ) → Octets k → Octets m → loaded Keys max_entries k ≡ Ok i → loaded Md5 max_entries m ≡ Ok j
     → ReadBack k m
 
 -- The form's bytes, as numerals (docs/BOUNDARY.md, "The prepared form"): two key entries of IPv4 in their order, and an MD5 entry of IPv6.

@@ -30,7 +30,7 @@ use Rattle.keys.specs.declared.entry.Secret.{Secret}
 use Rattle.keys.specs.declared.entry.Entry.{Entry}
 use Rattle.keys.specs.declared.table.TableKind.{TableKind}
 use Rattle.keys.specs.declared.table.TableKind.TheVariants.{Keys, Md5}
-use Rattle.keys.specs.declared.table.Loaded.TheVariants.{Valid}
+use Rattle.std.specs.Prelude.{Ok}
 use Rattle.prepared.specs.Prepared.{max_entries, prepared_bytes, clear, cut, within, clean_family, clean_side, clean_selector, clean_ids}
 use Rattle.prepared.specs.Prepared.{clean, front_ids, raw_selector, raw_secret, raw_entry, octet_sum_of, address_of, send_at, recv_at, bits_at}
 use Rattle.prepared.specs.Prepared.{mark_at, slot_at, front_at_lem, back_at, stored_at}
@@ -526,7 +526,7 @@ module _ (kind : TableKind) (e : Entry) (p : ProperIn kind e) (o : InBytes e) wh
       one : (item bytes).entry ∷ [] ≡ e ∷ []
       one = ap (λ (x : Entry). x ∷ []) (item-entry bytes ∙ entry_read kind e p o)
 
-  own-valid : loaded kind max_entries bytes ≡ Valid 1
+  own-valid : loaded kind max_entries bytes ≡ Ok 1
   own-valid =
       let q = own-entries in
       let l : length (entries bytes) ≡ 1 = ap length q in
@@ -535,7 +535,7 @@ module _ (kind : TableKind) (e : Entry) (p : ProperIn kind e) (o : InBytes e) wh
       formed-valid kind max_entries bytes
       (record { sound = subst (Sound kind) (sym own-items) s; few = omega arith; formed = subst (Each (Formed kind)) (sym q) f })
       (subst Apart (sym q) (tt, tt))
-      ∙ ap Valid l
+      ∙ ap Ok l
 
 -- and each of its numbers is a byte
 

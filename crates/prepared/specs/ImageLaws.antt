@@ -22,7 +22,7 @@ use Rattle.keys.specs.Table.{loaded}
 use Rattle.keys.specs.declared.entry.Entry.{Entry}
 use Rattle.keys.specs.declared.table.TableKind.{TableKind}
 use Rattle.keys.specs.declared.table.TableKind.TheVariants.{Keys, Md5}
-use Rattle.keys.specs.declared.table.Loaded.TheVariants.{Valid}
+use Rattle.std.specs.Prelude.{Ok}
 use Rattle.prepared.specs.Prepared.{max_entries, key_count_of, md5_count, total, prepared_bytes, fits, clean_family, clean}
 use Rattle.prepared.specs.Prepared.{front_ids, raw_selector, raw_secret, raw_entry, stored_entry}
 use Rattle.prepared.specs.Prepared.{octet_sum_of, mark_of, address_of, send_at, recv_at, bits_at, mark_at, slot_at, front_at_lem, back_at}
@@ -497,11 +497,11 @@ each-md5s (e ∷ l) s f d o z = (
   each-md5s l s.1 f.1 d.1 o.1 z.1,
 )
 
-keys-whole : (t : List ℕ) (n : ℕ) → Octets t → loaded Keys max_entries t ≡ Valid n → Each (Whole Keys) (entries t)
+keys-whole : (t : List ℕ) (n : ℕ) → Octets t → loaded Keys max_entries t ≡ Ok n → Each (Whole Keys) (entries t)
 keys-whole t n o v =
     each-keys (entries t) (entries-shape t) (valid-formed Keys max_entries n t v).0.formed (entries-fields t o) (entries-sized t)
 
-md5s-whole : (t : List ℕ) (n : ℕ) → Octets t → loaded Md5 max_entries t ≡ Valid n → Each (Whole Md5) (entries t)
+md5s-whole : (t : List ℕ) (n : ℕ) → Octets t → loaded Md5 max_entries t ≡ Ok n → Each (Whole Md5) (entries t)
 md5s-whole t n o v =
     each-md5s (entries t) (entries-shape t) (valid-formed Md5 max_entries n t v).0.formed (md5-digests max_entries n t v)
     (entries-fields t o) (entries-sized t)

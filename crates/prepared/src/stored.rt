@@ -2,7 +2,7 @@
 ghost use Rattle.std.specs.Prelude.{cond, ◌≡◌, ◌+◌, ◌*◌, ◌/◌, ◌%◌, ◌^◌, ◌≤◌, ◌<◌, eqb, length};
 ghost use Rattle.octets.specs.Octets.{get16};
 ghost use Rattle.keys.specs.Match.{matches as matches_of};
-ghost use Rattle.keys.specs.Table.{found, answers};
+ghost use Rattle.keys.specs.Table.{found, found_of, answers};
 ghost use Rattle.keys.specs.declared.table.By.TheVariants.{Any};
 ghost use Rattle.prepared.specs.Prepared.{prepared_bytes, fits as fits_of, clean_selector, raw_selector, front_at_lem, back_at};
 ghost use Rattle.prepared.specs.Prepared.{stored_at, stored_from, key_part, md5_part};
@@ -13,7 +13,7 @@ ghost use Rattle.prepared.specs.Scan.{possible, NoneClose, NoneNamed};
 use crate::clean::{entry_of, family_of, selector_of};
 use crate::mark::{address_of, mark_of};
 use keys::entry::{Entry, Pair, width_of};
-use keys::table::{By, Found, TableKind};
+use keys::table::{By, Hit, TableKind};
 
 // "Raise 64 entries to 1,024", in either table.
 pub const MAX_ENTRIES: usize = 1024;
@@ -631,19 +631,18 @@ fn find_in(
     count: usize,
     by: By,
     pair: Pair,
-) -> Found
+) -> Option<Hit>
     requires { (prepared_bytes n ≤ length t.now) × (first + count ≤ n) × Asks kind by }
-    ensures { result ≡ found (answers by pair) 0 (stored_from kind t.now n first count) }
+    ensures { found_of result ≡ found (answers by pair) 0 (stored_from kind t.now n first count) }
 {
     let i = search(t, n, first, first + count, by, pair);
     if i == first + count {
-        return keys::table::nothing();
+        return None;
     }
-    Found {
-        there: true,
+    Some(Hit {
         index: i - first,
         entry: entry_at(t, n, i, kind),
-    }
+    })
 }
 
 fn count_at(t: &[u8], at: usize) -> usize
@@ -682,11 +681,11 @@ pub fn key_count(t: &[u8]) -> usize
 }
 
 // The first key entry that answers.
-pub fn find_key(t: &[u8], pair: Pair, by: By) -> Found
-    ensures { result ≡ found (answers by pair) 0 (key_part t.now) }
+pub fn find_key(t: &[u8], pair: Pair, by: By) -> Option<Hit>
+    ensures { found_of result ≡ found (answers by pair) 0 (key_part t.now) }
 {
     if !fits(t) {
-        return keys::table::nothing();
+        return None;
     }
     let n = count_at(t, 0);
     let m = count_at(t, 2);
@@ -694,11 +693,11 @@ pub fn find_key(t: &[u8], pair: Pair, by: By) -> Found
 }
 
 // The first MD5 entry that matches the pair.
-pub fn find_md5(t: &[u8], pair: Pair) -> Found
-    ensures { result ≡ found (answers Any pair) 0 (md5_part t.now) }
+pub fn find_md5(t: &[u8], pair: Pair) -> Option<Hit>
+    ensures { found_of result ≡ found (answers Any pair) 0 (md5_part t.now) }
 {
     if !fits(t) {
-        return keys::table::nothing();
+        return None;
     }
     let n = count_at(t, 0);
     let m = count_at(t, 2);

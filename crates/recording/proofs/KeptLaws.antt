@@ -6,8 +6,8 @@ use Rattle.std.proofs.Math.Seq.{take-nil}
 use Rattle.keys.specs.Entry.{is_family_of}
 use Rattle.keys.specs.Table.{loaded}
 use Rattle.keys.specs.declared.table.TableKind.TheVariants.{Keys}
-use Rattle.keys.specs.declared.table.Loaded.{Loaded}
-use Rattle.keys.specs.declared.table.Loaded.TheVariants.{Valid, Refused}
+use Rattle.keys.specs.Table.{Loaded}
+use Rattle.std.specs.Prelude.{Ok, Err}
 use Rattle.tables.specs.declared.Index.{Index}
 use Rattle.tables.specs.Tables.{no_index, key_index}
 use Rattle.rules.specs.declared.Outcome.{Outcome}
@@ -45,8 +45,8 @@ module _ (room : ℕ) (h : enough ≤ room) where
   outcome-kept t o = go (loaded Keys desk_entries t) refl
     where
       go : (l : Loaded) → loaded Keys desk_entries t ≡ l → open_outcome_of (take room t) o ≡ open_outcome_of t o
-      go (Valid n) e = ap (λ (x : List ℕ). open_outcome_of x o) (valid-short n room t h e)
-      go (Refused n i) e = rw (table_kept room t h, e)
+      go (Ok n) e = ap (λ (x : List ℕ). open_outcome_of x o) (valid-short n room t h e)
+      go (Err f) e = rw (table_kept room t h, e)
 
   -- and where it is not refused, the table is valid
   opened-whole : (t o : List ℕ) → ((n : ℕ) (i : Index) → open_outcome_of t o ≢ Bad n i) → take room t ≡ t
@@ -54,9 +54,9 @@ module _ (room : ℕ) (h : enough ≤ room) where
   opened-whole t o g = go (loaded Keys desk_entries t) (is_family_of (open_pair_of o).family) refl refl
     where
       go : (l : Loaded) (f : Bool) → loaded Keys desk_entries t ≡ l → is_family_of (open_pair_of o).family ≡ f → take room t ≡ t
-      go (Valid n) f e q = valid-short n room t h e
-      go (Refused n i) true e q = absurd (g n (key_index i) (rw (q, e)))
-      go (Refused n i) false e q = absurd (g 18 no_index (rw q))
+      go (Ok n) f e q = valid-short n room t h e
+      go (Err f) true e q = absurd (g f.number (key_index f.index) (rw (q, e)))
+      go (Err f) false e q = absurd (g 18 no_index (rw q))
 
   take-join : (r : ℕ) (t x : List ℕ) → take r (take r t ++ x) ≡ take r (t ++ x)
   take-join zero t x = refl

@@ -8,8 +8,9 @@ use Rattle.octets.specs.Each.{Each}
 use Rattle.keys.specs.Entry.{is_family_of}
 use Rattle.keys.specs.Table.{loaded}
 use Rattle.keys.specs.declared.table.TableKind.TheVariants.{Keys}
-use Rattle.keys.specs.declared.table.Loaded.{Loaded}
-use Rattle.keys.specs.declared.table.Loaded.TheVariants.{Valid as LoadedValid, Refused as LoadedRefused}
+use Rattle.keys.specs.Table.{Loaded}
+use Rattle.std.specs.Prelude.{Ok, Err}
+use Rattle.keys.specs.Table.{fault}
 use Rattle.tables.specs.declared.Index.{Index}
 use Rattle.tables.specs.Tables.{Tables, send_entry, recv_entry}
 use Rattle.tables.proofs.LimitLaws.{limit-refused, refused-limit}
@@ -369,17 +370,17 @@ limit-desk t o i e =
     go : (f : Bool) (l : Loaded) (x y : Bool) → is_family_of (open_pair_of o).family ≡ f → loaded Keys 64 t ≡ l
         → (send_entry (desk_tables t) (open_pair_of o) (send_id_of o)).there ≡ x → (recv_entry (desk_tables t) (open_pair_of o) (ask_id_of o)).there ≡ y
         → (i ≡ record { table = 0; entry = 64 })
-        × (u : List ℕ) × (b : ℕ) × (s : List ℕ) × (t ≡ u ++ (b ∷ s)) × (loaded Keys 64 u ≡ LoadedValid 64)
+        × (u : List ℕ) × (b : ℕ) × (s : List ℕ) × (t ≡ u ++ (b ∷ s)) × (loaded Keys 64 u ≡ Ok 64)
     go false l x y p q a b = let z : ◌≡◌ {A = ℕ} 12 18 = cc (rw p at e) in absurd (omega arith)
-    go true (LoadedRefused n j) x y p q a b =
-        let z : Bad n (record { table = 0; entry = j }) ≡ Bad 12 i = rw (p, q) at e in
-        let w : n ≡ 12 = cc in
-        let v : record { table = 0; entry = j } ≡ i = cc in
-        let r = refused-limit Keys 64 j t (q ∙ ap (λ (m : ℕ). LoadedRefused m j) w) in
+    go true (Err f) x y p q a b =
+        let z : Bad f.number (record { table = 0; entry = f.index }) ≡ Bad 12 i = rw (p, q) at e in
+        let w : f.number ≡ 12 = cc in
+        let v : record { table = 0; entry = f.index } ≡ i = cc in
+        let r = refused-limit Keys 64 f.index t (q ∙ ap (λ (m : ℕ). fault m f.index) w) in
         (sym v ∙ ap (λ (m : ℕ). record { table = 0; entry = m }) r.0, r.1, r.2, r.3, r.4, r.5)
-    go true (LoadedValid n) false y p q a b = let z : ◌≡◌ {A = ℕ} 12 35 = cc (rw (p, q, a) at e) in absurd (omega arith)
-    go true (LoadedValid n) true false p q a b = let z : ◌≡◌ {A = ℕ} 12 35 = cc (rw (p, q, a, b) at e) in absurd (omega arith)
-    go true (LoadedValid n) true true p q a b = let z : ◌≡◌ {A = ℕ} 0 1 = cc (rw (p, q, a, b) at e) in absurd (omega arith)
+    go true (Ok n) false y p q a b = let z : ◌≡◌ {A = ℕ} 12 35 = cc (rw (p, q, a) at e) in absurd (omega arith)
+    go true (Ok n) true false p q a b = let z : ◌≡◌ {A = ℕ} 12 35 = cc (rw (p, q, a, b) at e) in absurd (omega arith)
+    go true (Ok n) true true p q a b = let z : ◌≡◌ {A = ℕ} 0 1 = cc (rw (p, q, a, b) at e) in absurd (omega arith)
 
 pub limit-printed : LimitPrinted
 unfolding line_text decimal digits

@@ -4,12 +4,12 @@ use lib.Seq.{paste}
 use Rattle.octets.specs.Octets.{get16, get32}
 use Rattle.keys.specs.declared.entry.Pair.{Pair}
 use Rattle.keys.specs.declared.table.TableKind.TheVariants.{Keys}
-use Rattle.keys.specs.declared.table.Loaded.{Loaded}
-use Rattle.keys.specs.declared.table.Loaded.TheVariants.{Refused}
-use Rattle.keys.specs.declared.table.Found.{Found}
+use Rattle.keys.specs.Table.{Loaded}
+use Rattle.keys.specs.Table.{fault}
+use Rattle.keys.specs.Table.{Found}
 use Rattle.keys.specs.Entry.{is_family_of}
 use Rattle.keys.specs.Table.{loaded}
-use Rattle.tables.specs.declared.Admitted.TheVariants.{Valid}
+use Rattle.std.specs.Prelude.{Ok}
 use Rattle.tables.specs.Tables.{no_index, key_index, after_table, send_entry, recv_entry}
 use Rattle.rules.specs.declared.Outcome.TheVariants.{Good, Bad}
 use Rattle.rules.specs.declared.State.{State}
@@ -41,7 +41,7 @@ state-is b p isn peer q a c d e = e ∙ (λ i. opened ao_way (a i) (c i) (d i) (
 -- 18, the table's number, 35, 35
 
 abbrev pub refuses : Loaded → Bool
-refuses l = is_refused (after_table key_index l Valid)
+refuses l = is_refused (after_table key_index l Ok)
 
 module _ (t b : List ℕ) (p : Pair) (pe : p ≡ open_pair_of b) where
   family-is : (f : Bool) → f ≡ is_family_of p.family → is_family_of (open_pair_of b).family ≡ f
@@ -52,7 +52,7 @@ module _ (t b : List ℕ) (p : Pair) (pe : p ≡ open_pair_of b) where
   gives-18 f e h = rw (family-is f e, h)
 
   module _ (f : Bool) (fe : f ≡ is_family_of p.family) (h : not f ≡ false) where
-    pub gives-refusal : (l : Loaded) (n i : ℕ) → l ≡ loaded Keys desk_entries t → l ≡ Refused n i → Bad n (key_index i) ≡ open_outcome_of t b
+    pub gives-refusal : (l : Loaded) (n i : ℕ) → l ≡ loaded Keys desk_entries t → l ≡ fault n i → Bad n (key_index i) ≡ open_outcome_of t b
     unfolding open_outcome_of
     gives-refusal l n i le q = rw (family-is f fe, h, sym le, q)
 

@@ -16,8 +16,9 @@ use Rattle.keys.proofs.FaultLaws.{number-none}
 use Rattle.keys.specs.Table.{number_of, load_tests, loaded_from, loaded, refusing}
 use Rattle.keys.specs.declared.entry.Entry.{Entry}
 use Rattle.keys.specs.declared.table.TableKind.TheVariants.{Keys}
-use Rattle.keys.specs.declared.table.Loaded.{Loaded}
-use Rattle.keys.specs.declared.table.Loaded.TheVariants.{Valid, Refused}
+use Rattle.keys.specs.Table.{Loaded}
+use Rattle.std.specs.Prelude.{Ok}
+use Rattle.keys.specs.Table.{fault}
 use Rattle.recording.specs.Recording.{desk_entries}
 use Rattle.recording.specs.Live.{enough, TableKept}
 
@@ -162,7 +163,7 @@ step limit i before s h =
     z
 
 -- the limit is reached: 12, whatever begins
-full : (limit : ℕ) (before : List Entry) (s : List ℕ) → 0 < length s → loaded_from Keys limit limit before (items 0 s) ≡ Refused 12 limit
+full : (limit : ℕ) (before : List Entry) (s : List ℕ) → 0 < length s → loaded_from Keys limit limit before (items 0 s) ≡ fault 12 limit
 full limit before s h =
     step limit limit before s h
     ∙ ap
@@ -173,7 +174,7 @@ full limit before s h =
 
 -- an unknown kind: 11
 strange : (limit i : ℕ) (before : List Entry) (s : List ℕ) → 0 < length s → (i ≢ limit) → known_kind_of (slice_index s 0) ≡ false
-    → loaded_from Keys limit i before (items 0 s) ≡ Refused 11 i
+    → loaded_from Keys limit i before (items 0 s) ≡ fault 11 i
 unfolding item
 strange limit i before s h n v =
     step limit i before s h
@@ -246,7 +247,7 @@ unfolding loaded
 table_kept room t h = kept_from desk_entries desk_entries 0 room [] t (omega arith) h
 
 -- a valid table is no longer than its entries
-short-from : (k limit i n : ℕ) (before : List Entry) (s : List ℕ) → limit ≡ i + k → loaded_from Keys limit i before (items 0 s) ≡ Valid n → length s ≤ 129 * k
+short-from : (k limit i n : ℕ) (before : List Entry) (s : List ℕ) → limit ≡ i + k → loaded_from Keys limit i before (items 0 s) ≡ Ok n → length s ≤ 129 * k
 unfolding item
 short-from zero limit i n before s e v =
     ⊎_elim (λ z. let l : length s ≡ 0 = ap length z in omega arith)
@@ -264,7 +265,7 @@ short-from (suc k) limit i n before s e v =
     after : Bool → Loaded
     after c = loaded_from Keys limit (i + 1) (before ++ (entry_of s ∷ [])) (cond c (items 0 (drop (size (slice_index s 0)) s)) [])
 
-    go : (m : ℕ) → number_of (load_tests Keys limit i before (item s)) ≡ m → 0 < length s → (after true ≡ Valid n → length (drop (size (slice_index s 0)) s) ≤ 129 * k)
+    go : (m : ℕ) → number_of (load_tests Keys limit i before (item s)) ≡ m → 0 < length s → (after true ≡ Ok n → length (drop (size (slice_index s 0)) s) ≤ 129 * k)
         → length s ≤ 129 * suc k
     go (suc m) q l ih =
         let w = sym (step limit i before s l ∙ ap (λ (x : ℕ). refusing x i (after (sound (item s)))) q) ∙ v in
@@ -272,7 +273,7 @@ short-from (suc k) limit i n before s e v =
         absurd (omega arith)
     go zero q l ih =
         let p = (passed limit i before (item s) q).1 in
-        let w : after true ≡ Valid n =
+        let w : after true ≡ Ok n =
         sym (step limit i before s l ∙ ap (λ (x : ℕ). refusing x i (after (sound (item s)))) q ∙ ap after p) ∙ v in
         let a = and-true (known_kind_of (slice_index s 0)) (nat_le (size (slice_index s 0)) (length s)) p in
         let z = size-le (slice_index s 0) a.0 in
@@ -280,6 +281,6 @@ short-from (suc k) limit i n before s e v =
         let f = ih w in
         omega arith
 
-pub valid-short : (n room : ℕ) (t : List ℕ) → enough ≤ room → loaded Keys desk_entries t ≡ Valid n → take room t ≡ t
+pub valid-short : (n room : ℕ) (t : List ℕ) → enough ≤ room → loaded Keys desk_entries t ≡ Ok n → take room t ≡ t
 unfolding loaded
 valid-short n room t h v = take_all room t (let l = short-from desk_entries desk_entries 0 n [] t (omega arith) v in omega arith)

@@ -5,7 +5,7 @@ use Rattle.octets.specs.Each.{Each}
 use Rattle.keys.specs.Entry.{is_family_of}
 use Rattle.keys.specs.Table.{loaded}
 use Rattle.keys.specs.declared.table.TableKind.TheVariants.{Keys}
-use Rattle.keys.specs.declared.table.Loaded.TheVariants.{Valid as LoadedValid}
+use Rattle.std.specs.Prelude.{Ok}
 use Rattle.tables.specs.declared.Index.{Index}
 use Rattle.rules.specs.declared.Outcome.TheVariants.{Bad}
 use Rattle.rules.specs.declared.Verdict.{Verdict}
@@ -123,20 +123,20 @@ OpeningRefused = (entries : List (List ℕ)) (opening rest : List ℕ) (n : ℕ)
 -- "Ticket 1's program stays at 64 entries", with the numeral: where u is a valid table of exactly 64 entries, one byte b more behind it,
 -- whatever follows, is refused with 12 at the entry that b begins, the 65th
 abbrev pub DeskLimit : Type 0
-DeskLimit = (u s opening : List ℕ) (b : ℕ) → is_family_of (open_pair_of opening).family ≡ true → loaded Keys 64 u ≡ LoadedValid 64
+DeskLimit = (u s opening : List ℕ) (b : ℕ) → is_family_of (open_pair_of opening).family ≡ true → loaded Keys 64 u ≡ Ok 64
     → open_outcome_of (u ++ (b ∷ s)) opening ≡ Bad 12 (record { table = 0; entry = 64 })
 
 -- and no other table is refused with 12
 abbrev pub LimitDesk : Type 0
 LimitDesk = (t opening : List ℕ) (i : Index) → open_outcome_of t opening ≡ Bad 12 i
     → (i ≡ record { table = 0; entry = 64 })
-    × (u : List ℕ) × (b : ℕ) × (s : List ℕ) × (t ≡ u ++ (b ∷ s)) × (loaded Keys 64 u ≡ LoadedValid 64)
+    × (u : List ℕ) × (b : ℕ) × (s : List ℕ) × (t ≡ u ++ (b ∷ s)) × (loaded Keys 64 u ≡ Ok 64)
 
 -- so of a recording whose entries make such a table "12" and a newline are printed, and nothing else
 abbrev pub LimitPrinted : Type 0
 LimitPrinted = (entries : List (List ℕ)) (opening rest u s : List ℕ) (b : ℕ)
     → Each IsEntry entries → IsOpening opening → is_family_of (open_pair_of opening).family ≡ true
-    → table_of entries ≡ u ++ (b ∷ s) → loaded Keys 64 u ≡ LoadedValid 64
+    → table_of entries ≡ u ++ (b ∷ s) → loaded Keys 64 u ≡ Ok 64
     → desk_text (joined entries ++ (opening ++ rest)) ≡ 49 ∷ 50 ∷ 10 ∷ []
 
 -- The calls of a caller: the pieces of a recording, as they come, are given to `Desk::advance`, each until it is used up, and the lines are

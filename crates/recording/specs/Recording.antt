@@ -8,8 +8,8 @@ use Rattle.keys.specs.declared.entry.Pair.{Pair}
 use Rattle.keys.specs.Entry.{is_family_of}
 use Rattle.keys.specs.Table.{loaded}
 use Rattle.keys.specs.declared.table.TableKind.TheVariants.{Keys}
-use Rattle.tables.specs.declared.Admitted.{Admitted}
-use Rattle.tables.specs.declared.Admitted.TheVariants.{Valid}
+use Rattle.tables.specs.Tables.{Admitted}
+use Rattle.std.specs.Prelude.{Ok}
 use Rattle.tables.specs.Tables.{Tables, key_index, after_table, tables_of, send_entry, recv_entry}
 use Rattle.rules.specs.declared.Outcome.{Outcome}
 use Rattle.rules.specs.declared.Outcome.TheVariants.{Good, Passed, Bad}
@@ -134,7 +134,7 @@ desk_entries = 64
 
 -- the table's refusals, 10 to 17
 abbrev pub desk_answer : List ℕ → Admitted
-desk_answer t = after_table key_index (loaded Keys desk_entries t) Valid
+desk_answer t = after_table key_index (loaded Keys desk_entries t) Ok
 
 -- "a bad table or opening (18; 35 for either ID), judged at the opening record in 01's order"
 abbrev pub open_tests : List ℕ → List ℕ → List (Test Outcome)

@@ -1,5 +1,5 @@
 -- Demand 2, of the definitions: what one end signs by TCP-AO, the other end accepts. First what the three ways that it can go share.
-use Rattle.std.specs.Prelude.{ℕ, ◌+◌, ◌^◌, ◌<◌, ◌≡◌, refl, true, false, not, List, ltb, eqb}
+use Rattle.std.specs.Prelude.{ℕ, ◌+◌, ◌^◌, ◌<◌, ◌≡◌, refl, true, false, not, List, ltb, eqb, Some}
 use Rattle.std.proofs.Common.{ap, sym, ◌∙◌, arith, eq-eqb, eqb-true}
 use Rattle.std.proofs.lemmas.Bool.{not-false}
 use Rattle.octets.specs.Each.{Octets}
@@ -8,12 +8,11 @@ use Rattle.wire.specs.Header.{sequence, syn}
 use Rattle.wire.specs.declared.options.Occurrence.{Occurrence}
 use Rattle.keys.specs.declared.entry.Pair.{Pair}
 use Rattle.keys.specs.declared.entry.Entry.{Entry}
-use Rattle.keys.specs.declared.table.Found.{Found}
+use Rattle.keys.specs.Table.{Found}
 use Rattle.keys.specs.Mirror.{Mirror}
 use Rattle.tables.specs.Tables.{Tables}
 use Rattle.tables.specs.Valid.{ValidTables}
 use Rattle.tables.specs.Search.{hit}
-use Rattle.rules.specs.declared.Place.TheVariants.{At}
 use Rattle.rules.specs.declared.Outcome.{Outcome}
 use Rattle.rules.specs.declared.State.{State}
 use Rattle.octets.specs.TestLaws.{NoneApplies}
@@ -77,7 +76,7 @@ module _ (q : State) (e : Entry) (x : ℕ) (b : List ℕ) (g : SignedAt q e x b)
         (λ j. not (eqb (read.one j).len (4 + (held j).entry.secret.mac_bytes)))
         ∙ ap not (eq-eqb _ _ (ap (λ (n : ℕ). 4 + n) (length-its-mac q e x b g way ∙ sym agree.mac)))
 
-    right-mac : mac_differs found.entry f (At y) a.segment ≡ false
+    right-mac : mac_differs found.entry f (Some y) a.segment ≡ false
     right-mac =
         ap not
         (same-of-eq _ _
@@ -87,7 +86,7 @@ module _ (q : State) (e : Entry) (x : ℕ) (b : List ℕ) (g : SignedAt q e x b)
         ∙ same-mac q e x b g way p a v ours.secret (arriving_hidden_of ours.secret) f agree (hidden-of p q.conn.pair ours e mirror) alike
         source destination)))
 
-    pub keyed : NoneApplies (key_tests missing unknown found (At y) a.segment) × NoneApplies (mac_tests found.entry f (At y) a.segment)
+    pub keyed : NoneApplies (key_tests missing unknown found (Some y) a.segment) × NoneApplies (mac_tests found.entry f (Some y) a.segment)
     keyed = (
       (ap (λ (o : Occurrence). eqb o.count 0) read.one, (ap (λ (o : Found). not o.there) held, (right-length, (refl, tt)))),
       (right-mac, tt),

@@ -1,5 +1,5 @@
 -- One segment signed by TCP-AO, one judging call: the tests that the receiver makes of it all fail, on each of the three ways that it can go.
-use Rattle.std.specs.Prelude.{ℕ, ◌-◌, ◌≡◌, Bool, true, false, ◌&&◌, List, ◌⊎◌, length, take, replicate, eqb}
+use Rattle.std.specs.Prelude.{ℕ, ◌-◌, ◌≡◌, Bool, true, false, ◌&&◌, List, ◌⊎◌, length, take, replicate, eqb, Some}
 use Rattle.std.proofs.Math.Path.{refl, sym, subst⁻¹}
 use Rattle.std.proofs.Common.{ap, ◌∙◌, inl, inr, arith, length-append, length-take-le, eq-eqb}
 use Rattle.std.proofs.Math.Bool.{cond, not}
@@ -15,27 +15,25 @@ use Rattle.keys.proofs.FormedLaws.{KeyProper}
 use Rattle.keys.proofs.MatchLaws.{and-true}
 use Rattle.keys.specs.Places.{At as EntryAt}
 use Rattle.keys.specs.Mirror.{Mirror}
-use Rattle.keys.specs.declared.table.Found.{Found}
+use Rattle.keys.specs.Table.{Found}
 use Rattle.tables.specs.Tables.{Tables, recv_entry}
 use Rattle.tables.specs.Valid.{ValidTables}
 use Rattle.tables.proofs.ValidLaws.{valid-key}
 use Rattle.tables.specs.Search.{hit}
 use Rattle.tables.proofs.SearchLaws.{recv-found, send-holder, uncrossed}
-use Rattle.rules.specs.declared.Place.{Place}
-use Rattle.rules.specs.declared.Place.TheVariants.{At}
+use Rattle.rules.specs.Position.{Place, position, Near}
 use Rattle.rules.specs.declared.Outcome.{Outcome}
 use Rattle.rules.specs.declared.Outcome.TheVariants.{Good}
 use Rattle.rules.specs.declared.Connection.{Connection}
 use Rattle.rules.specs.declared.State.{State}
-use Rattle.rules.specs.Position.{position, Near}
 use Rattle.rules.proofs.PositionLaws.{complete, sound}
 use Rattle.octets.specs.TestLaws.{NoneApplies, none-append}
 use Rattle.rules.proofs.GroupLaws.{first-clear, key-ao, mac-ao, syn-key-ao, syn-mac-ao}
 use Rattle.rules.specs.Mac.{Flow, leaving_hidden_of}
 use Rattle.rules.proofs.MacLaws.{Alike}
 use Rattle.rules.specs.Segment.{key_id_of, is_bare_syn_of}
-use Rattle.rules.specs.Connection.{sized, Arrival, local_address, remote_address, arrival_pair_of, is_open_of, is_md5_of, arriving, arriving_syn}
-use Rattle.rules.specs.Connection.{leaving, place_on_lem, value, extension_of_lem}
+use Rattle.rules.specs.Connection.{sized, Arrival, local_address, remote_address, arrival_pair_of, is_open_of, is_md5_of, arriving}
+use Rattle.rules.specs.Connection.{arriving_syn, leaving, place_on_lem, value, extension_of_lem}
 use Rattle.rules.specs.Calls.{refuse, family_tests, address_tests, table_tests, input_tests, pair_tests, stage_tests, key_tests, mac_tests}
 use Rattle.rules.specs.Calls.{judge_groups, check, syn_missing_of, syn_unknown_of, syn_is_md5, syn_groups, check_syn_of}
 use Rattle.rules.specs.Lent.{tables}
@@ -102,8 +100,8 @@ module _ (q : State) (typed : Typed q) (way : is_md5_of q.conn ≡ false) (e : E
   none-25 : (missing unknown : Outcome) (f : Flow) (y : ℕ) → f.source ≡ remote_address p → f.destination ≡ local_address p
       → p.remote_port ≡ f.source_port → p.local_port ≡ f.destination_port
       → f.source_isn ≡ (leaving q.conn).source_isn → f.destination_isn ≡ (leaving q.conn).destination_isn → extension_of_lem y ≡ extension_of_lem x
-      → NoneApplies (key_tests missing unknown (recv_entry t p (key_id_of came)) (At y) came)
-      × NoneApplies (mac_tests (recv_entry t p (key_id_of came)).entry f (At y) came)
+      → NoneApplies (key_tests missing unknown (recv_entry t p (key_id_of came)) (Some y) came)
+      × NoneApplies (mac_tests (recv_entry t p (key_id_of came)).entry f (Some y) came)
   none-25 missing unknown f y from to source-port destination-port source-isn destination-isn ext =
       keyed q e x b g way p a v missing unknown i ours f y (recv_entry t p (key_id_of came)) mirror found alike source-port destination-port ext
     where
@@ -143,7 +141,7 @@ module _ (q : State) (typed : Typed q) (way : is_md5_of q.conn ≡ false) (e : E
   -- accepted at a place of the same extension, if the stage is right and the ISNs are the sender's
   accepted : (reference y : ℕ) → cond (is_open_of l) (is_bare_syn_of came-there) (not (syn came-there && ack came-there)) ≡ false
       → (arriving l came-there).source_isn ≡ (leaving q.conn).source_isn → (arriving l came-there).destination_isn ≡ (leaving q.conn).destination_isn
-      → place_on_lem l reference (sequence came-there) ≡ At y → extension_of_lem y ≡ extension_of_lem x → check t l reference a ≡ Good y q.ask_id
+      → place_on_lem l reference (sequence came-there) ≡ Some y → extension_of_lem y ≡ extension_of_lem x → check t l reference a ≡ Good y q.ask_id
   unfolding check
   accepted reference y stage source-isn destination-isn place ext =
       first-clear (judge_groups t l reference a) _
@@ -187,10 +185,10 @@ module _ (q : State) (typed : Typed q) (way : is_md5_of q.conn ≡ false) (e : E
       (ap (λ (w : Bool). cond w l.peer_isn (sequence came-there)) other.here ∙ other.peer)
       (other.isn ∙ ap (λ (w : Bool). cond w q.conn.peer_isn 0) (sym other.there)) place refl
     where
-      place : place_on_lem l reference (sequence came-there) ≡ At x
+      place : place_on_lem l reference (sequence came-there) ≡ Some x
       place =
           let n = signed-near other.there in
-          (λ j. cond (other.here j && not (way-here j)) (position reference (sequence came-there)) (At (sequence came-there)))
+          (λ j. cond (other.here j && not (way-here j)) (position reference (sequence came-there)) (Some (sequence came-there)))
           ∙ ap (position reference) read-there.number
           ∙ complete reference (sequence g.unsigned) x (record { remainder = n.remainder; above = omega arith; below = omega arith; fits = n.fits })
 
@@ -216,9 +214,9 @@ module _ (q : State) (typed : Typed q) (way : is_md5_of q.conn ≡ false) (e : E
       stage : cond (is_open_of l) (is_bare_syn_of came-there) (not (syn came-there && ack came-there)) ≡ false
       stage = λ j. cond (here j) (is_bare_syn_of came-there) (not ((read-there.its-syn ∙ its-syn) j && (read-there.its-ack ∙ with-ack) j))
 
-      place : place_on_lem l reference (sequence came-there) ≡ At q.conn.isn
+      place : place_on_lem l reference (sequence came-there) ≡ Some q.conn.isn
       place =
-          (λ j. cond (here j && not (is_md5_of l)) (position reference (sequence came-there)) (At (sequence came-there))) ∙ ap At number
+          (λ j. cond (here j && not (is_md5_of l)) (position reference (sequence came-there)) (Some (sequence came-there))) ∙ ap Some number
 
 -- Without a state: a bare SYN that the opening end q signed, which comes under its own pair.
 module _ (q : State) (typed : Typed q) (way : is_md5_of q.conn ≡ false) (opening : is_open_of q.conn ≡ false) (e : Entry) (x : ℕ)
@@ -271,8 +269,8 @@ module _ (q : State) (typed : Typed q) (way : is_md5_of q.conn ≡ false) (openi
       ∙ (λ j. Good (syn-number j) (cond (syn-way j) 0 (syn-read.reads.next j)))
     where
       keys : NoneApplies (key_tests (syn_missing_of t (arrival_pair_of a)) (syn_unknown_of t (arrival_pair_of a) strict)
-          (recv_entry t (arrival_pair_of a) (key_id_of syn-came)) (At (sequence syn-came)) syn-came)
-          × NoneApplies (mac_tests (recv_entry t (arrival_pair_of a) (key_id_of syn-came)).entry (arriving_syn a) (At (sequence syn-came)) syn-came)
+          (recv_entry t (arrival_pair_of a) (key_id_of syn-came)) (Some (sequence syn-came)) syn-came)
+          × NoneApplies (mac_tests (recv_entry t (arrival_pair_of a) (key_id_of syn-came)).entry (arriving_syn a) (Some (sequence syn-came)) syn-came)
       keys =
           none-25 q typed way e x b g (arrival_pair_of a) a v facing t valid i ours among mirror syn-local syn-remote (syn_missing_of t (arrival_pair_of a))
           (syn_unknown_of t (arrival_pair_of a) strict) (arriving_syn a) (sequence syn-came) v.source v.destination refl refl syn-number

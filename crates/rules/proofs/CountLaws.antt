@@ -1,11 +1,11 @@
 -- Laws of the counts: what a list of verdicts makes of them. Demand 3 and the history of calls both go by `Counts`.
 -- Assumes that a state has as many counts as its type says.
-use Rattle.std.specs.Prelude.{ℕ, zero, suc, ◌+◌, ◌-◌, ◌≤◌, ◌<◌, min, max, ◌≡◌, refl, ◌⊎◌, Bool, true, false, cond, List, [], ◌∷◌, ◌++◌, length, get_or, set, ltb, eqb}
+use Rattle.std.specs.Prelude.{ℕ, zero, suc, ◌+◌, ◌-◌, ◌≤◌, ◌<◌, min, max, ◌≡◌, refl, ◌⊎◌, Bool, true, false, cond, List, [], ◌∷◌, ◌++◌}
+use Rattle.std.specs.Prelude.{length, get_or, set, ltb, eqb, Some, None}
 use Rattle.std.proofs.Common.{ap, sym, ◌∙◌, inl, inr, ⊎_elim, arith, length-set, get_or-set_same, get_or-set_other, ltb-true, ltb-false, eqb-true, ne_eqb}
 use Rattle.std.proofs.lemmas.Bool.{eqb-false}
 use Rattle.octets.specs.Each.{Each}
-use Rattle.rules.specs.declared.Place.{Place}
-use Rattle.rules.specs.declared.Place.TheVariants.{At, Nowhere}
+use Rattle.rules.specs.Position.{Place}
 use Rattle.rules.specs.declared.Verdict.{Verdict}
 use Rattle.rules.specs.declared.Verdict.TheVariants.{Accept, Drop}
 use Rattle.rules.specs.declared.State.{State}
@@ -51,12 +51,12 @@ pos a n h d = go (ltb a n) refl
 
 -- a number's place in a list lies in it, and is no other number's
 later-below : (p : Place) (k : ℕ) → value p < k → value (later p) < suc k
-later-below (At i) k h = omega arith
-later-below Nowhere k h = omega arith
+later-below (Some i) k h = omega arith
+later-below None k h = omega arith
 
 later-located : (p : Place) → located (later p) ≡ true → located p ≡ true
-later-located (At i) e = refl
-later-located Nowhere e = e
+later-located (Some i) e = refl
+later-located None e = e
 
 place-below : (n : ℕ) (l : List ℕ) → located (place_in n l) ≡ true → value (place_in n l) < length l
 place-below n [] e = let z : ◌≡◌ {A = ℕ} 0 1 = cc in absurd (omega arith)
@@ -74,8 +74,8 @@ place_is n (m ∷ l) e = go (eqb n m) (place_in n l) refl refl (place_is n l)
     go : (b : Bool) (p : Place) → eqb n m ≡ b → place_in n l ≡ p → (located (place_in n l) ≡ true → get_or l (value (place_in n l)) 0 ≡ n)
         → get_or (m ∷ l) (value (place_in n (m ∷ l))) 0 ≡ n
     go true p q r ih = rw q (sym (eqb-true n m q))
-    go false (At i) q r ih = rw (q, r) (rw r at (ih (rw r)))
-    go false Nowhere q r ih = let z : ◌≡◌ {A = ℕ} 0 1 = cc (rw (q, r) at e) in absurd (omega arith)
+    go false (Some i) q r ih = rw (q, r) (rw r at (ih (rw r)))
+    go false None q r ih = let z : ◌≡◌ {A = ℕ} 0 1 = cc (rw (q, r) at e) in absurd (omega arith)
 
 pub slot-below : (n : ℕ) → is_counted n ≡ true → value (slot n) < slots
 unfolding slot
@@ -86,17 +86,17 @@ unfolding slot
 slot-one n m e f q = sym (place_is n counted_numbers e) ∙ ap (λ (i : ℕ). get_or counted_numbers i 0) q ∙ place_is m counted_numbers f
 
 -- by numbers, as the code goes
-in_row : (k a n : ℕ) (r : List ℕ) → a ≤ n → n < a + k → place_in n (row a k ++ r) ≡ At (n - a)
+in_row : (k a n : ℕ) (r : List ℕ) → a ≤ n → n < a + k → place_in n (row a k ++ r) ≡ Some (n - a)
 unfolding row
 in_row zero a n r h l = absurd (omega arith)
 in_row (suc k) a n r h l = go (eqb n a) refl (λ p q. in_row k (a + 1) n r p q)
   where
-    go : (b : Bool) → eqb n a ≡ b → (a + 1 ≤ n → n < a + 1 + k → place_in n (row (a + 1) k ++ r) ≡ At (n - (a + 1)))
-        → place_in n (row a (suc k) ++ r) ≡ At (n - a)
-    go true q ih = let e = eqb-true n a q in rw (q, row) (ap At (omega arith))
+    go : (b : Bool) → eqb n a ≡ b → (a + 1 ≤ n → n < a + 1 + k → place_in n (row (a + 1) k ++ r) ≡ Some (n - (a + 1)))
+        → place_in n (row a (suc k) ++ r) ≡ Some (n - a)
+    go true q ih = let e = eqb-true n a q in rw (q, row) (ap Some (omega arith))
     go false q ih =
         let d : a + 1 ≤ n = pos a n h (eqb-false n a q) in
-        rw (q, row) (ap later (ih d (omega arith)) ∙ ap At (omega arith))
+        rw (q, row) (ap later (ih d (omega arith)) ∙ ap Some (omega arith))
 
 -- a place, so many elements on
 later_by : ℕ → Place → Place
@@ -113,44 +113,44 @@ past_row (suc k) a n r h = go (eqb n a) refl (past_row k (a + 1) n r)
     go true q ih = let e = eqb-true n a q in absurd (⊎_elim (λ (l : n < a). omega arith) (λ (l : a + suc k ≤ n). omega arith) h)
     go false q ih = rw (q, row) (ap later (ih (⊎_elim (λ (l : n < a). inl (omega arith)) (λ (l : a + suc k ≤ n). inr (omega arith)) h)))
 
-pub slot_is : (n : ℕ) → 20 ≤ n → n < 30 → slot n ≡ At (n - 20)
+pub slot_is : (n : ℕ) → 20 ≤ n → n < 30 → slot n ≡ Some (n - 20)
 unfolding slot row
 slot_is n h l = in_row 10 20 n (40 ∷ 46 ∷ 47 ∷ []) h (omega arith)
 
-pub slot-40 : slot 40 ≡ At 10
+pub slot-40 : slot 40 ≡ Some 10
 unfolding slot
 slot-40 = refl
 
-pub slot-46 : slot 46 ≡ At 11
+pub slot-46 : slot 46 ≡ Some 11
 unfolding slot
 slot-46 = refl
 
-pub slot-47 : slot 47 ≡ At 12
+pub slot-47 : slot 47 ≡ Some 12
 unfolding slot
 slot-47 = refl
 
-pub slot-44 : slot 44 ≡ Nowhere
+pub slot-44 : slot 44 ≡ None
 unfolding slot
 slot-44 = refl
 
-pub slot-45 : slot 45 ≡ Nowhere
+pub slot-45 : slot 45 ≡ None
 unfolding slot
 slot-45 = refl
 
 -- a number that is none of them
-pub slot-none : (n : ℕ) → (n < 20) ⊎ (30 ≤ n) → (n ≡ 40 → ⊥) → (n ≡ 46 → ⊥) → (n ≡ 47 → ⊥) → slot n ≡ Nowhere
+pub slot-none : (n : ℕ) → (n < 20) ⊎ (30 ≤ n) → (n ≡ 40 → ⊥) → (n ≡ 46 → ⊥) → (n ≡ 47 → ⊥) → slot n ≡ None
 unfolding slot row later_by
 slot-none n h a b c =
     past_row 10 20 n (40 ∷ 46 ∷ 47 ∷ []) (⊎_elim (λ (l : n < 20). inl l) (λ (l : 30 ≤ n). inr (omega arith)) h)
-    ∙ (λ j. later_by 10 (cond (ne_eqb n 40 a j) (At 0) (later (cond (ne_eqb n 46 b j) (At 0) (later (cond (ne_eqb n 47 c j) (At 0) Nowhere))))))
+    ∙ (λ j. later_by 10 (cond (ne_eqb n 40 a j) (Some 0) (later (cond (ne_eqb n 46 b j) (Some 0) (later (cond (ne_eqb n 47 c j) (Some 0) None))))))
 
 pub length-count : (n : ℕ) (ds : List ℕ) → length (count_drop_of n ds) ≡ length ds
 unfolding count_drop_of
 length-count n ds = go (slot n)
   where
     go : (p : Place) → length (count_at_lem p ds) ≡ length ds
-    go (At i) = length-set ds i _
-    go Nowhere = refl
+    go (Some i) = length-set ds i _
+    go None = refl
 
 -- a drop's own count is one more, the others stay
 count-slot : (n m : ℕ) (ds : List ℕ) → length ds ≡ slots → is_counted m ≡ true
@@ -160,14 +160,14 @@ count-slot n m ds h k = go (slot n) (eqb n m) refl refl
   where
     go : (p : Place) (c : Bool) → slot n ≡ p → eqb n m ≡ c
         → get_or (count_at_lem (slot n) ds) (value (slot m)) 0 ≡ raised (cond (eqb n m) 1 0) (get_or ds (value (slot m)) 0)
-    go (At i) true p q =
+    go (Some i) true p q =
         let e : i ≡ value (slot m) = ap value (sym p ∙ ap slot (eqb-true n m q)) in
         let b = slot-below m k in
         rw (p, q, e) (get_or-set_same ds (value (slot m)) (bump (get_or ds (value (slot m)) 0)) 0 (omega arith) ∙ bump-raises (get_or ds (value (slot m)) 0))
-    go (At i) false p q =
+    go (Some i) false p q =
         rw (p, q) (get_or-set_other ds i (value (slot m)) _ 0 (λ d. eqb-false n m q (slot-one n m (ap located p) k (ap value p ∙ sym d))) ∙ omega arith)
-    go Nowhere true p q = let z : ◌≡◌ {A = ℕ} 0 1 = cc (ap located p, k, eqb-true n m q) in absurd (omega arith)
-    go Nowhere false p q = rw (p, q) (omega arith)
+    go None true p q = let z : ◌≡◌ {A = ℕ} 0 1 = cc (ap located p, k, eqb-true n m q) in absurd (omega arith)
+    go None false p q = rw (p, q) (omega arith)
 
 -- where no count is at its stop afterwards, none was, and the sum is one more
 set_sum : (ds : List ℕ) (i : ℕ) → i < length ds → Below (set ds i (bump (get_or ds i 0))) → Below ds × (sum (set ds i (bump (get_or ds i 0))) ≡ sum ds + 1)
@@ -180,10 +180,10 @@ unfolding count_drop_of
 count-sum n ds h e = go (slot n) refl
   where
     go : (p : Place) → slot n ≡ p → Below ds × (sum (count_at_lem (slot n) ds) ≡ sum ds + cond (located (slot n)) 1 0)
-    go (At i) p =
+    go (Some i) p =
         let b : i < slots = rw p at (slot-below n (ap located p)) in
         rw p (set_sum ds i (omega arith) (rw p at e))
-    go Nowhere p = rw p (rw p at e, omega arith)
+    go None p = rw p (rw p at e, omega arith)
 
 -- What the verdicts vs make of the counts of s: those of e.
 pub record Counts (s : State) (vs : List Verdict) (e : State) : Type 0 where

@@ -12,7 +12,7 @@ use Rattle.wire.specs.Header.{data_offset_of, header_end_of}
 use Rattle.keys.specs.declared.entry.Pair.{Pair}
 use Rattle.keys.specs.declared.entry.Entry.{Entry}
 use Rattle.keys.specs.declared.entry.Secret.{Secret}
-use Rattle.keys.specs.declared.table.Found.{Found}
+use Rattle.keys.specs.Table.{Found}
 use Rattle.keys.specs.Entry.{width, key_of}
 use Rattle.keys.proofs.EntryLaws.{width-le}
 use Rattle.tables.specs.Tables.{Tables, send_entry, md5_entry}

@@ -5,7 +5,7 @@ use Rattle.std.proofs.Common.{sym, ◌∙◌, subst₂, arith}
 use Rattle.wire.specs.Header.{sequence}
 use Rattle.keys.specs.declared.entry.Pair.{Pair}
 use Rattle.keys.specs.declared.entry.Entry.{Entry}
-use Rattle.keys.specs.declared.table.Found.{Found}
+use Rattle.keys.specs.Table.{Found}
 use Rattle.keys.specs.Entry.{key_of}
 use Rattle.tables.specs.Tables.{Tables, no_index, recv_entry, md5_entry}
 use Rattle.tables.specs.Search.{hit}

@@ -1,14 +1,12 @@
 -- Which numbers each call can give: the statements of GivenNumbers.antt, proved. Assumes nothing.
 use Prim.Native.Nat.{ℕ, zero, suc, ◌+◌, ◌≤◌}
-use Rattle.std.specs.Prelude.{◌≡◌, Bool, true, false, cond, not, ◌&&◌, ◌||◌, ◌⊎◌, length, eqb, ltb, leb}
+use Rattle.std.specs.Prelude.{◌≡◌, Bool, true, false, cond, not, ◌&&◌, ◌||◌, ◌⊎◌, length, eqb, ltb, leb, Ok, Err}
 use Rattle.std.proofs.Math.Path.{refl}
 use Rattle.std.proofs.Common.{ap, sym, ◌∙◌, inl, inr, arith, ltb-true, ltb-false, leb-true, eqb-true, ne_eqb}
 use mathlib.Core.List.{List, [], ◌∷◌, ◌++◌}
 use Rattle.std.proofs.lemmas.Bool.{eqb-false}
 use Rattle.keys.specs.declared.entry.Entry.{Entry}
-use Rattle.keys.specs.declared.table.Found.{Found}
-use Rattle.keys.specs.declared.table.Loaded.{Loaded}
-use Rattle.keys.specs.declared.table.Loaded.TheVariants.{Valid as LoadedValid, Refused as LoadedRefused}
+use Rattle.keys.specs.Table.{Found, Loaded}
 use Rattle.keys.specs.declared.table.TableKind.{TableKind}
 use Rattle.keys.specs.declared.table.TableKind.TheVariants.{Keys, Md5}
 use Rattle.keys.specs.Entry.{Item, items, entries}
@@ -18,21 +16,20 @@ use Rattle.keys.proofs.FoundLaws.{found-there}
 use Rattle.keys.proofs.LoadLaws.{valid-formed, refused-low}
 use Rattle.keys.proofs.MatchLaws.{and-true}
 use Rattle.keys.proofs.PlaceLaws.{at-below}
-use Rattle.tables.specs.declared.Admitted.{Admitted}
-use Rattle.tables.specs.declared.Admitted.TheVariants.{Valid, Refused}
-use Rattle.tables.specs.Tables.{no_index, max_entries, crossing, besides, admitted, tables_of, send_entry, any_entry, md5_entry}
+use Rattle.tables.specs.Tables.{Admitted, refused_with, no_index, max_entries, crossing, besides, admitted, tables_of, send_entry}
+use Rattle.tables.specs.Tables.{any_entry, md5_entry}
 use Rattle.tables.proofs.ValidLaws.{prepared-answer}
 use Rattle.rules.specs.declared.Outcome.{Outcome}
 use Rattle.rules.specs.declared.Outcome.TheVariants.{Good, Passed, Bad}
 use Rattle.rules.specs.declared.Connection.{Connection}
 use Rattle.rules.specs.declared.State.{State}
-use Rattle.rules.specs.declared.Done.TheVariants as D
+use Rattle.rules.specs.Done as D
 use Rattle.octets.specs.Tests.{Test, first}
 use Rattle.octets.specs.TestLaws.{each_gives, first_passes}
 use Rattle.rules.specs.Connection.{Arrival, arrival_pair_of, is_md5_of, pair_of_lem, empty}
-use Rattle.rules.specs.Calls.{refuse, is_refused, refusal, verdict_of_lem, judge_tests, check, judged, syn_is_md5, judge_syn_tests, check_syn_of}
-use Rattle.rules.specs.Calls.{judged_syn, opened_passively, unrefused, settled_by_lem, open_tests, opened_actively, opened_actively_md5, ask_tests}
-use Rattle.rules.specs.Calls.{asked, outgoing, sign_tests, check_sign, signed_by, signed}
+use Rattle.rules.specs.Calls.{refuse, is_refused, refusal, verdict_of_lem, judge_tests, check, judged, syn_is_md5, judge_syn_tests}
+use Rattle.rules.specs.Calls.{check_syn_of, judged_syn, opened_passively, unrefused, settled_by_lem, open_tests, opened_actively}
+use Rattle.rules.specs.Calls.{opened_actively_md5, ask_tests, asked, outgoing, sign_tests, check_sign, signed_by, signed}
 use Rattle.rules.specs.Lent.{Lent, tables}
 use Rattle.rules.specs.History.{judge, sign, ask}
 use Rattle.rules.proofs.GroupLaws.{unknown-passes}
@@ -84,8 +81,8 @@ each_number Md5 limit i before x = refl
 
 -- one table by itself
 abbrev Loads : ℕ → Loaded → Type 0
-Loads limit (LoadedValid n) = n ≤ limit
-Loads limit (LoadedRefused n i) = (among n table_numbers ≡ true) × (i ≤ limit)
+Loads limit (Ok n) = n ≤ limit
+Loads limit (Err f) = (among f.number table_numbers ≡ true) × (f.index ≤ limit)
 
 module _ (kind : TableKind) (limit : ℕ) where
   no-limit : (i : ℕ) (before : List Entry) (x : Item) → K.number_of (K.load_tests kind limit i before x) ≡ 0 → eqb i limit ≡ false
@@ -121,26 +118,26 @@ bytes-within k m = go (K.loaded Keys max_entries k) (K.loaded Md5 max_entries m)
 
     go : (o p : Loaded) (c : Bool) → K.loaded Keys max_entries k ≡ o → K.loaded Md5 max_entries m ≡ p → x.there ≡ c
         → Bounded max_entries (admitted k m)
-    go (LoadedRefused n i) p c e f q =
+    go (Err r) p c e f q =
         let w = rw e at (loads-within Keys max_entries k) in
-        let l = refused-low Keys max_entries n i k e in
+        let l = refused-low Keys max_entries r.number r.index k e in
         rw e (w.0, omega arith, w.1, λ z. absurd (omega (arith, l, z)))
-    go (LoadedValid n) (LoadedRefused j i) c e f q =
+    go (Ok n) (Err r) c e f q =
         let w = rw f at (loads-within Md5 max_entries m) in
-        let l = refused-low Md5 max_entries j i m f in
+        let l = refused-low Md5 max_entries r.number r.index m f in
         rw (e, f) (w.0, omega arith, w.1, λ z. absurd (omega (arith, l, z)))
-    go (LoadedValid n) (LoadedValid j) true e f q =
+    go (Ok n) (Ok j) true e f q =
         let h = found-there (K.meets_any_of (entries k)) (entries m) 0 q in
         let z : x.index ≡ 0 + h.0 = ap (λ (y : Found). y.index) h.4 in
         let w = at-below h.2 in
         let v = (valid-formed Md5 max_entries j m f).0.few in
         rw (e, f, q) (refl, omega arith, omega (arith, z, w, v), λ y. absurd (omega (arith, y)))
-    go (LoadedValid n) (LoadedValid j) false e f q = rw (e, f, q) (rw e at (loads-within Keys max_entries k))
+    go (Ok n) (Ok j) false e f q = rw (e, f, q) (rw e at (loads-within Keys max_entries k))
 
 prepared-within : (form : ℕ) (k m : List ℕ) → (form ≡ 0 → ⊥) → Bounded max_entries (tables_of form k m).answer
 prepared-within form k m z = go (prepared-answer form k m z)
   where
-    go : ((tables_of form k m).answer ≡ Refused 44 no_index) ⊎ ((n : ℕ) × ((tables_of form k m).answer ≡ Valid n) × (n ≤ max_entries))
+    go : ((tables_of form k m).answer ≡ refused_with 44 no_index) ⊎ ((n : ℕ) × ((tables_of form k m).answer ≡ Ok n) × (n ≤ max_entries))
         → Bounded max_entries (tables_of form k m).answer
     go (inl e) = rw e (refl, omega arith, omega arith, λ z. refl)
     go (inr (n, e, h)) = rw e h
@@ -186,8 +183,8 @@ table-only pass l b e = go (tables b).answer (checked-within b)
     or-true false = refl
 
     go : (o : Admitted) → Bounded max_entries o → (only pass l (refusal o) || not (is_refused o)) ≡ true
-    go (Valid n) w = or-true (among 0 l)
-    go (Refused n i) w = rw (among-every (λ (m : ℕ). among m l) n table_numbers e w.0)
+    go (Ok n) w = or-true (among 0 l)
+    go (Err r) w = rw (among-every (λ (m : ℕ). among m l) r.number table_numbers e w.0)
 
 -- 25 of a bare SYN, or pass
 pass-only : (l : List ℕ) (b : Bool) (n : ℕ) → among n l ≡ true → only true l (cond b (refuse n) Passed) ≡ true

@@ -1,12 +1,11 @@
 -- What the groups of tests leave, each by its name: nothing here or above says at which place a test stands.
 -- Assumes nothing.
-use Rattle.std.specs.Prelude.{ℕ, ◌≡◌, refl, Bool, not, true, false, List, ◌∷◌}
+use Rattle.std.specs.Prelude.{ℕ, ◌≡◌, refl, Bool, not, true, false, List, ◌∷◌, Some}
 use Rattle.std.proofs.Common.{ap}
 use Rattle.octets.specs.Tests.{joined, first}
 use Rattle.wire.specs.Header.{sequence, size_faults, well_sized_of}
 use Rattle.keys.specs.declared.entry.Pair.{Pair}
 use Rattle.tables.specs.Tables.{Tables, recv_entry, any_entry, md5_entry}
-use Rattle.rules.specs.declared.Place.TheVariants.{At}
 use Rattle.rules.specs.declared.Outcome.{Outcome}
 use Rattle.rules.specs.declared.Outcome.TheVariants.{Passed}
 use Rattle.rules.specs.declared.Connection.{Connection}
@@ -70,12 +69,12 @@ module _ (t : Tables) (a : Arrival) (strict : Bool) where
   pub syn-key-ao : syn_is_md5 t (arrival_pair_of a) ≡ false
       → (syn_groups t a strict).key
       ≡ key_tests (syn_missing_of t (arrival_pair_of a)) (syn_unknown_of t (arrival_pair_of a) strict) (recv_entry t (arrival_pair_of a) (key_id_of a.segment))
-      (At (sequence a.segment)) a.segment
+      (Some (sequence a.segment)) a.segment
   syn-key-ao e = rw e
 
   pub syn-mac-ao : syn_is_md5 t (arrival_pair_of a) ≡ false
       → (syn_groups t a strict).mac
-      ≡ mac_tests (recv_entry t (arrival_pair_of a) (key_id_of a.segment)).entry (arriving_syn a) (At (sequence a.segment)) a.segment
+      ≡ mac_tests (recv_entry t (arrival_pair_of a) (key_id_of a.segment)).entry (arriving_syn a) (Some (sequence a.segment)) a.segment
   syn-mac-ao e = rw e
 
   pub syn-key-md5 : syn_is_md5 t (arrival_pair_of a) ≡ true → (syn_groups t a strict).key ≡ md5_tests (md5_entry t (arrival_pair_of a)) a.segment

@@ -1,22 +1,20 @@
 -- The statement of Kept holds of every state: judging, signing and asking on an open connection leave what it is, and what `Typed` says.
 -- Assumes nothing of tables, bytes or the calls' order.
-use Rattle.std.specs.Prelude.{ℕ, ◌+◌, ◌-◌, ◌^◌, ◌<◌, ◌≡◌, refl, Bool, true, false, cond, List, [], ◌∷◌, length, ltb, leb}
+use Rattle.std.specs.Prelude.{ℕ, ◌+◌, ◌-◌, ◌^◌, ◌<◌, ◌≡◌, refl, Bool, true, false, cond, List, [], ◌∷◌, length, ltb, leb, Some, None}
 use Rattle.std.proofs.Common.{ap, sym, ◌∙◌, subst, arith, ltb-true}
 use Rattle.tables.specs.Tables.{Tables}
 use Rattle.wire.specs.Header.{sequence}
-use Rattle.rules.specs.declared.Place.{Place}
-use Rattle.rules.specs.declared.Place.TheVariants.{At, Nowhere}
+use Rattle.rules.specs.Position.{Place, position, wrapping_difference}
 use Rattle.rules.specs.declared.Outcome.{Outcome}
 use Rattle.rules.specs.declared.Outcome.TheVariants.{Good, Passed, Bad}
 use Rattle.rules.specs.declared.Connection.{Connection}
 use Rattle.rules.specs.declared.State.{State}
-use Rattle.rules.specs.Position.{position, wrapping_difference}
 use Rattle.octets.specs.Tests.{first}
 use Rattle.rules.specs.Segment.{rnext_key_id}
 use Rattle.rules.specs.Connection.{Arrival, is_open_of, is_md5_of, place_on_lem, value, with_counted_of, with_asked_of}
-use Rattle.rules.specs.Calls.{good_by, judge_groups, check, judged, accepted_on_lem, after_judging_of, ask_tests, unrefused, settled_by_lem, asked}
+use Rattle.rules.specs.Calls.{good_by, judge_groups, check, judged, accepted_on_lem, after_judging_of, ask_tests, unrefused, settled_by_lem}
+use Rattle.rules.specs.Calls.{asked, check_sign, after_signing_of, signed, signed_by, outgoing}
 use Rattle.rules.specs.Lent.{tables}
-use Rattle.rules.specs.Calls.{check_sign, after_signing_of, signed, signed_by, outgoing}
 use Rattle.rules.proofs.GroupLaws.{first-clear}
 use Rattle.rules.proofs.JudgeLaws.{none_of}
 use Rattle.rules.proofs.SigningLaws.{signs-good}
@@ -26,7 +24,7 @@ use Rattle.rules.specs.History.{Call, judge, sign, ask, next, ended}
 use Rattle.rules.specs.Kept.{Kept, CallsKeep}
 
 -- a position lies below 2^64
-position-below : (reference s x : ℕ) → reference < 2 ^ 64 → position reference s ≡ At x → x < 2 ^ 64
+position-below : (reference s x : ℕ) → reference < 2 ^ 64 → position reference s ≡ Some x → x < 2 ^ 64
 unfolding position
 position-below reference s x h e =
     go (ltb d (2 ^ 31)) (ltb (reference + d) (2 ^ 64)) (ltb (2 ^ 31) d) (leb (2 ^ 32 - d) reference) refl refl refl refl
@@ -50,8 +48,8 @@ at_value : (l : Connection) (reference s x : ℕ) → is_open_of l ≡ true → 
 at_value l reference s x o w h e = go (position reference s) refl
   where
     go : (p : Place) → position reference s ≡ p → x < 2 ^ 64
-    go (At y) q = let z : y ≡ x = cc (rw (o, w, q) at e) in subst (λ (n : ℕ). n < 2 ^ 64) z (position-below reference s y h q)
-    go Nowhere q = let z : 0 ≡ x = cc (rw (o, w, q) at e) in omega (arith, z)
+    go (Some y) q = let z : y ≡ x = cc (rw (o, w, q) at e) in subst (λ (n : ℕ). n < 2 ^ 64) z (position-below reference s y h q)
+    go None q = let z : 0 ≡ x = cc (rw (o, w, q) at e) in omega (arith, z)
 
 -- what an accepted segment comes to: its position and, on the TCP-AO way, its RNextKeyID
 pub good-is : (t : Tables) (l : Connection) (reference : ℕ) (a : Arrival) (x r : ℕ) → check t l reference a ≡ Good x r

@@ -1,11 +1,9 @@
 -- What lent tables are, where they are not refused: entries that valid bytes could hold, and what is found among them proper.
-use Rattle.std.specs.Prelude.{ℕ, ◌≡◌, refl, true, false}
+use Rattle.std.specs.Prelude.{ℕ, ◌≡◌, refl, true, false, Ok, Err}
 use Rattle.std.proofs.Common.{sym, ap, ◌∙◌, subst, arith}
 use Rattle.keys.proofs.FormedLaws.{KeyProper, Md5Proper}
 use Rattle.keys.specs.declared.entry.Pair.{Pair}
-use Rattle.tables.specs.declared.Admitted.{Admitted}
-use Rattle.tables.specs.declared.Admitted.TheVariants.{Valid, Refused}
-use Rattle.tables.specs.Tables.{Tables, tables_of, send_entry, md5_entry}
+use Rattle.tables.specs.Tables.{Admitted, Tables, tables_of, send_entry, md5_entry}
 use Rattle.tables.specs.Valid.{Held, ValidTables}
 use Rattle.tables.proofs.ValidLaws.{valid-bytes, valid-apart, taken-held}
 use Rattle.tables.proofs.SearchLaws.{send-proper, md5-proper}
@@ -25,8 +23,8 @@ pub lent-taken : (b : Lent) → is_refused (tables b).answer ≡ false → Held 
 lent-taken b e = go (tables b).answer refl
   where
     go : (o : Admitted) → (tables b).answer ≡ o → Held (tables b)
-    go (Valid n) q = taken-held b.form b.keys b.md5 n q
-    go (Refused n i) q = let z : ◌≡◌ {A = ℕ} 0 1 = cc (rw q at e) in absurd (omega arith)
+    go (Ok n) q = taken-held b.form b.keys b.md5 n q
+    go (Err r) q = let z : ◌≡◌ {A = ℕ} 0 1 = cc (rw q at e) in absurd (omega arith)
 
 -- so the entry that is found for a pair and a SendID, and the MD5 entry that is found for a pair
 

@@ -1,5 +1,5 @@
 -- Document 02's sentences of Md5Sentences.antt, proved.
-use Rattle.std.specs.Prelude.{ℕ, ◌+◌, ◌-◌, ◌≤◌, ◌≡◌, refl, Bool, true, false, cond, List, [], ◌∷◌, ◌++◌, length, take, drop}
+use Rattle.std.specs.Prelude.{ℕ, ◌+◌, ◌-◌, ◌≤◌, ◌≡◌, refl, Bool, true, false, cond, List, [], ◌∷◌, ◌++◌, length, take, drop, Some}
 use Rattle.std.proofs.Common.{ap, ◌∙◌, subst, arith, ltb-false}
 use Rattle.std.proofs.Math.Seq.{take-append-add}
 use Rattle.std.proofs.lemmas.Bool.{not-true}
@@ -10,12 +10,11 @@ use Rattle.wire.specs.Header.{sequence, data_offset_of, header_end_of, size_faul
 use Rattle.wire.specs.Options.{options_of, read_from}
 use Rattle.wire.specs.Prefix.{agree, clear_to}
 use Rattle.keys.specs.Algorithm.{mac_bytes_of}
-use Rattle.keys.specs.Entry.{known_kind_of, family_of_lem, extra, body, width, side_of, selector_of_lem, ids_of, mac_length_of, secret_of_lem, entry_of, item, items}
-use Rattle.keys.specs.Entry.{entries_of}
+use Rattle.keys.specs.Entry.{known_kind_of, family_of_lem, extra, body, width, side_of, selector_of_lem, ids_of, mac_length_of}
+use Rattle.keys.specs.Entry.{secret_of_lem, entry_of, item, items, entries_of}
 use Rattle.keys.specs.Match.{holds, matches, meet, overlap, share, clash}
 use Rattle.keys.specs.Table.{any_of, number_of, clashing, loaded_from, loaded, nobody, found, answers, meets_any_of}
 use Rattle.tables.specs.Tables.{besides, admitted, md5_entry}
-use Rattle.rules.specs.declared.Place.TheVariants.{At}
 use Rattle.rules.specs.declared.Outcome.{Outcome}
 use Rattle.rules.specs.declared.Outcome.TheVariants.{Good}
 use Rattle.rules.specs.Mac.{pseudo_header, blank}
@@ -32,9 +31,9 @@ use Rattle.rules.proofs.InsertedLaws.{fixed, head_of, shape}
 use Rattle.rules.proofs.DeliveryLaws.{outgoing-md5}
 use Rattle.rules.proofs.SentenceLaws.{first_flat, sign-rows}
 use Rattle.rules.specs.Md5Sentences.{judge_rows_md5, syn_rows_md5, JudgeTableMd5, SynTableMd5, SignTableMd5, EntryOrderMd5, ListedMd5}
+use Rattle.rules.specs.Md5Sentences.{OpenActiveMd5Table, WayNumbers, CrossedExample, Md5Keys, Md5Options, DigestOf, SignedAsMd5}
+use Rattle.rules.specs.Md5Sentences.{SignedExampleMd5, DigestedBytes, ReadBack}
 use Rattle.rules.specs.Sentences.{open_rows}
-use Rattle.rules.specs.Md5Sentences.{OpenActiveMd5Table, WayNumbers, CrossedExample, Md5Keys, Md5Options}
-use Rattle.rules.specs.Md5Sentences.{DigestOf, SignedAsMd5, SignedExampleMd5, DigestedBytes, ReadBack}
 
 pub judge-table-md5 : JudgeTableMd5
 unfolding check segment_sum_of
@@ -53,13 +52,13 @@ syn-table-md5 t a strict way =
     let g = syn_groups t a strict in
     (λ j. first
     (joined (g.input ∷ g.size ∷ g.sum ∷ g.form ∷ g.arrival ∷ syn-key-md5 t a strict way j ∷ syn-mac-md5 t a strict way j ∷ []))
-    (good_by (way j) (At (sequence a.segment)) a.segment))
+    (good_by (way j) (Some (sequence a.segment)) a.segment))
     ∙ rw way
     (first_flat (syn_rows_md5 t (md5_entry t (arrival_pair_of a)) a) (Good (sequence a.segment) 0))
 
 pub sign-table-md5 : SignTableMd5
 sign-table-md5 t s room q way =
-    sign-rows t s room q (md5_entry t q.conn.pair) (At (sequence s)) 5 (outgoing-md5 t q way)
+    sign-rows t s room q (md5_entry t q.conn.pair) (Some (sequence s)) 5 (outgoing-md5 t q way)
     (place-md5 q.conn q.sent (sequence s) way)
     (ap (λ (b : Bool). cond b md5_option_bytes (added_bytes_of (outgoing t q).entry)) way)
 

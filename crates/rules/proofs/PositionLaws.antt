@@ -1,7 +1,6 @@
 -- `position` is the number that document 01's sentence describes: complete, sound, unique. And where it is none, the answer is 28 or 36.
-use Rattle.std.specs.Prelude.{ℕ, ◌+◌, ◌-◌, ◌^◌, ◌≤◌, ◌<◌, ◌≡◌, refl, Bool, true, false, ltb, leb}
+use Rattle.std.specs.Prelude.{ℕ, ◌+◌, ◌-◌, ◌^◌, ◌≤◌, ◌<◌, ◌≡◌, refl, Bool, true, false, ltb, leb, Some, None}
 use Rattle.std.proofs.Common.{ap, arith, ltb-true, ltb-false, leb-true, lt-ltb, le-leb}
-use Rattle.rules.specs.declared.Place.TheVariants.{At, Nowhere}
 use Rattle.rules.specs.Position.{wrapping_difference, position, Near, Complete, Sound, Unique}
 use Rattle.rules.specs.declared.Connection.{Connection}
 use Rattle.rules.specs.Connection.{is_open_of, is_md5_of, place_on_lem}
@@ -12,7 +11,7 @@ pub complete : Complete
 unfolding position
 complete reference s x n = go (ltb (wrapping_difference s reference) (2 ^ 31)) refl
   where
-    go : (b : Bool) → ltb (wrapping_difference s reference) (2 ^ 31) ≡ b → position reference s ≡ At x
+    go : (b : Bool) → ltb (wrapping_difference s reference) (2 ^ 31) ≡ b → position reference s ≡ Some x
     go true e =
         let h : wrapping_difference s reference < 2 ^ 31 = ltb-true _ _ e in
         let q : reference + wrapping_difference s reference ≡ x = omega arith in
@@ -21,7 +20,7 @@ complete reference s x n = go (ltb (wrapping_difference s reference) (2 ^ 31)) r
         let h : 2 ^ 31 ≤ wrapping_difference s reference = ltb-false _ _ e in
         let q : reference + wrapping_difference s reference ≡ x + 2 ^ 32 = omega arith in
         simp (e, lt-ltb (2 ^ 31) (wrapping_difference s reference) (omega arith), le-leb (2 ^ 32 - wrapping_difference s reference) reference (omega arith), position)
-        (ap At (omega arith))
+        (ap Some (omega arith))
 
 pub sound : Sound
 unfolding position
@@ -52,13 +51,13 @@ unique reference s x y n m = omega arith
 
 pub place-answer : PlaceAnswers
 unfolding place_answer
-place-answer n (At x) = refl
-place-answer n Nowhere = refl
+place-answer n (Some x) = refl
+place-answer n None = refl
 
 -- on the MD5 way every segment has its own number as position
-pub place-md5 : (l : Connection) (reference s : ℕ) → is_md5_of l ≡ true → place_on_lem l reference s ≡ At s
+pub place-md5 : (l : Connection) (reference s : ℕ) → is_md5_of l ≡ true → place_on_lem l reference s ≡ Some s
 place-md5 l reference s way = go (is_open_of l) refl
   where
-    go : (b : Bool) → is_open_of l ≡ b → place_on_lem l reference s ≡ At s
+    go : (b : Bool) → is_open_of l ≡ b → place_on_lem l reference s ≡ Some s
     go true o = rw (o, way)
     go false o = rw o

@@ -1,29 +1,26 @@
 -- The statements of References.antt, proved.
-use Rattle.std.specs.Prelude.{ℕ, ◌+◌, ◌-◌, ◌<◌, max, ◌≡◌, refl, Bool, true, false, cond, List, length, get_or, set, ltb}
+use Rattle.std.specs.Prelude.{ℕ, ◌+◌, ◌-◌, ◌<◌, max, ◌≡◌, refl, Bool, true, false, cond, List, length, get_or, set, ltb, Ok, Err, Some}
+use Rattle.std.specs.Prelude.{None}
 use Rattle.std.proofs.Common.{ap, sym, ◌∙◌, subst, inl, arith, ltb-true, ltb-false}
 use Rattle.std.proofs.lemmas.Bool.{not-false}
 use Rattle.wire.specs.Header.{sequence}
 use Rattle.keys.specs.declared.entry.Entry.{Entry}
-use Rattle.tables.specs.declared.Admitted.{Admitted}
-use Rattle.tables.specs.declared.Admitted.TheVariants.{Valid, Refused}
-use Rattle.tables.specs.Tables.{Tables, send_entry, recv_entry, any_entry, md5_entry}
-use Rattle.rules.specs.declared.Place.{Place}
-use Rattle.rules.specs.declared.Place.TheVariants.{At, Nowhere}
+use Rattle.tables.specs.Tables.{Admitted, Tables, send_entry, recv_entry, any_entry, md5_entry}
+use Rattle.rules.specs.Position.{Place, position}
 use Rattle.rules.specs.declared.Outcome.{Outcome}
 use Rattle.rules.specs.declared.Outcome.TheVariants.{Good, Passed, Bad}
 use Rattle.rules.specs.declared.Verdict.TheVariants.{Accept, Drop}
 use Rattle.rules.specs.declared.State.{State}
-use Rattle.rules.specs.declared.Signing.TheVariants as S
-use Rattle.rules.specs.declared.Done.TheVariants as D
+use Rattle.rules.specs.Signing as S
+use Rattle.rules.specs.Done as D
 use Rattle.octets.specs.Tests.{first}
 use Rattle.octets.specs.TestLaws.{NoneApplies, each_gives, first-none, none-applied}
-use Rattle.rules.specs.Position.{position}
 use Rattle.rules.specs.Segment.{key_id_of, rnext_key_id}
-use Rattle.rules.specs.Connection.{Arrival, pair_of_lem, arrival_pair_of, is_open_of, is_md5_of, place_on_lem, located, value, bump, stop, slot, count_at_lem}
-use Rattle.rules.specs.Connection.{count_drop_of, next_key_of, empty, with_drop_of, with_asked_of}
-use Rattle.rules.specs.Calls.{refuse, refusal, good_by, check, check_syn_of, judge_groups, syn_is_md5, judge_syn_tests, after_judging_of, judged}
-use Rattle.rules.specs.Calls.{opened_on, opened_by_lem, opened_passively, settled_by_lem, unrefused, open_tests, opened_actively, opened_actively_md5}
-use Rattle.rules.specs.Calls.{ask_tests, asked, outgoing, check_sign, after_signing_of, signed_by, signed}
+use Rattle.rules.specs.Connection.{Arrival, pair_of_lem, arrival_pair_of, is_open_of, is_md5_of, place_on_lem, located, value, bump, stop}
+use Rattle.rules.specs.Connection.{slot, count_at_lem, count_drop_of, next_key_of, empty, with_drop_of, with_asked_of}
+use Rattle.rules.specs.Calls.{refuse, refusal, good_by, check, check_syn_of, judge_groups, syn_is_md5, judge_syn_tests, after_judging_of}
+use Rattle.rules.specs.Calls.{judged, opened_on, opened_by_lem, opened_passively, settled_by_lem, unrefused, open_tests, opened_actively}
+use Rattle.rules.specs.Calls.{opened_actively_md5, ask_tests, asked, outgoing, check_sign, after_signing_of, signed_by, signed}
 use Rattle.rules.proofs.PositionLaws.{place-md5}
 use Rattle.rules.proofs.JudgeLaws.{none_of}
 use Rattle.rules.proofs.SigningLaws.{signs-good, signed-good}
@@ -33,19 +30,18 @@ use Rattle.rules.proofs.KeptLaws.{good-is}
 use Rattle.rules.proofs.GivenNumberLaws.{ask-not-passed, open-not-passed}
 use Rattle.rules.specs.References.{count_up, SignedOpen, SignedOpenMd5, SignedOpening, OpensActively, OpensActivelyMd5, OpensPassively}
 use Rattle.rules.specs.References.{OpensPassivelyMd5, SynAckOpens, SynAckOpensMd5, AcceptedOpen, AcceptedOpenMd5, dropped_to, DropCounted}
-use Rattle.rules.specs.References.{Drop40Counted, Drop46Counted, Drop47Counted, DropUncounted, Drop44Uncounted}
-use Rattle.rules.specs.References.{Drop45Uncounted, DropOpening}
-use Rattle.rules.specs.References.{SigningRefused, Asks, AskingRefused}
+use Rattle.rules.specs.References.{Drop40Counted, Drop46Counted, Drop47Counted, DropUncounted, Drop44Uncounted, Drop45Uncounted}
+use Rattle.rules.specs.References.{DropOpening, SigningRefused, Asks, AskingRefused}
 
 -- a place that is there
-at_value : (p : Place) → located p ≡ true → p ≡ At (value p)
-at_value (At x) e = refl
-at_value Nowhere e = let z : ◌≡◌ {A = ℕ} 0 1 = cc in absurd (omega arith)
+at_value : (p : Place) → located p ≡ true → p ≡ Some (value p)
+at_value (Some x) e = refl
+at_value None e = let z : ◌≡◌ {A = ℕ} 0 1 = cc in absurd (omega arith)
 
 -- Signing.
 
 signed-state : (t : Tables) (s out : List ℕ) (q : State) (n : ℕ) → (signed t s out q).answer ≡ S.Signed n
-    → (place_on_lem q.conn q.sent (sequence s) ≡ At (value (place_on_lem q.conn q.sent (sequence s))))
+    → (place_on_lem q.conn q.sent (sequence s) ≡ Some (value (place_on_lem q.conn q.sent (sequence s))))
     × ((signed t s out q).state ≡ after_signing_of (value (place_on_lem q.conn q.sent (sequence s))) q)
 unfolding signed
 signed-state t s out q n e =
@@ -87,24 +83,24 @@ missing-not-good true n = refl
 missing-not-good false n = refl
 
 table-not-good : (o : Admitted) → not_good (refusal o) ≡ true
-table-not-good (Valid n) = refl
-table-not-good (Refused n i) = refl
+table-not-good (Ok n) = refl
+table-not-good (Err r) = refl
 
 abbrev place_of : State → Arrival → Place
 place_of q a = place_on_lem q.conn q.seen (sequence a.segment)
 
 -- a place is found on either way
-good-located : (t : Tables) (a : Arrival) (q : State) → Clear (judge_groups t q.conn q.seen a) → place_of q a ≡ At (value (place_of q a))
+good-located : (t : Tables) (a : Arrival) (q : State) → Clear (judge_groups t q.conn q.seen a) → place_of q a ≡ Some (value (place_of q a))
 good-located t a q c = go (is_md5_of q.conn) refl
   where
-    go : (b : Bool) → is_md5_of q.conn ≡ b → place_of q a ≡ At (value (place_of q a))
-    go true w = let p = place-md5 q.conn q.seen (sequence a.segment) w in p ∙ ap (λ (x : Place). At (value x)) (sym p)
+    go : (b : Bool) → is_md5_of q.conn ≡ b → place_of q a ≡ Some (value (place_of q a))
+    go true w = let p = place-md5 q.conn q.seen (sequence a.segment) w in p ∙ ap (λ (x : Place). Some (value x)) (sym p)
     go false w =
         at_value (place_of q a)
         (not-false (located (place_of q a)) (subst NoneApplies (key-ao t q.conn q.seen a w) c.key).1.1.1.0)
 
 good-at : (t : Tables) (a : Arrival) (q : State) (x r : ℕ) → check t q.conn q.seen a ≡ Good x r
-    → (place_of q a ≡ At (value (place_of q a))) × (value (place_of q a) ≡ x) × (cond (is_md5_of q.conn) 0 (rnext_key_id a.segment) ≡ r)
+    → (place_of q a ≡ Some (value (place_of q a))) × (value (place_of q a) ≡ x) × (cond (is_md5_of q.conn) 0 (rnext_key_id a.segment) ≡ r)
 good-at t a q x r e =
     let g = good-is t q.conn q.seen a x r e in
     (good-located t a q (none_of t q.conn q.seen a x r e), g.0, g.1)
@@ -115,7 +111,7 @@ unfolding check_syn_of
 syn-good t a strict x r e =
     let n = none-applied not_good (judge_syn_tests t a strict) _ (each (syn_is_md5 t (arrival_pair_of a)) refl) (ap not_good e) in
     let g =
-    sym (first-none (judge_syn_tests t a strict) (good_by (syn_is_md5 t (arrival_pair_of a)) (At (sequence a.segment)) a.segment) n) ∙ e in
+    sym (first-none (judge_syn_tests t a strict) (good_by (syn_is_md5 t (arrival_pair_of a)) (Some (sequence a.segment)) a.segment) n) ∙ e in
     (cc, cc)
   where
     each : (b : Bool) → syn_is_md5 t (arrival_pair_of a) ≡ b → each_gives not_good (judge_syn_tests t a strict) ≡ true
@@ -127,7 +123,7 @@ syn-good t a strict x r e =
 
 -- The openings.
 
-settled-done : (o : Outcome) (old new : State) → (o ≡ Passed → ⊥) → (settled_by_lem o old new).answer ≡ D.Done → (settled_by_lem o old new).state ≡ new
+settled-done : (o : Outcome) (old new : State) → (o ≡ Passed → ⊥) → (settled_by_lem o old new).answer ≡ D.Succeeded → (settled_by_lem o old new).state ≡ new
 settled-done (Good x r) old new p e = refl
 settled-done Passed old new p e = absurd (p refl)
 settled-done (Bad n i) old new p e = let z : ◌≡◌ {A = ℕ} 0 1 = cc in absurd (omega arith)
@@ -182,7 +178,7 @@ judged-good t a q e v = go (check t q.conn q.seen a) refl
     go (Bad n i) f = let z : ◌≡◌ {A = ℕ} 0 1 = cc (rw f at v) in absurd (omega arith)
 
 after-good : (t : Tables) (a : Arrival) (q : State) (e : ℕ) → (judged t a q).verdict ≡ Accept e
-    → (place_of q a ≡ At (value (place_of q a)))
+    → (place_of q a ≡ Some (value (place_of q a)))
     × ((judged t a q).state ≡ after_judging_of t q (Good (value (place_of q a)) (cond (is_md5_of q.conn) 0 (rnext_key_id a.segment))))
 unfolding judged
 after-good t a q e v =
@@ -246,7 +242,7 @@ after-drop t a q n v = go (check t q.conn q.seen a) refl
     go (Bad m i) f = let z : m ≡ n = cc (rw f at v) in rw f (ap (λ (k : ℕ). cond (is_open_of q.conn) (with_drop_of k q) q) z)
 
 -- a drop whose number has the place i
-counted-at : (t : Tables) (a : Arrival) (q : State) (n i : ℕ) → slot n ≡ At i → is_open_of q.conn ≡ true
+counted-at : (t : Tables) (a : Arrival) (q : State) (n i : ℕ) → slot n ≡ Some i → is_open_of q.conn ≡ true
     → get_or q.drops i 0 < 18446744073709551616 → (judged t a q).verdict ≡ Drop n
     → (judged t a q).state ≡ dropped_to (set q.drops i (count_up (get_or q.drops i 0))) q
 unfolding count_drop_of
@@ -258,7 +254,7 @@ counted-at t a q n i place opens l v =
 pub drop-counted : DropCounted
 drop-counted t a q i opens h l v =
     let it : 20 + i - 20 ≡ i = omega arith in
-    counted-at t a q (20 + i) i (slot_is (20 + i) (omega arith) (omega arith) ∙ ap At it) opens l v
+    counted-at t a q (20 + i) i (slot_is (20 + i) (omega arith) (omega arith) ∙ ap Some it) opens l v
 
 pub drop-40-counted : Drop40Counted
 drop-40-counted t a q opens l v = counted-at t a q 40 10 slot-40 opens l v
@@ -270,7 +266,7 @@ pub drop-47-counted : Drop47Counted
 drop-47-counted t a q opens l v = counted-at t a q 47 12 slot-47 opens l v
 
 -- a drop whose number has no place
-uncounted : (t : Tables) (a : Arrival) (q : State) (n : ℕ) → slot n ≡ Nowhere → (judged t a q).verdict ≡ Drop n → (judged t a q).state ≡ q
+uncounted : (t : Tables) (a : Arrival) (q : State) (n : ℕ) → slot n ≡ None → (judged t a q).verdict ≡ Drop n → (judged t a q).state ≡ q
 unfolding count_drop_of
 uncounted t a q n place v = go (is_open_of q.conn) refl
   where

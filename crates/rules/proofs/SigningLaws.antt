@@ -6,11 +6,11 @@ use Rattle.std.proofs.lemmas.Bool.{not-false}
 use Rattle.wire.specs.Header.{source_port_of, destination_port_of, sequence, data_offset_of, header_end_of, syn}
 use Rattle.keys.specs.Entry.{is_family_of}
 use Rattle.tables.specs.Tables.{Tables}
-use Rattle.rules.specs.declared.Place.{Place}
+use Rattle.rules.specs.Position.{Place}
 use Rattle.rules.specs.declared.Outcome.{Outcome}
 use Rattle.rules.specs.declared.Outcome.TheVariants.{Good, Passed, Bad}
 use Rattle.rules.specs.declared.State.{State}
-use Rattle.rules.specs.declared.Signing.TheVariants as S
+use Rattle.rules.specs.Signing as S
 use Rattle.octets.specs.TestLaws.{NoneApplies, first-none, none-applied}
 use Rattle.rules.proofs.JudgeLaws.{is_bad, refusal-bad}
 use Rattle.rules.specs.Segment.{ao, md5, is_bare_syn_of}

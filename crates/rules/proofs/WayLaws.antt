@@ -1,5 +1,5 @@
 -- The two ways, proved: the statements of Ways.antt. Assumes nothing of tables or of the calls' order.
-use Rattle.std.specs.Prelude.{ℕ, ◌≡◌, Bool, cond, not, List, [], ◌∷◌, length, eqb}
+use Rattle.std.specs.Prelude.{ℕ, ◌≡◌, Bool, cond, not, List, [], ◌∷◌, length, eqb, Ok, Err, Some}
 use Rattle.std.proofs.Math.Path.{refl, sym, subst⁻¹}
 use Rattle.std.proofs.Common.{ap, ap₂, ◌∙◌, subst, arith, ltb-false, eqb-true}
 use Rattle.std.proofs.Math.Bool.{true, false}
@@ -11,13 +11,10 @@ use Rattle.wire.proofs.BytesLaws.{eq-of-same}
 use Rattle.wire.specs.Header.{sequence}
 use Rattle.keys.specs.declared.entry.Pair.{Pair}
 use Rattle.keys.specs.declared.entry.Entry.{Entry}
-use Rattle.keys.specs.declared.table.Found.{Found}
+use Rattle.keys.specs.Table.{Found}
 use Rattle.keys.specs.Entry.{is_family_of, key_of}
-use Rattle.tables.specs.declared.Admitted.{Admitted}
-use Rattle.tables.specs.declared.Admitted.TheVariants.{Valid, Refused}
-use Rattle.tables.specs.Tables.{Tables, recv_entry, any_entry, md5_entry}
-use Rattle.rules.specs.declared.Place.{Place}
-use Rattle.rules.specs.declared.Place.TheVariants.{At}
+use Rattle.tables.specs.Tables.{Admitted, Tables, recv_entry, any_entry, md5_entry}
+use Rattle.rules.specs.Position.{Place}
 use Rattle.rules.specs.declared.Outcome.{Outcome}
 use Rattle.rules.specs.declared.Outcome.TheVariants.{Good, Passed, Bad}
 use Rattle.rules.specs.declared.Verdict.TheVariants.{Accept}
@@ -25,18 +22,19 @@ use Rattle.rules.specs.declared.State.{State}
 use Rattle.rules.specs.Segment.{ao, md5, key_id_of, digest_in}
 use Rattle.rules.specs.Digest.{segment_digest}
 use Rattle.rules.specs.Mac.{Flow}
-use Rattle.rules.specs.Connection.{Arrival, arrival_pair_of, is_open_of, is_md5_of, arriving, arriving_syn, place_on_lem, value, extension_of_lem}
-use Rattle.rules.specs.Connection.{with_asked_of}
-use Rattle.rules.specs.Calls.{refuse, is_refused, refusal, form_tests, md5_tests, digest_tests, good_by, judge_groups, check, syn_missing_of}
-use Rattle.rules.specs.Calls.{syn_is_md5, syn_groups, judge_syn_tests, check_syn_of, verdict_of_lem, after_judging_of, judged, judged_syn}
-use Rattle.rules.specs.Calls.{opened_by_lem, opened_passively, unrefused, settled_by_lem, ask_tests, asked, outgoing, check_sign, signed_by, signed}
+use Rattle.rules.specs.Connection.{Arrival, arrival_pair_of, is_open_of, is_md5_of, arriving, arriving_syn, place_on_lem, value}
+use Rattle.rules.specs.Connection.{extension_of_lem, with_asked_of}
+use Rattle.rules.specs.Calls.{refuse, is_refused, refusal, form_tests, md5_tests, digest_tests, good_by, judge_groups, check}
+use Rattle.rules.specs.Calls.{syn_missing_of, syn_is_md5, syn_groups, judge_syn_tests, check_syn_of, verdict_of_lem, after_judging_of}
+use Rattle.rules.specs.Calls.{judged, judged_syn, opened_by_lem, opened_passively, unrefused, settled_by_lem, ask_tests, asked, outgoing}
+use Rattle.rules.specs.Calls.{check_sign, signed_by, signed}
 use Rattle.rules.proofs.GroupLaws.{Clear, none-clear, first-clear, key-ao, key-md5, mac-md5, syn-key-ao, syn-key-md5, syn-mac-md5}
 use Rattle.rules.proofs.GroupLaws.{unknown-passes}
 use Rattle.rules.proofs.JudgeLaws.{nonzero, absent, none_of}
 use Rattle.rules.specs.History.{Call, judge, sign, ask, next, ended}
 use Rattle.rules.specs.Lent.{tables}
-use Rattle.rules.specs.Ways.{ByAo, ByMd5, AcceptedByMd5, AcceptedByAo, SynAcceptedByMd5, SynAcceptedByAo, OpenedByMd5, OpenedByAo}
-use Rattle.rules.specs.Ways.{WayStays, Md5Still}
+use Rattle.rules.specs.Ways.{ByAo, ByMd5, AcceptedByMd5, AcceptedByAo, SynAcceptedByMd5, SynAcceptedByAo, OpenedByMd5, OpenedByAo, WayStays}
+use Rattle.rules.specs.Ways.{Md5Still}
 use Rattle.rules.proofs.PositionLaws.{place-md5}
 use Rattle.rules.proofs.AcceptanceLaws.{sequence-below}
 
@@ -68,7 +66,7 @@ accepts Passed e v = let z : ◌≡◌ {A = ℕ} 0 1 = cc in absurd (omega arith
 accepts (Bad n i) e v = let z : ◌≡◌ {A = ℕ} 0 1 = cc in absurd (omega arith)
 
 -- "An MD5 accept has extension 0": the position is the segment's number
-no-extension : (s : List ℕ) → Octets s → (y : Place) → y ≡ At (sequence s) → (k x r e : ℕ) → Good (value y) k ≡ Good x r
+no-extension : (s : List ℕ) → Octets s → (y : Place) → y ≡ Some (sequence s) → (k x r e : ℕ) → Good (value y) k ≡ Good x r
     → extension_of_lem x ≡ e → e ≡ 0
 no-extension s octets y at k x r e g h =
     let z : sequence s ≡ x = ap value (sym at) ∙ cc in
@@ -132,8 +130,8 @@ not_good Passed = true
 not_good (Bad n i) = true
 
 refusal-not-good : (c : Admitted) → not_good (refusal c) ≡ true
-refusal-not-good (Valid n) = refl
-refusal-not-good (Refused n i) = refl
+refusal-not-good (Ok n) = refl
+refusal-not-good (Err r) = refl
 
 missing-not-good : (t : Tables) (p : Pair) → not_good (syn_missing_of t p) ≡ true
 missing-not-good t p = go (any_entry t p)
@@ -160,7 +158,7 @@ module _ (t : Tables) (a : Arrival) (strict : Bool) (e : ℕ) (v : (judged_syn t
           let unknown = unknown-passes not_good t (arrival_pair_of a) strict refl refl in
           rw (p, refusal-not-good t.answer, missing, unknown)
 
-  syn-given : good_by (syn_is_md5 t (arrival_pair_of a)) (At (sequence a.segment)) a.segment ≡ Good syn-good.0 syn-good.1
+  syn-given : good_by (syn_is_md5 t (arrival_pair_of a)) (Some (sequence a.segment)) a.segment ≡ Good syn-good.0 syn-good.1
   unfolding check_syn_of
   syn-given = sym (first-clear (syn_groups t a strict) _ syn-clear) ∙ syn-good.2
 
@@ -173,7 +171,7 @@ pub syn-accepted-by-md5 : SynAcceptedByMd5
 syn-accepted-by-md5 t a strict e octets way v = (
   by-md5 a.segment f c.form key,
   record { there = found.0; digest = found.1 },
-  no-extension a.segment octets (At (sequence a.segment)) refl _ (syn-good t a strict e v).0 _ e (syn-given t a strict e v)
+  no-extension a.segment octets (Some (sequence a.segment)) refl _ (syn-good t a strict e v).0 _ e (syn-given t a strict e v)
       (syn-good t a strict e v).3,
 )
   where
@@ -288,8 +286,8 @@ module _ (q : State) (opens : is_open_of q.conn ≡ true) (way : is_md5_of q.con
       go : (f r : Bool) → not (is_family_of q.conn.pair.family) ≡ f → is_refused t.answer ≡ r → (c : Admitted) → t.answer ≡ c
           → (settled_by_lem (first (ask_tests t id q.conn) unrefused) q (with_asked_of id q)).state ≡ q
       go true r p d c k = rw p
-      go false true p d (Valid n) k = rw (p, d, k)
-      go false true p d (Refused n i) k = rw (p, d, k)
+      go false true p d (Ok n) k = rw (p, d, k)
+      go false true p d (Err r) k = rw (p, d, k)
       go false false p d c k = rw (p, d, way)
 
   next-stays : (c : Call) → Stays q (next c q)

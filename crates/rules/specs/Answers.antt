@@ -1,26 +1,22 @@
 -- "Where an answer is an enum, a definition sets out this paper's number and values for each of its cases." The number, and the value
 -- beside it, of every case of every answer: document 01, "Numbers given back"; 0 and 1 stand for what has no number there. Then the number
 -- and value of each call, by its tests: the promises of the crate `tcpao`, and of `locate` of `states`, cite them.
-use Rattle.std.specs.Prelude.{ℕ, ◌+◌, Bool, cond, List, length, Option, Some, None}
+use Rattle.std.specs.Prelude.{ℕ, ◌+◌, Bool, cond, List, length, Option, Some, None, Ok, Err}
 use Rattle.wire.specs.declared.options.Seen.{Seen}
 use Rattle.tables.specs.declared.Index.{Index}
-use Rattle.tables.specs.declared.Admitted.{Admitted}
-use Rattle.tables.specs.declared.Admitted.TheVariants.{Valid, Refused}
-use Rattle.tables.specs.Tables.{Tables, send_entry, md5_entry}
-use Rattle.rules.specs.declared.Place.{Place}
-use Rattle.rules.specs.declared.Place.TheVariants.{At, Nowhere}
+use Rattle.tables.specs.Tables.{Admitted, Tables, send_entry, md5_entry}
+use Rattle.rules.specs.Position.{Place, position}
 use Rattle.rules.specs.declared.Outcome.{Outcome}
 use Rattle.rules.specs.declared.Outcome.TheVariants.{Good, Passed, Bad}
 use Rattle.rules.specs.declared.Verdict.{Verdict}
 use Rattle.rules.specs.declared.Verdict.TheVariants.{Accept, Pass, Drop}
-use Rattle.rules.specs.declared.Signing.{Signing}
-use Rattle.rules.specs.declared.Signing.TheVariants as S
-use Rattle.rules.specs.declared.Done.{Done}
-use Rattle.rules.specs.declared.Done.TheVariants as D
+use Rattle.rules.specs.Signing.{Signing}
+use Rattle.rules.specs.Signing as S
+use Rattle.rules.specs.Done.{Done}
+use Rattle.rules.specs.Done as D
 use Rattle.rules.specs.declared.Connection.{Connection}
 use Rattle.rules.specs.declared.State.{State}
 use Rattle.octets.specs.Tests.{first}
-use Rattle.rules.specs.Position.{position}
 use Rattle.rules.specs.Connection.{Arrival, pair_of_lem, located, value, extension_of_lem}
 use Rattle.rules.specs.Calls.{unrefused, table_tests, check, check_syn_of, open_tests, ask_tests, outgoing, added_on_lem, check_sign}
 
@@ -57,18 +53,18 @@ signing_answer (S.Refused n) i = refused n i
 
 -- an opening, or a RecvID to ask for
 unfoldable pub done_answer : Done → Index → Answer
-done_answer D.Done i = answer 0 0
+done_answer D.Succeeded i = answer 0 0
 done_answer (D.Refused n) i = refused n i
 
 -- the tables: how many entries the key table has, or "10 to 17 .. with the entry's index", or 45, or 44
 unfoldable pub table_answer : Admitted → Answer
-table_answer (Valid n) = answer 0 n
-table_answer (Refused n i) = refused n i
+table_answer (Ok n) = answer 0 n
+table_answer (Err r) = refused r.number r.index
 
 -- a position, or 28 (when signing 36)
 unfoldable pub place_answer : ℕ → Place → Answer
-place_answer n (At x) = answer 0 x
-place_answer n Nowhere = answer n 0
+place_answer n (Some x) = answer 0 x
+place_answer n None = answer n 0
 
 -- "Otherwise the answer is 28 or 36."
 abbrev pub position_number : (n reference s : ℕ) → Answer

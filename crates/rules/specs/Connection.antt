@@ -1,17 +1,15 @@
 -- Document 01, "Positions", "A connection's life" and "Numbers given back", and document 02, Tickets 5 and 9: what a connection is, and
 -- who writes its state.
 use Rattle.std.specs.Prelude.{ℕ, suc, ◌+◌, ◌-◌, ◌/◌, ◌^◌, max, Bool, true, false, cond, not, ◌&&◌, ◌||◌, List, [], ◌∷◌, length, get_or, set}
-use Rattle.std.specs.Prelude.{take, replicate, eqb, ltb}
+use Rattle.std.specs.Prelude.{take, replicate, eqb, ltb, Some, None}
 use Rattle.wire.specs.Header.{source_port_of, destination_port_of, sequence}
 use Rattle.keys.specs.declared.entry.Pair.{Pair}
 use Rattle.keys.specs.Entry.{width, padded}
 use Rattle.tables.specs.Tables.{Tables, send_entry}
-use Rattle.rules.specs.declared.Place.{Place}
-use Rattle.rules.specs.declared.Place.TheVariants.{At, Nowhere}
+use Rattle.rules.specs.Position.{Place, position}
 use Rattle.rules.specs.declared.Connection.{Connection}
 use Rattle.rules.specs.declared.State.{State}
 use Rattle.rules.specs.Mac.{Flow}
-use Rattle.rules.specs.Position.{position}
 
 -- A socket pair.
 
@@ -110,15 +108,15 @@ arriving_syn a =
 -- position." (A position below 2^32 has extension 0.) Ticket 9: "An MD5 accept has extension 0", "28 is not given"; of an MD5 connection
 -- every segment has its own number.
 abbrev pub place_on_lem : Connection → ℕ → ℕ → Place
-place_on_lem l reference s = cond (is_open_of l && not (is_md5_of l)) (position reference s) (At s)
+place_on_lem l reference s = cond (is_open_of l && not (is_md5_of l)) (position reference s) (Some s)
 
 abbrev pub located : Place → Bool
-located (At x) = true
-located Nowhere = false
+located (Some x) = true
+located None = false
 
 abbrev pub value : Place → ℕ
-value (At x) = x
-value Nowhere = 0
+value (Some x) = x
+value None = 0
 
 -- "The extension is X divided by 2^32, rounded down."
 abbrev pub extension_of_lem : ℕ → ℕ
@@ -143,12 +141,12 @@ slots = length counted_numbers
 
 -- the place of a number in a list, if it is there
 abbrev pub later : Place → Place
-later (At i) = At (suc i)
-later Nowhere = Nowhere
+later (Some i) = Some (suc i)
+later None = None
 
 abbrev pub place_in : ℕ → List ℕ → Place
-place_in n [] = Nowhere
-place_in n (m ∷ l) = cond (eqb n m) (At 0) (later (place_in n l))
+place_in n [] = None
+place_in n (m ∷ l) = cond (eqb n m) (Some 0) (later (place_in n l))
 
 unfoldable pub slot : ℕ → Place
 slot n = place_in n counted_numbers
@@ -158,8 +156,8 @@ is_counted n = located (slot n)
 
 -- "add one to that number's count"
 abbrev pub count_at_lem : Place → List ℕ → List ℕ
-count_at_lem (At i) drops = set drops i (bump (get_or drops i 0))
-count_at_lem Nowhere drops = drops
+count_at_lem (Some i) drops = set drops i (bump (get_or drops i 0))
+count_at_lem None drops = drops
 
 unfoldable pub count_drop_of : ℕ → List ℕ → List ℕ
 count_drop_of n drops = count_at_lem (slot n) drops

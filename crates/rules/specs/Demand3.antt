@@ -1,12 +1,11 @@
 -- Demand 3, as a statement: document 01's last section and the demand's own words. `demand3` of OrderLaws proves it.
-use Rattle.std.specs.Prelude.{ℕ, ◌+◌, ◌^◌, ◌<◌, max, ◌≡◌, Bool, true, false, cond}
+use Rattle.std.specs.Prelude.{ℕ, ◌+◌, ◌^◌, ◌<◌, max, ◌≡◌, Bool, true, false, cond, Ok}
 use mathlib.Core.List.{List, [], ◌∷◌, map, Permᴰ}
 use Rattle.octets.specs.Each.{Each}
 use Rattle.rules.specs.declared.Verdict.{Verdict}
 use Rattle.rules.specs.declared.Verdict.TheVariants.{Accept}
 use Rattle.rules.specs.declared.Connection.{Connection}
 use Rattle.rules.specs.declared.State.{State}
-use Rattle.tables.specs.declared.Admitted.TheVariants.{Valid}
 use Rattle.tables.specs.Tables.{Tables}
 use Rattle.tables.specs.Valid.{Apart, ValidTables}
 use Rattle.rules.specs.Connection.{Arrival, is_open_of, is_md5_of, sized, extension_of_lem, stop, available}
@@ -153,6 +152,6 @@ Demand3Holds = (t : Tables) (q : State) (l : List (Arriving t q.conn)) → Given
 
 -- of lent tables, in either form, that are not refused and to which neither 17 nor 45 would apply, the same
 abbrev pub Demand3Lent : Type 0
-Demand3Lent = (b : Lent) (n : ℕ) (q : State) (l : List (Arriving (tables b) q.conn)) → (tables b).answer ≡ Valid n
+Demand3Lent = (b : Lent) (n : ℕ) (q : State) (l : List (Arriving (tables b) q.conn)) → (tables b).answer ≡ Ok n
     → Apart (tables b) → Typed q
     → Allowed q.conn → is_open_of q.conn ≡ true → is_md5_of q.conn ≡ false → Close (q.seen ∷ positions l) → Demand3 (tables b) q l

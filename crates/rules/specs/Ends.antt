@@ -1,6 +1,6 @@
 -- The two ends of a connection, in document 01's words: the last section ("a true segment was signed at the other end ..", "an arrival
 -- verifies if ..", "a key is available if ..") and "Positions".
-use Rattle.std.specs.Prelude.{ℕ, ◌^◌, ◌<◌, ◌≡◌, true, false, List, ◌∷◌, ◌++◌, length, take, drop}
+use Rattle.std.specs.Prelude.{ℕ, ◌^◌, ◌<◌, ◌≡◌, true, false, List, ◌∷◌, ◌++◌, length, take, drop, Ok, Some}
 use Rattle.octets.specs.Octets.{bytes16}
 use Rattle.octets.specs.Each.{Octets}
 use Rattle.wire.specs.Header.{source_port_of, destination_port_of, sequence, well_sized_of}
@@ -11,13 +11,11 @@ use Rattle.keys.specs.Entry.{is_family_of, local_hidden_of, remote_hidden, key_o
 use Rattle.keys.specs.Places.{At as EntryAt}
 use Rattle.keys.specs.Match.{matches}
 use Rattle.keys.specs.Mirror.{Mirror}
-use Rattle.tables.specs.declared.Admitted.TheVariants.{Valid}
 use Rattle.tables.specs.Tables.{Tables, recv_entry}
 use Rattle.tables.specs.Valid.{Apart, ValidTables}
-use Rattle.rules.specs.declared.Place.TheVariants.{At}
 use Rattle.rules.specs.declared.Connection.{Connection}
 use Rattle.rules.specs.declared.State.{State}
-use Rattle.rules.specs.declared.Signing.TheVariants as S
+use Rattle.rules.specs.Signing as S
 use Rattle.rules.specs.Mac.{arriving_hidden_of, segment_mac}
 use Rattle.rules.specs.Checksum.{sums_right}
 use Rattle.rules.specs.Segment.{malformed, ao, md5, ao_at, key_id_of, mac_in, is_bare_syn_of}
@@ -95,16 +93,16 @@ pub record SignedAt (q : State) (e : Entry) (x : ℕ) (bytes : List ℕ) : Type 
   pub answer : (signed (tables lent) unsigned out q).answer ≡ S.Signed (length bytes)
   pub wrote : bytes ≡ take (length bytes) (output (tables lent) unsigned out q)
   pub under : (outgoing (tables lent) q).entry ≡ e
-  pub position : place_on_lem q.conn q.sent (sequence unsigned) ≡ At x
+  pub position : place_on_lem q.conn q.sent (sequence unsigned) ≡ Some x
 
 -- Of bytes, valid is what is not refused: so of tables lent as bytes the demands ask no more than their answer.
 abbrev pub LentValid : Type 0
-LentValid = (b : Lent) (n : ℕ) → b.form ≡ 0 → (tables b).answer ≡ Valid n → ValidTables (tables b)
+LentValid = (b : Lent) (n : ℕ) → b.form ≡ 0 → (tables b).answer ≡ Ok n → ValidTables (tables b)
 
 -- Ticket 8: "The clash is not tested again; .. demands 2 and 3 .. take neither a clashing table nor one refused with 44." So of either form
 -- they ask the answer, and that neither 17 nor 45 would apply.
 abbrev pub LentApart : Type 0
-LentApart = (b : Lent) (n : ℕ) → (tables b).answer ≡ Valid n → Apart (tables b) → ValidTables (tables b)
+LentApart = (b : Lent) (n : ℕ) → (tables b).answer ≡ Ok n → Apart (tables b) → ValidTables (tables b)
 
 -- "it holds the mirrored key in a valid table": of the other end's entry e, on the connection whose pair this end holds as p and that end
 -- as q. Ticket 9: "the MD5 table given beside the key table is not refused (10 to 17, 45)"

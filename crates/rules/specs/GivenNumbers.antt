@@ -1,18 +1,16 @@
 -- Which numbers each call can give, and that only a bare SYN judged without a state can pass, as statements: document 01, "Numbers given
 -- back". So no refusal has the number 0 or 1, which an answer keeps for what has no number there (Answers.antt). GivenNumberLaws proves
 -- them.
-use Rattle.std.specs.Prelude.{ℕ, ◌≤◌, ◌≡◌, Bool, true, false, cond, ◌||◌, List, [], ◌∷◌, ◌++◌, eqb}
-use Rattle.keys.specs.declared.table.Found.{Found}
+use Rattle.std.specs.Prelude.{ℕ, ◌≤◌, ◌≡◌, Bool, true, false, cond, ◌||◌, List, [], ◌∷◌, ◌++◌, eqb, Ok, Err}
+use Rattle.keys.specs.Table.{Found}
 use Rattle.tables.specs.declared.Index.{Index}
-use Rattle.tables.specs.declared.Admitted.{Admitted}
-use Rattle.tables.specs.declared.Admitted.TheVariants.{Valid, Refused}
-use Rattle.tables.specs.Tables.{Tables, no_index, max_entries}
+use Rattle.tables.specs.Tables.{Admitted, refused_with, Tables, no_index, max_entries}
 use Rattle.rules.specs.declared.Outcome.TheVariants.{Passed}
 use Rattle.rules.specs.declared.Verdict.{Verdict}
 use Rattle.rules.specs.declared.Verdict.TheVariants.{Accept, Pass, Drop}
 use Rattle.rules.specs.declared.Connection.{Connection}
 use Rattle.rules.specs.declared.State.{State}
-use Rattle.rules.specs.declared.Done.TheVariants as D
+use Rattle.rules.specs.Done as D
 use Rattle.octets.specs.Tests.{first}
 use Rattle.rules.specs.Connection.{Arrival, arrival_pair_of, is_md5_of}
 use Rattle.rules.specs.Calls.{syn_is_md5, judged, unrefused, open_tests, ask_tests, check_sign}
@@ -66,8 +64,9 @@ numbers_of (open_actively_md5 b local remote local_port remote_port isn) = open_
 
 -- the tables' counts and indices stay at or below the limit, the tables are two, and their numbers are these, 44 "without an index"
 abbrev pub Bounded : ℕ → Admitted → Type 0
-Bounded limit (Valid n) = n ≤ limit
-Bounded limit (Refused n i) = (among n table_numbers ≡ true) × (i.table ≤ 1) × (i.entry ≤ limit) × (n ≡ 44 → i ≡ no_index)
+Bounded limit (Ok n) = n ≤ limit
+Bounded limit (Err r) =
+    (among r.number table_numbers ≡ true) × (r.index.table ≤ 1) × (r.index.entry ≤ limit) × (r.number ≡ 44 → r.index ≡ no_index)
 
 abbrev pub is_pass : Verdict → Bool
 is_pass (Accept e) = false
@@ -89,7 +88,7 @@ abbrev pub CheckedWithin : Type 0
 CheckedWithin = (b : Lent) → Bounded max_entries (tables b).answer
 
 abbrev pub TableBounds : Type 0
-TableBounds = (b : Lent) (n : ℕ) (i : Index) → (tables b).answer ≡ Refused n i → (10 ≤ n) × (n ≤ 45)
+TableBounds = (b : Lent) (n : ℕ) (i : Index) → (tables b).answer ≡ refused_with n i → (10 ≤ n) × (n ≤ 45)
 
 -- judging on a connection never gives pass
 abbrev pub JudgeNeverPasses : Type 0

@@ -7,7 +7,7 @@ use Rattle.keys.specs.declared.entry.Entry.{Entry}
 use Rattle.tables.specs.Tables.{Tables}
 use Rattle.rules.specs.declared.State.{State}
 use Rattle.rules.specs.declared.Outcome.{Outcome}
-use Rattle.rules.specs.declared.Signing.TheVariants as S
+use Rattle.rules.specs.Signing as S
 use Rattle.octets.specs.Tests.{Test, tests}
 use Rattle.rules.specs.Segment.{md5_option_bytes}
 use Rattle.rules.specs.Connection.{is_md5_of}

@@ -4,6 +4,9 @@ pub mod Checksum
 pub mod Segment
 pub mod Digest
 pub mod Connection
+pub mod Signing
+pub mod Done
+pub mod Results
 pub mod Calls
 pub mod Lent
 pub mod Answers

@@ -9,13 +9,12 @@ use Rattle.wire.specs.Header.{sequence, header_end_of, syn, well_sized_of}
 use Rattle.wire.specs.Options.{options_of, md5_in}
 use Rattle.wire.specs.declared.options.Occurrence.{Occurrence}
 use Rattle.keys.specs.declared.entry.Entry.{Entry}
-use Rattle.keys.specs.declared.table.Found.{Found}
+use Rattle.keys.specs.Table.{Found}
 use Rattle.keys.specs.declared.table.TableKind.TheVariants.{Md5}
 use Rattle.keys.specs.Algorithm.{mac_bytes_of}
 use Rattle.keys.specs.Entry.{Item, item, entry_of, key_of}
 use Rattle.keys.specs.Table as K
-use Rattle.tables.specs.declared.Admitted.TheVariants.{Refused}
-use Rattle.tables.specs.Tables.{Tables, admitted, md5_entry}
+use Rattle.tables.specs.Tables.{refused_with, Tables, admitted, md5_entry}
 use Rattle.rules.specs.declared.Outcome.TheVariants.{Good}
 use Rattle.rules.specs.declared.Connection.{Connection}
 use Rattle.rules.specs.declared.State.{State}
@@ -111,7 +110,7 @@ pub record ListedMd5 : Type 0 where
 
 -- 45, of the tables' bytes: an MD5 entry for every IPv6 pair and behind it one for every IPv4 pair, beside a key entry for every IPv4 pair
 abbrev pub CrossedExample : Type 0
-CrossedExample = admitted (entry4 1 61 84) (md5_entry6 ++ md5_entry4) ≡ Refused 45 (record { table = 1; entry = 1 })
+CrossedExample = admitted (entry4 1 61 84) (md5_entry6 ++ md5_entry4) ≡ refused_with 45 (record { table = 1; entry = 1 })
 
 -- the key of an MD5 entry, as its bytes have it
 pub record Md5Keys : Type 0 where

@@ -1,11 +1,10 @@
 -- Prepared tables, of every call, as statements: document 02, Ticket 8, "a prepared table that is built once from valid bytes; a call with
 -- it gives what the bytes would give". PreparedLaws proves them. That bytes are below 256 (`Octets`) is so of every byte.
-use Rattle.std.specs.Prelude.{ℕ, Bool, ◌≡◌, List, []}
+use Rattle.std.specs.Prelude.{ℕ, Bool, ◌≡◌, List, [], Ok}
 use Rattle.octets.specs.Each.{Octets}
 use Rattle.tables.specs.Tables.{Tables}
 use Rattle.tables.specs.Preparing.{prepared_of}
 use Rattle.tables.specs.Valid.{ValidTables}
-use Rattle.tables.specs.declared.Admitted.TheVariants.{Valid}
 use Rattle.rules.specs.declared.State.{State}
 use Rattle.rules.specs.Connection.{Arrival}
 use Rattle.rules.specs.Calls.{judged, judged_syn, opened_passively, opened_actively, opened_actively_md5, asked, signed, output}
@@ -17,7 +16,7 @@ pub record PreparedFrom (bytes prepared : Lent) : Type 0 where
   pub keys-octets : Octets bytes.keys
   pub md5-octets : Octets bytes.md5
   pub count : ℕ
-  pub valid : (tables bytes).answer ≡ Valid count
+  pub valid : (tables bytes).answer ≡ Ok count
   pub prepared-form : prepared.form ≡ 0 → ⊥
   pub written : prepared.keys ≡ prepared_of bytes.keys bytes.md5
   pub alone : prepared.md5 ≡ []

@@ -1,14 +1,13 @@
 -- What each call makes of the references, ISNs, stage, IDs and counts of a state, as statements with every field written out: document 01,
 -- "Positions", "A connection's life" and "Numbers given back"; document 02, Ticket 9. ReferenceLaws proves them.
-use Rattle.std.specs.Prelude.{ℕ, ◌+◌, ◌<◌, min, max, ◌≡◌, Bool, true, false, List, [], ◌∷◌, get_or, set}
+use Rattle.std.specs.Prelude.{ℕ, ◌+◌, ◌<◌, min, max, ◌≡◌, Bool, true, false, List, [], ◌∷◌, get_or, set, Some}
 use Rattle.wire.specs.Header.{sequence}
 use Rattle.keys.specs.declared.entry.Ids.{Ids}
 use Rattle.tables.specs.Tables.{Tables, send_entry, recv_entry}
-use Rattle.rules.specs.declared.Place.TheVariants.{At}
 use Rattle.rules.specs.declared.Verdict.TheVariants.{Accept, Drop}
 use Rattle.rules.specs.declared.State.{State}
-use Rattle.rules.specs.declared.Signing.TheVariants as S
-use Rattle.rules.specs.declared.Done.TheVariants as D
+use Rattle.rules.specs.Signing as S
+use Rattle.rules.specs.Done as D
 use Rattle.rules.specs.Position.{position}
 use Rattle.rules.specs.Segment.{key_id_of, rnext_key_id}
 use Rattle.rules.specs.Connection.{Arrival, pair_of_lem, arrival_pair_of, is_open_of, is_md5_of, next_key_of}
@@ -42,7 +41,7 @@ sent_to x q =
 abbrev pub SignedOpen : Type 0
 SignedOpen = (t : Tables) (s out : List ℕ) (q : State) (n : ℕ) → is_open_of q.conn ≡ true → is_md5_of q.conn ≡ false
     → (signed t s out q).answer ≡ S.Signed n
-    → (x : ℕ) × (position q.sent (sequence s) ≡ At x) × ((signed t s out q).state ≡ sent_to x q)
+    → (x : ℕ) × (position q.sent (sequence s) ≡ Some x) × ((signed t s out q).state ≡ sent_to x q)
 
 -- Ticket 9, on the MD5 way: "after opening neither it nor signing moves a reference"
 abbrev pub SignedOpenMd5 : Type 0
@@ -60,7 +59,7 @@ SignedOpening = (t : Tables) (s out : List ℕ) (q : State) (n : ℕ) → is_ope
 -- that side's ISN; until the peer's ISN is known, it and its reference are 0."
 abbrev pub OpensActively : Type 0
 OpensActively = (t : Tables) (local remote : List ℕ) (local_port remote_port isn send_id : ℕ)
-    → (opened_actively t local remote local_port remote_port isn send_id).answer ≡ D.Done
+    → (opened_actively t local remote local_port remote_port isn send_id).answer ≡ D.Succeeded
     → (opened_actively t local remote local_port remote_port isn send_id).state ≡ record {
       conn = record { stage = 0; way = 0; pair = pair_of_lem local remote local_port remote_port; isn = isn; peer_isn = 0 };
       sent = isn;
@@ -74,7 +73,7 @@ OpensActively = (t : Tables) (local remote : List ℕ) (local_port remote_port i
 -- by MD5: no IDs
 abbrev pub OpensActivelyMd5 : Type 0
 OpensActivelyMd5 = (t : Tables) (local remote : List ℕ) (local_port remote_port isn : ℕ)
-    → (opened_actively_md5 t local remote local_port remote_port isn).answer ≡ D.Done
+    → (opened_actively_md5 t local remote local_port remote_port isn).answer ≡ D.Succeeded
     → (opened_actively_md5 t local remote local_port remote_port isn).state ≡ record {
       conn = record { stage = 0; way = 1; pair = pair_of_lem local remote local_port remote_port; isn = isn; peer_isn = 0 };
       sent = isn;
@@ -160,7 +159,7 @@ seen_to x t rnext q =
 abbrev pub AcceptedOpen : Type 0
 AcceptedOpen = (t : Tables) (a : Arrival) (q : State) (e : ℕ) → is_open_of q.conn ≡ true → is_md5_of q.conn ≡ false
     → q.accepted < 18446744073709551616 → (judged t a q).verdict ≡ Accept e
-    → (x : ℕ) × (position q.seen (sequence a.segment) ≡ At x) × ((judged t a q).state ≡ seen_to x t (rnext_key_id a.segment) q)
+    → (x : ℕ) × (position q.seen (sequence a.segment) ≡ Some x) × ((judged t a q).state ≡ seen_to x t (rnext_key_id a.segment) q)
 
 -- Ticket 9, an MD5 acceptance: one more is counted, and nothing else moves
 abbrev pub AcceptedOpenMd5 : Type 0
@@ -234,7 +233,7 @@ SigningRefused = (t : Tables) (s out : List ℕ) (q : State) (n : ℕ) → (sign
 
 -- "An operator call sets the RecvID asked of the peer; nothing else does."
 abbrev pub Asks : Type 0
-Asks = (t : Tables) (id : ℕ) (q : State) → (asked t id q).answer ≡ D.Done → (asked t id q).state ≡ record {
+Asks = (t : Tables) (id : ℕ) (q : State) → (asked t id q).answer ≡ D.Succeeded → (asked t id q).state ≡ record {
   conn = q.conn;
   sent = q.sent;
   seen = q.seen;

@@ -5,10 +5,10 @@ use Rattle.std.specs.Prelude.{ℕ, ◌≡◌, Bool, cond, ◌&&◌, List, [], le
 use Rattle.tables.specs.Tables.{Tables}
 use Rattle.rules.specs.declared.Verdict.{Verdict}
 use Rattle.rules.specs.declared.Verdict.TheVariants.{Accept, Pass, Drop}
-use Rattle.rules.specs.declared.Signing.{Signing}
-use Rattle.rules.specs.declared.Signing.TheVariants as S
-use Rattle.rules.specs.declared.Done.{Done}
-use Rattle.rules.specs.declared.Done.TheVariants as D
+use Rattle.rules.specs.Signing.{Signing}
+use Rattle.rules.specs.Signing as S
+use Rattle.rules.specs.Done.{Done}
+use Rattle.rules.specs.Done as D
 use Rattle.rules.specs.declared.State.{State}
 use Rattle.rules.specs.Connection.{Arrival, is_open_of, is_counted, slot, count_at_lem, empty}
 use Rattle.rules.specs.Calls.{judged, judged_syn, opened_passively, opened_actively, opened_actively_md5, asked, signed, output}
@@ -25,12 +25,12 @@ pub data Request : Type 0 where
 
 -- what it answers: done, or refused with a number. A verdict refuses by a drop, signing by no length.
 abbrev pub by_verdict : Verdict → Done
-by_verdict (Accept e) = D.Done
-by_verdict Pass = D.Done
+by_verdict (Accept e) = D.Succeeded
+by_verdict Pass = D.Succeeded
 by_verdict (Drop n) = D.Refused n
 
 abbrev pub by_signing : Signing → Done
-by_signing (S.Signed n) = D.Done
+by_signing (S.Signed n) = D.Succeeded
 by_signing (S.Refused n) = D.Refused n
 
 abbrev pub reply : Request → Done

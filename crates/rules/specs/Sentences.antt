@@ -3,8 +3,8 @@
 -- and what both ways share; Md5Sentences.antt has the MD5 way of document 02, Ticket 9. SentenceLaws proves each, PositionLaws
 -- `PlaceAnswers`.
 use Rattle.std.specs.Prelude.{ℕ, ◌+◌, ◌-◌, ◌*◌, ◌/◌, ◌%◌, ◌<◌, ◌≡◌, Bool, true, false, cond, not, ◌&&◌, List, [], ◌∷◌, ◌++◌, map, length}
-use Rattle.std.specs.Prelude.{get_or, take, drop, replicate, eqb, ltb}
-use Rattle.octets.specs.Tests.{Test, any}
+use Rattle.std.specs.Prelude.{get_or, take, drop, replicate, eqb, ltb, Some}
+use Rattle.octets.specs.Tests.{Test, any, first}
 use Rattle.wire.specs.Bytes.{same_bytes}
 use Rattle.wire.specs.Header.{source_port_of, destination_port_of, sequence, data_offset_of, header_end_of, syn, ack}
 use Rattle.mac.specs.Hmac.{hmac_sha1_of, hmac_sha256_of}
@@ -13,21 +13,19 @@ use Rattle.keys.specs.declared.entry.Pair.{Pair}
 use Rattle.keys.specs.declared.entry.Entry.{Entry}
 use Rattle.keys.specs.declared.entry.Secret.{Secret}
 use Rattle.keys.specs.declared.entry.Side.{Side}
-use Rattle.keys.specs.declared.table.Found.{Found}
+use Rattle.keys.specs.Table.{Found}
 use Rattle.keys.specs.Algorithm.{mac_bytes_of}
 use Rattle.keys.specs.Entry.{Item, known_kind_of, family_of_lem, body, secret_of_lem, entry_of, is_family_of, key_of, all_options}
 use Rattle.keys.specs.declared.table.TableKind.TheVariants.{Keys}
 use Rattle.keys.specs.Table as K
 use Rattle.tables.specs.declared.Index.{Index}
 use Rattle.tables.specs.Tables.{Tables, send_entry, recv_entry, any_entry}
-use Rattle.rules.specs.declared.Place.{Place}
-use Rattle.rules.specs.declared.Place.TheVariants.{At}
+use Rattle.rules.specs.Position.{Place}
 use Rattle.rules.specs.declared.Outcome.{Outcome}
 use Rattle.rules.specs.declared.Outcome.TheVariants.{Good, Passed, Bad}
 use Rattle.rules.specs.declared.Verdict.TheVariants.{Accept, Pass, Drop}
 use Rattle.rules.specs.declared.Connection.{Connection}
 use Rattle.rules.specs.declared.State.{State}
-use Rattle.octets.specs.Tests.{first}
 use Rattle.checksum.specs.Checksum.{ones_sum}
 use Rattle.rules.specs.Checksum.{with_checksum_of}
 use Rattle.rules.specs.Ends.{rechecked}
@@ -140,7 +138,7 @@ syn_rows t strict found a =
     ++ (record { gives = cond (any_entry t (arrival_pair_of a)) (bad 25) Passed; tests = eqb (ao a.segment).count 0 ∷ [] }
     ∷ record { gives = cond (any_entry t (arrival_pair_of a)) (bad 26) (cond strict (bad 26) Passed); tests = not found.there ∷ [] }
     ∷ row 27 (not (eqb (ao a.segment).len (4 + found.entry.secret.mac_bytes)) ∷ [])
-    ∷ row 29 (wrong_mac found.entry (arriving_syn a) (At (sequence a.segment)) a.segment ∷ [])
+    ∷ row 29 (wrong_mac found.entry (arriving_syn a) (Some (sequence a.segment)) a.segment ∷ [])
     ∷ [])
 
 -- Ticket 9: "by the table that matches, else as before"

@@ -11,13 +11,13 @@ use Rattle.keys.proofs.PlaceLaws.{each_at}
 use Rattle.keys.specs.Table.{loaded, hit, meets, meets_any_of}
 use Rattle.keys.specs.declared.entry.Entry.{Entry}
 use Rattle.keys.specs.declared.table.TableKind.TheVariants.{Keys, Md5}
-use Rattle.keys.specs.declared.table.Loaded.{Loaded}
-use Rattle.keys.specs.declared.table.Found.{Found}
-use Rattle.keys.specs.declared.table.Loaded.TheVariants.{Valid as LoadedValid, Refused as LoadedRefused}
+use Rattle.keys.specs.Table.{Loaded}
+use Rattle.keys.specs.Table.{Found}
+use Rattle.std.specs.Prelude.{Ok, Err}
 use Rattle.tables.specs.Tables.{max_entries, md5_index, crossing, besides, admitted}
 use Rattle.tables.specs.Crossing.{Crossed, Alone, CrossedAt, RefusedCrossed, CrossedRefused, KeysRefused, Md5Refused, BothTaken}
 use Rattle.tables.specs.declared.Index.{Index}
-use Rattle.tables.specs.declared.Admitted.TheVariants.{Valid, Refused}
+use Rattle.tables.specs.Tables.{Admitted, refused_with}
 
 -- the test by which 45 is given holds of an MD5 entry exactly if it is crossed
 
@@ -53,24 +53,32 @@ record Refusal (k m : List ℕ) (x : Index) : Type 0 where
   there : (crossing (entries k) (entries m)).there ≡ true
   index : md5_index (crossing (entries k) (entries m)).index ≡ x
 
-refusal-of : (k m : List ℕ) (x : Index) → admitted k m ≡ Refused 45 x → Refusal k m x
+abbrev number_in : Admitted → ℕ
+number_in (Ok n) = 0
+number_in (Err r) = r.number
+
+abbrev index_in : Admitted → Index
+index_in (Ok n) = md5_index 0
+index_in (Err r) = r.index
+
+refusal-of : (k m : List ℕ) (x : Index) → admitted k m ≡ refused_with 45 x → Refusal k m x
 unfolding admitted besides
 refusal-of k m x e = go (loaded Keys max_entries k) (loaded Md5 max_entries m) (crossing (entries k) (entries m)).there refl refl refl
   where
     go : (a b : Loaded) (c : Bool) → loaded Keys max_entries k ≡ a → loaded Md5 max_entries m ≡ b
         → (crossing (entries k) (entries m)).there ≡ c → Refusal k m x
-    go (LoadedRefused n i) b c p q r =
-        let l = refused-low Keys max_entries n i k p in
-        let z : n ≡ 45 = cc (rw p at e) in
+    go (Err f) b c p q r =
+        let l = refused-low Keys max_entries f.number f.index k p in
+        let z : f.number ≡ 45 = ap number_in (rw p at e) in
         absurd (omega arith)
-    go (LoadedValid i) (LoadedRefused n j) c p q r =
-        let l = refused-low Md5 max_entries n j m q in
-        let z : n ≡ 45 = cc (rw (p, q) at e) in
+    go (Ok i) (Err f) c p q r =
+        let l = refused-low Md5 max_entries f.number f.index m q in
+        let z : f.number ≡ 45 = ap number_in (rw (p, q) at e) in
         absurd (omega arith)
-    go (LoadedValid i) (LoadedValid j) false p q r = let z : ◌≡◌ {A = ℕ} 0 1 = cc (rw (p, q, r) at e) in absurd (omega arith)
-    go (LoadedValid i) (LoadedValid j) true p q r =
-        let f : Refused 45 (md5_index (crossing (entries k) (entries m)).index) ≡ Refused 45 x = rw (p, q, r) at e in
-        record { keys = (i, p); md5s = (j, q); there = r; index = cc }
+    go (Ok i) (Ok j) false p q r = let z : ◌≡◌ {A = ℕ} 0 1 = cc (rw (p, q, r) at e) in absurd (omega arith)
+    go (Ok i) (Ok j) true p q r =
+        let f : refused_with 45 (md5_index (crossing (entries k) (entries m)).index) ≡ refused_with 45 x = rw (p, q, r) at e in
+        record { keys = (i, p); md5s = (j, q); there = r; index = ap index_in f }
 
 pub refused-crossed : RefusedCrossed
 refused-crossed k m x ok om e =
@@ -98,7 +106,7 @@ pub crossed-refused : CrossedRefused
 unfolding admitted besides
 crossed-refused k m i ok om c =
     rw (c.keys.1, c.md5s.1, first)
-    (ap (λ (n : ℕ). Refused 45 (md5_index n)) (let z : 0 + i ≡ i = omega arith in z))
+    (ap (λ (n : ℕ). refused_with 45 (md5_index n)) (let z : 0 + i ≡ i = omega arith in z))
   where
     clear : (f : Entry) → FieldsOf f → (Crossed k f → ⊥) → (b : Bool) → meets_any_of (entries k) f ≡ b → meets_any_of (entries k) f ≡ false
     clear f g n true q = absurd (n (meets-crossed k f ok g q))
@@ -123,7 +131,7 @@ pub both-taken : BothTaken
 unfolding admitted besides
 both-taken k m c d ok om e f n = go (crossing (entries k) (entries m)).there refl
   where
-    go : (b : Bool) → (crossing (entries k) (entries m)).there ≡ b → admitted k m ≡ Valid c
+    go : (b : Bool) → (crossing (entries k) (entries m)).there ≡ b → admitted k m ≡ Ok c
     go true q =
         let r = found-there (meets_any_of (entries k)) (entries m) 0 q in
         absurd (n r.0 r.1 r.2 (meets-crossed k r.1 ok (each_at FieldsOf (entries-fields m om) r.2) r.3))

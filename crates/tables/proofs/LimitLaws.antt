@@ -20,9 +20,20 @@ use Rattle.keys.specs.Table.{number_of, item_tests, load_tests, loaded_from, loa
 use Rattle.keys.specs.declared.entry.Entry.{Entry}
 use Rattle.keys.specs.declared.table.TableKind.{TableKind}
 use Rattle.keys.specs.declared.table.TableKind.TheVariants.{Keys, Md5}
-use Rattle.keys.specs.declared.table.Loaded.TheVariants.{Valid, Refused}
+use Rattle.std.specs.Prelude.{Ok, Err}
+use Rattle.keys.specs.Table.{Loaded, fault}
 use Rattle.tables.specs.Limit.{LimitRefused, RefusedLimit, KeysLimit, Md5Limit}
 use Rattle.tables.proofs.CrossingLaws.{keys-refused, md5-refused}
+
+-- the two parts of a refusal
+
+abbrev number_in : Loaded → ℕ
+number_in (Ok n) = 0
+number_in (Err f) = f.number
+
+abbrev index_in : Loaded → ℕ
+index_in (Ok n) = 0
+index_in (Err f) = f.index
 
 -- An entry and what stands behind it.
 
@@ -189,9 +200,9 @@ module _ (kind : TableKind) (limit : ℕ) where
 
   -- the limit is reached: 12, whatever begins
   full : (i : ℕ) (before : List Entry) (b : ℕ) (r : List ℕ) → i ≡ limit
-      → loaded_from kind limit i before (items 0 (b ∷ r)) ≡ Refused 12 limit
+      → loaded_from kind limit i before (items 0 (b ∷ r)) ≡ fault 12 limit
   unfolding loaded_from items number_of
-  full i before b r e = rw (eq-eqb i limit e) (ap (Refused 12) e)
+  full i before b r e = rw (eq-eqb i limit e) (ap (fault 12) e)
 
   -- an entry that passes leaves the answer to what follows
   goes_on : (i : ℕ) (before : List Entry) (x : Item) (l : List Item) → number_of (load_tests kind limit i before x) ≡ 0
@@ -201,19 +212,19 @@ module _ (kind : TableKind) (limit : ℕ) where
 
   -- and one that does not gives it
   stops : (i m : ℕ) (before : List Entry) (b : ℕ) (r : List ℕ) → number_of (load_tests kind limit i before (item (b ∷ r))) ≡ suc m
-      → loaded_from kind limit i before (items 0 (b ∷ r)) ≡ Refused (suc m) i
+      → loaded_from kind limit i before (items 0 (b ∷ r)) ≡ fault (suc m) i
   unfolding loaded_from items
   stops i m before b r q = rw q
 
-  empty : (i : ℕ) (before : List Entry) → loaded_from kind limit i before (items 0 []) ≡ Valid i
+  empty : (i : ℕ) (before : List Entry) → loaded_from kind limit i before (items 0 []) ≡ Ok i
   unfolding loaded_from items
   empty i before = refl
 
   module _ (r : List ℕ) (b : ℕ) where
     -- a table that is valid to the limit, one byte more behind it
     abbrev Longer : ℕ → List Entry → List ℕ → Type 0
-    Longer i before u = loaded_from kind limit i before (items 0 u) ≡ Valid limit
-        → loaded_from kind limit i before (items 0 (u ++ (b ∷ r))) ≡ Refused 12 limit
+    Longer i before u = loaded_from kind limit i before (items 0 u) ≡ Ok limit
+        → loaded_from kind limit i before (items 0 (u ++ (b ∷ r))) ≡ fault 12 limit
 
     longer-none : (i : ℕ) (before : List Entry) → Longer i before []
     longer-none i before v = let z : i ≡ limit = cc (sym (empty i before) ∙ v) in full i before b r z
@@ -227,7 +238,7 @@ module _ (kind : TableKind) (limit : ℕ) where
     longer-step i before (a ∷ u) ih v = go (number_of (load_tests kind limit i before (item (a ∷ u)))) refl
       where
         go : (m : ℕ) → number_of (load_tests kind limit i before (item (a ∷ u))) ≡ m
-            → loaded_from kind limit i before (items 0 ((a ∷ u) ++ (b ∷ r))) ≡ Refused 12 limit
+            → loaded_from kind limit i before (items 0 ((a ∷ u) ++ (b ∷ r))) ≡ fault 12 limit
         go (suc m) q = let z : ◌≡◌ {A = ℕ} 0 1 = cc (sym (stops i m before a u q) ∙ v) in absurd (omega arith)
         go zero q =
             let s = passed i before (item (a ∷ u)) q in
@@ -247,11 +258,11 @@ module _ (kind : TableKind) (limit : ℕ) where
   -- bytes s that are valid up to some byte of theirs, where the limit is reached
   abbrev Reached : ℕ → List Entry → List ℕ → Type 0
   Reached i before s =
-      (u : List ℕ) × (b : ℕ) × (r : List ℕ) × (s ≡ u ++ (b ∷ r)) × (loaded_from kind limit i before (items 0 u) ≡ Valid limit)
+      (u : List ℕ) × (b : ℕ) × (r : List ℕ) × (s ≡ u ++ (b ∷ r)) × (loaded_from kind limit i before (items 0 u) ≡ Ok limit)
 
   -- what a 12 at j says of the bytes s
   abbrev Twelve : ℕ → ℕ → List Entry → List ℕ → Type 0
-  Twelve j i before s = loaded_from kind limit i before (items 0 s) ≡ Refused 12 j → (j ≡ limit) × Reached i before s
+  Twelve j i before s = loaded_from kind limit i before (items 0 s) ≡ fault 12 j → (j ≡ limit) × Reached i before s
 
   module _ (j : ℕ) where
     none-twelve : (i : ℕ) (before : List Entry) → Twelve j i before []
@@ -260,8 +271,8 @@ module _ (kind : TableKind) (limit : ℕ) where
     end-twelve : (i : ℕ) (before : List Entry) (s : List ℕ) → limit ≡ i → Twelve j i before s
     end-twelve i before [] e v = none-twelve i before v
     end-twelve i before (a ∷ s) e v =
-        let z : limit ≡ j = cc (sym (full i before a s (sym e)) ∙ v) in
-        (sym z, ([], a, s, refl, empty i before ∙ ap Valid (sym e)))
+        let z : limit ≡ j = ap index_in (sym (full i before a s (sym e)) ∙ v) in
+        (sym z, ([], a, s, refl, empty i before ∙ ap Ok (sym e)))
 
     -- the entry's own bytes before those of what follows
     reached-step : (i : ℕ) (before : List Entry) (s : List ℕ) → number_of (load_tests kind limit i before (item s)) ≡ 0
@@ -281,7 +292,7 @@ module _ (kind : TableKind) (limit : ℕ) where
       where
         go : (m : ℕ) → number_of (load_tests kind limit i before (item (a ∷ s))) ≡ m → (j ≡ limit) × Reached i before (a ∷ s)
         go (suc m) q =
-            let z : suc m ≡ 12 = cc (sym (stops i m before a s q) ∙ v) in
+            let z : suc m ≡ 12 = ap number_in (sym (stops i m before a s q) ∙ v) in
             absurd (below i before (item (a ∷ s)) n (q ∙ z))
         go zero q =
             let y = passed i before (item (a ∷ s)) q in

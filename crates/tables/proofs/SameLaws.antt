@@ -6,8 +6,8 @@ use Rattle.keys.specs.Entry.{entries}
 use Rattle.keys.proofs.LoadLaws.{refused-low}
 use Rattle.keys.specs.Table.{loaded}
 use Rattle.keys.specs.declared.table.TableKind.TheVariants.{Keys, Md5}
-use Rattle.keys.specs.declared.table.Loaded.{Loaded}
-use Rattle.keys.specs.declared.table.Loaded.TheVariants.{Valid as LoadedValid, Refused as LoadedRefused}
+use Rattle.keys.specs.Table.{Loaded}
+use Rattle.std.specs.Prelude.{Ok, Err}
 use Rattle.prepared.specs.Prepared.{key_count_of, md5_count, fits}
 use Rattle.prepared.specs.ImageLaws.{prepared-read, image-length}
 use Rattle.tables.specs.Tables.{Tables, no_index, max_entries, crossing, besides, admitted, prepared_answer, prepared_tables, tables_of}
@@ -15,8 +15,8 @@ use Rattle.tables.specs.Preparing.{prepared_of, prepared_length, prepare_answer,
 use Rattle.tables.proofs.ValidLaws.{admitted-taken, valid-count, other-form}
 use Rattle.tables.specs.Same.{PreparedSame, WrittenSame, size_of, PrepareWrites, PrepareRefuses, PrepareShort, PrepareDone, Unfit}
 use Rattle.tables.specs.Same.{BytesAnswer, OtherForms, RefusedUnfit, UnfitRefused, BytesNot44}
-use Rattle.tables.specs.declared.Admitted.{Admitted}
-use Rattle.tables.specs.declared.Admitted.TheVariants.{Valid, Refused}
+use Rattle.tables.specs.Tables.{Admitted}
+use Rattle.tables.specs.Tables.{refused_with}
 
 pub prepared-same : PreparedSame
 unfolding prepared_tables prepared_answer
@@ -24,7 +24,7 @@ prepared-same form k m n z ok om e =
     let t = admitted-taken k m n e in
     let r = prepared-read k m n t.md5s.0 ok om t.keys t.md5s.1 in
     let c = (valid-count 0 k m n e).0 in
-    let a : prepared_answer (prepared_of k m) [] ≡ admitted k m = rw r.fitting (ap Valid (r.count ∙ sym c) ∙ sym e) in
+    let a : prepared_answer (prepared_of k m) [] ≡ admitted k m = rw r.fitting (ap Ok (r.count ∙ sym c) ∙ sym e) in
     rw (ne_eqb form 0 z) (λ i. record { answer = a i; keys = r.keys i; md5s = r.md5s i })
 
 -- what is written is there, at the output's front
@@ -34,10 +34,10 @@ written_same form k m out size z ok om e = go (admitted k m) (leb (prepared_leng
   where
     go : (o : Admitted) (b : Bool) → admitted k m ≡ o → leb (prepared_length k m) (length out) ≡ b
         → tables_of form (take size (prepare_output k m out)) [] ≡ tables_of 0 k m
-    go (Refused n i) b p q = let y : ◌≡◌ {A = ℕ} 0 1 = cc (rw p at e) in absurd (omega arith)
-    go (Valid n) false p q = let y : ◌≡◌ {A = ℕ} 0 1 = cc (rw (p, q) at e) in absurd (omega arith)
-    go (Valid n) true p q =
-        let f : Valid (prepared_length k m) ≡ Valid size = rw (p, q) at e in
+    go (Err r) b p q = let y : ◌≡◌ {A = ℕ} 0 1 = cc (rw p at e) in absurd (omega arith)
+    go (Ok n) false p q = let y : ◌≡◌ {A = ℕ} 0 1 = cc (rw (p, q) at e) in absurd (omega arith)
+    go (Ok n) true p q =
+        let f : Ok (prepared_length k m) ≡ Ok size = rw (p, q) at e in
         let y : prepared_length k m ≡ size = cc in
         let l = image-length k m in
         let w : prepare_output k m out ≡ prepared_of k m ++ drop (length (prepared_of k m)) out = rw (p, q) in
@@ -69,10 +69,10 @@ prepare-writes k m out n e = go (admitted k m) (leb (prepared_length k m) (lengt
     go : (o : Admitted) (b : Bool) → admitted k m ≡ o → leb (prepared_length k m) (length out) ≡ b
         → (n ≡ size_of k m) × (take n (prepare_output k m out) ≡ prepared_of k m) × (drop n (prepare_output k m out) ≡ drop n out)
         × (length (prepare_output k m out) ≡ length out)
-    go (Refused j i) b p q = let y : ◌≡◌ {A = ℕ} 0 1 = cc (rw p at e) in absurd (omega arith)
-    go (Valid j) false p q = let y : ◌≡◌ {A = ℕ} 0 1 = cc (rw (p, q) at e) in absurd (omega arith)
-    go (Valid j) true p q =
-        let f : Valid (prepared_length k m) ≡ Valid n = rw (p, q) at e in
+    go (Err r) b p q = let y : ◌≡◌ {A = ℕ} 0 1 = cc (rw p at e) in absurd (omega arith)
+    go (Ok j) false p q = let y : ◌≡◌ {A = ℕ} 0 1 = cc (rw (p, q) at e) in absurd (omega arith)
+    go (Ok j) true p q =
+        let f : Ok (prepared_length k m) ≡ Ok n = rw (p, q) at e in
         let y : prepared_length k m ≡ n = cc in
         let l = image-length k m in
         let w : prepare_output k m out ≡ s ++ drop (length s) out = rw (p, q) in
@@ -95,7 +95,7 @@ other-forms form other b m z w = other-form form b m z ∙ sym (other-form other
 
 -- 44
 
-refused-of : (b m : List ℕ) → (prepared_tables b m).answer ≡ Refused 44 no_index → Unfit b m
+refused-of : (b m : List ℕ) → (prepared_tables b m).answer ≡ refused_with 44 no_index → Unfit b m
 unfolding prepared_tables prepared_answer fits
 refused-of b m e = go (leb (key_count_of b) max_entries) (leb (md5_count b) max_entries) (eqb (length b) (4 + 129 * (key_count_of b + md5_count b))) (eqb (length m) 0) refl refl refl refl
   where
@@ -114,7 +114,7 @@ and-false false = refl
 pub refused-unfit : RefusedUnfit
 refused-unfit form b m z e = refused-of b m (sym (ap (λ (t : Tables). t.answer) (other-form form b m z)) ∙ e)
 
-unfit-of : (b m : List ℕ) → Unfit b m → (prepared_tables b m).answer ≡ Refused 44 no_index
+unfit-of : (b m : List ℕ) → Unfit b m → (prepared_tables b m).answer ≡ refused_with 44 no_index
 unfolding prepared_tables prepared_answer fits
 unfit-of b m (inl h) = rw (lt-leb _ _ h)
 unfit-of b m (inr (inl h)) = rw (lt-leb _ _ h, and-false (leb (key_count_of b) max_entries))
@@ -125,23 +125,27 @@ unfit-of b m (inr (inr (inr h))) = rw (ne_eqb (length m) 0 (λ e. omega arith), 
 pub unfit-refused : UnfitRefused
 unfit-refused form b m z u = ap (λ (t : Tables). t.answer) (other-form form b m z) ∙ unfit-of b m u
 
+abbrev number_in : Admitted → ℕ
+number_in (Ok n) = 0
+number_in (Err r) = r.number
+
 pub bytes-not-44 : BytesNot44
 unfolding admitted besides
 bytes-not-44 k m x e = go (loaded Keys max_entries k) (loaded Md5 max_entries m) (crossing (entries k) (entries m)).there refl refl refl
   where
     go : (a b : Loaded) (c : Bool) → loaded Keys max_entries k ≡ a → loaded Md5 max_entries m ≡ b
         → (crossing (entries k) (entries m)).there ≡ c → ⊥
-    go (LoadedRefused n i) (LoadedValid j) c p q r =
-        let l = refused-low Keys max_entries n i k p in
-        let z : n ≡ 44 = cc in
+    go (Err f) (Ok j) c p q r =
+        let l = refused-low Keys max_entries f.number f.index k p in
+        let z : f.number ≡ 44 = ap number_in (rw p at e) in
         omega arith
-    go (LoadedRefused n i) (LoadedRefused h j) c p q r =
-        let l = refused-low Keys max_entries n i k p in
-        let z : n ≡ 44 = cc in
+    go (Err f) (Err f2) c p q r =
+        let l = refused-low Keys max_entries f.number f.index k p in
+        let z : f.number ≡ 44 = ap number_in (rw p at e) in
         omega arith
-    go (LoadedValid i) (LoadedRefused n j) c p q r =
-        let l = refused-low Md5 max_entries n j m q in
-        let z : n ≡ 44 = cc in
+    go (Ok i) (Err f) c p q r =
+        let l = refused-low Md5 max_entries f.number f.index m q in
+        let z : f.number ≡ 44 = ap number_in (rw (p, q) at e) in
         omega arith
-    go (LoadedValid i) (LoadedValid j) false p q r = let z : ◌≡◌ {A = ℕ} 0 1 = cc in omega arith
-    go (LoadedValid i) (LoadedValid j) true p q r = let z : ◌≡◌ {A = ℕ} 44 45 = cc in omega arith
+    go (Ok i) (Ok j) false p q r = let z : ◌≡◌ {A = ℕ} 0 1 = cc in omega arith
+    go (Ok i) (Ok j) true p q r = let z : ◌≡◌ {A = ℕ} 45 44 = ap number_in (rw (p, q, r) at e) in omega arith

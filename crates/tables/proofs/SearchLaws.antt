@@ -13,7 +13,7 @@ use Rattle.keys.specs.declared.entry.Entry.{Entry}
 use Rattle.keys.specs.declared.entry.Pair.{Pair}
 use Rattle.keys.specs.declared.table.By.{By}
 use Rattle.keys.specs.declared.table.By.TheVariants.{Any, Send, Recv}
-use Rattle.keys.specs.declared.table.Found.{Found}
+use Rattle.keys.specs.Table.{Found}
 use Rattle.tables.specs.Tables.{Tables, send_entry, recv_entry, md5_entry}
 pub use Rattle.tables.specs.Search.{hit, Named, Holder}
 use Rattle.tables.specs.Search.{AnswerUnique, SendFound, RecvFound, Md5Found, SendFirst, RecvFirst, Md5First, Uncrossed}

@@ -12,39 +12,39 @@ use Rattle.keys.proofs.PlaceLaws.{each_at, apart-at}
 use Rattle.keys.specs.Table.{loaded, meets, meets_any_of}
 use Rattle.keys.specs.declared.entry.Entry.{Entry}
 use Rattle.keys.specs.declared.table.TableKind.TheVariants.{Keys, Md5}
-use Rattle.keys.specs.declared.table.Loaded.{Loaded}
-use Rattle.keys.specs.declared.table.Loaded.TheVariants.{Valid as LoadedValid, Refused as LoadedRefused}
+use Rattle.keys.specs.Table.{Loaded}
+use Rattle.std.specs.Prelude.{Ok, Err}
 use Rattle.prepared.specs.Prepared.{key_count_of, fits, key_part, md5_part}
 use Rattle.prepared.specs.ReadLaws.{keys-formed, md5s-formed, counted}
 use Rattle.tables.specs.Tables.{Tables, no_index, max_entries, crossing, besides, admitted, bytes_tables, prepared_answer, prepared_tables, tables_of}
 use Rattle.tables.specs.Valid.{Digest16, Held, Apart, ValidBytes, TakenHeld, ValidApart, ValidCount, PreparedAnswer}
-use Rattle.tables.specs.declared.Admitted.TheVariants.{Valid, Refused}
+use Rattle.tables.specs.Tables.{refused_with}
 
 -- each of the two tables is valid by itself, and no MD5 entry overlaps a key entry
 pub record Taken (k m : List ℕ) (n : ℕ) : Type 0 where
-  pub keys : loaded Keys max_entries k ≡ LoadedValid n
-  pub md5s : (j : ℕ) × (loaded Md5 max_entries m ≡ LoadedValid j)
+  pub keys : loaded Keys max_entries k ≡ Ok n
+  pub md5s : (j : ℕ) × (loaded Md5 max_entries m ≡ Ok j)
   pub uncrossed : (crossing (entries k) (entries m)).there ≡ false
 
-pub admitted-taken : (k m : List ℕ) (n : ℕ) → admitted k m ≡ Valid n → Taken k m n
+pub admitted-taken : (k m : List ℕ) (n : ℕ) → admitted k m ≡ Ok n → Taken k m n
 unfolding admitted besides
 admitted-taken k m n e = go (loaded Keys max_entries k) (loaded Md5 max_entries m) (crossing (entries k) (entries m)).there refl refl refl
   where
     go : (x y : Loaded) (b : Bool) → loaded Keys max_entries k ≡ x → loaded Md5 max_entries m ≡ y
         → (crossing (entries k) (entries m)).there ≡ b → Taken k m n
-    go (LoadedRefused i j) (LoadedValid h) b p q r = let z : ◌≡◌ {A = ℕ} 0 1 = cc in absurd (omega arith)
-    go (LoadedRefused i j) (LoadedRefused g h) b p q r = let z : ◌≡◌ {A = ℕ} 0 1 = cc in absurd (omega arith)
-    go (LoadedValid i) (LoadedRefused h j) b p q r = let z : ◌≡◌ {A = ℕ} 0 1 = cc in absurd (omega arith)
-    go (LoadedValid i) (LoadedValid j) true p q r = let z : ◌≡◌ {A = ℕ} 0 1 = cc in absurd (omega arith)
-    go (LoadedValid i) (LoadedValid j) false p q r =
+    go (Err f) (Ok h) b p q r = let z : ◌≡◌ {A = ℕ} 0 1 = cc in absurd (omega arith)
+    go (Err f) (Err f2) b p q r = let z : ◌≡◌ {A = ℕ} 0 1 = cc in absurd (omega arith)
+    go (Ok i) (Err f) b p q r = let z : ◌≡◌ {A = ℕ} 0 1 = cc in absurd (omega arith)
+    go (Ok i) (Ok j) true p q r = let z : ◌≡◌ {A = ℕ} 0 1 = cc in absurd (omega arith)
+    go (Ok i) (Ok j) false p q r =
         let z : i ≡ n = cc in
-        record { keys = p ∙ ap LoadedValid z; md5s = (j, q); uncrossed = r }
+        record { keys = p ∙ ap Ok z; md5s = (j, q); uncrossed = r }
 
-pub taken-admitted : (k m : List ℕ) (n : ℕ) → Taken k m n → admitted k m ≡ Valid n
+pub taken-admitted : (k m : List ℕ) (n : ℕ) → Taken k m n → admitted k m ≡ Ok n
 unfolding admitted besides
 taken-admitted k m n t = cc (t.keys, t.md5s.1, t.uncrossed)
 
-bytes_count : (k m : List ℕ) (n : ℕ) → admitted k m ≡ Valid n
+bytes_count : (k m : List ℕ) (n : ℕ) → admitted k m ≡ Ok n
     → (n ≡ length (entries k)) × (n ≤ max_entries) × (length (entries m) ≤ max_entries)
 bytes_count k m n e =
     let t = admitted-taken k m n e in
@@ -54,7 +54,7 @@ bytes_count k m n e =
     let d = a.0.few in
     (sym c, omega arith, b.0.few)
 
-bytes-held : (k m : List ℕ) (n : ℕ) → admitted k m ≡ Valid n → Held (bytes_tables k m)
+bytes-held : (k m : List ℕ) (n : ℕ) → admitted k m ≡ Ok n → Held (bytes_tables k m)
 bytes-held k m n e =
     let t = admitted-taken k m n e in
     record {
@@ -63,7 +63,7 @@ bytes-held k m n e =
       md5-digest = md5-digests max_entries t.md5s.0 m t.md5s.1;
     }
 
-bytes_apart : (k m : List ℕ) (n : ℕ) → admitted k m ≡ Valid n → Apart (bytes_tables k m)
+bytes_apart : (k m : List ℕ) (n : ℕ) → admitted k m ≡ Ok n → Apart (bytes_tables k m)
 unfolding meets_any_of
 bytes_apart k m n e =
     let t = admitted-taken k m n e in
@@ -85,26 +85,26 @@ pub other-form : (form : ℕ) (b m : List ℕ) → (form ≡ 0 → ⊥) → tabl
 other-form form b m z = rw (ne_eqb form 0 z)
 
 answered : (b m : List ℕ)
-    → ((prepared_tables b m).answer ≡ Refused 44 no_index) ⊎ ((n : ℕ) × ((prepared_tables b m).answer ≡ Valid n) × (n ≤ max_entries))
+    → ((prepared_tables b m).answer ≡ refused_with 44 no_index) ⊎ ((n : ℕ) × ((prepared_tables b m).answer ≡ Ok n) × (n ≤ max_entries))
 unfolding prepared_tables prepared_answer
 answered b m = go (fits b) (eqb (length m) 0) refl refl
   where
     go : (x y : Bool) → fits b ≡ x → eqb (length m) 0 ≡ y
-        → ((prepared_tables b m).answer ≡ Refused 44 no_index) ⊎ ((n : ℕ) × ((prepared_tables b m).answer ≡ Valid n) × (n ≤ max_entries))
+        → ((prepared_tables b m).answer ≡ refused_with 44 no_index) ⊎ ((n : ℕ) × ((prepared_tables b m).answer ≡ Ok n) × (n ≤ max_entries))
     go false y p q = inl (rw p)
     go true false p q = inl (rw (p, q))
     go true true p q = inr (key_count_of b, rw (p, q), (counted b p).2)
 
 pub prepared-answer : PreparedAnswer
 prepared-answer form b m z =
-    subst⁻¹ (λ (t : Tables). (t.answer ≡ Refused 44 no_index) ⊎ ((n : ℕ) × (t.answer ≡ Valid n) × (n ≤ max_entries)))
+    subst⁻¹ (λ (t : Tables). (t.answer ≡ refused_with 44 no_index) ⊎ ((n : ℕ) × (t.answer ≡ Ok n) × (n ≤ max_entries)))
     (other-form form b m z) (answered b m)
 
 prepared-held : (b m : List ℕ) → Held (prepared_tables b m)
 unfolding prepared_tables
 prepared-held b m = let f = md5s-formed b in record { proper = keys-formed b; md5-proper = f.0; md5-digest = f.1 }
 
-prepared-count : (b m : List ℕ) (n : ℕ) → (prepared_tables b m).answer ≡ Valid n
+prepared-count : (b m : List ℕ) (n : ℕ) → (prepared_tables b m).answer ≡ Ok n
     → (n ≡ length (prepared_tables b m).keys) × (n ≤ max_entries) × (length (prepared_tables b m).md5s ≤ max_entries)
 unfolding prepared_tables prepared_answer
 prepared-count b m n e = go (fits b) (eqb (length m) 0) refl refl
@@ -114,7 +114,7 @@ prepared-count b m n e = go (fits b) (eqb (length m) 0) refl refl
     go false y p q = let z : ◌≡◌ {A = ℕ} 0 1 = cc (rw p at e) in absurd (omega arith)
     go true false p q = let z : ◌≡◌ {A = ℕ} 0 1 = cc (rw (p, q) at e) in absurd (omega arith)
     go true true p q =
-        let f : Valid (key_count_of b) ≡ Valid n = rw (p, q) at e in
+        let f : Ok (key_count_of b) ≡ Ok n = rw (p, q) at e in
         let z : key_count_of b ≡ n = cc in
         let c = counted b p in
         let l = c.0 in

@@ -10,7 +10,7 @@ use Rattle.keys.specs.declared.entry.Entry.{Entry}
 use Rattle.keys.specs.declared.entry.Pair.{Pair}
 use Rattle.keys.specs.declared.table.By.{By}
 use Rattle.keys.specs.declared.table.By.TheVariants.{Any, Send, Recv}
-use Rattle.keys.specs.declared.table.Found.{Found}
+use Rattle.keys.specs.Table.{Found}
 use Rattle.tables.specs.Tables.{Tables, send_entry, recv_entry, any_entry, md5_entry}
 use Rattle.tables.specs.Valid.{ValidTables}
 

@@ -1,21 +1,27 @@
 -- What the calls take of tables, and what they ask of them: document 01, "Key table (house bytes)" and "Numbers given back"; document 02,
 -- Tickets 8 and 9. All that a call knows of its tables is a value of `Tables`: `tables_of` says what the two lent buffers mean, in either
 -- form.
-use Rattle.std.specs.Prelude.{ℕ, Bool, cond, ◌&&◌, List, length, eqb}
+use Rattle.std.specs.Prelude.{ℕ, Bool, cond, ◌&&◌, List, length, eqb, Result, Ok, Err}
 use Rattle.keys.specs.Entry.{entries}
-use Rattle.keys.specs.Table.{loaded, found, any_of, answers, meets_any_of}
+use Rattle.keys.specs.Table.{Loaded, Found, loaded, found, any_of, answers, meets_any_of}
 use Rattle.keys.specs.declared.entry.Entry.{Entry}
 use Rattle.keys.specs.declared.entry.Pair.{Pair}
 use Rattle.keys.specs.declared.table.TableKind.TheVariants.{Keys, Md5}
 use Rattle.keys.specs.declared.table.By.TheVariants.{Any, Send, Recv}
-use Rattle.keys.specs.declared.table.Found.{Found}
-use Rattle.keys.specs.declared.table.Loaded.{Loaded}
-use Rattle.keys.specs.declared.table.Loaded.TheVariants.{Valid as LoadedValid, Refused as LoadedRefused}
 use Rattle.prepared.specs.Prepared.{key_count_of, fits, key_part, md5_part}
 pub use Rattle.prepared.specs.Prepared.{max_entries}
 use Rattle.tables.specs.declared.Index.{Index}
-use Rattle.tables.specs.declared.Admitted.{Admitted}
-use Rattle.tables.specs.declared.Admitted.TheVariants.{Valid, Refused}
+use Rattle.tables.specs.declared.Refusal.{Refusal}
+use Rattle.tables.specs.declared.Form.{Form}
+use Rattle.tables.specs.declared.Form.TheVariants.{Bytes, Prepared}
+
+-- what the tables answer: both are taken, and the key table has so many entries (of preparing: so many bytes were written); or they are
+-- refused with a number at an entry
+abbrev pub Admitted : Type 0
+Admitted = Result ℕ Refusal
+
+abbrev pub refused_with : ℕ → Index → Admitted
+refused_with n i = Err (record { number = n; index = i })
 
 -- the answer that stands before a call's own numbers, and the entries that its searches go over
 pub record Tables : Type 0 where
@@ -39,12 +45,12 @@ crossing keys md5s = found (meets_any_of keys) 0 md5s
 
 -- a table's refusal stands, with its entry's index; where it is valid, what follows decides
 abbrev pub after_table : (ℕ → Index) → Loaded → (ℕ → Admitted) → Admitted
-after_table at (LoadedValid n) next = next n
-after_table at (LoadedRefused n i) next = Refused n (at i)
+after_table at (Ok n) next = next n
+after_table at (Err f) next = refused_with f.number (at f.index)
 
 -- "Tables that both match some pair are refused with 45 at the first such MD5 entry"; n is how many key entries there are
 abbrev pub after_crossing : Found → ℕ → Admitted
-after_crossing x n = cond x.there (Refused 45 (md5_index x.index)) (Valid n)
+after_crossing x n = cond x.there (refused_with 45 (md5_index x.index)) (Ok n)
 
 -- the MD5 table's refusals, then 45
 unfoldable pub besides : List ℕ → List ℕ → ℕ → Admitted
@@ -61,11 +67,16 @@ bytes_tables k m = record { answer = admitted k m; keys = entries k; md5s = entr
 -- "A prepared table with a count or an entry that valid bytes could not hold is refused with 44, .. without an index"; so is one beside
 -- which a second buffer is lent that is not empty, since that would not be looked at
 unfoldable pub prepared_answer : List ℕ → List ℕ → Admitted
-prepared_answer b m = cond (fits b && eqb (length m) 0) (Valid (key_count_of b)) (Refused 44 no_index)
+prepared_answer b m = cond (fits b && eqb (length m) 0) (Ok (key_count_of b)) (refused_with 44 no_index)
 
 -- what a prepared table means, and any bytes beside it
 unfoldable pub prepared_tables : List ℕ → List ℕ → Tables
 prepared_tables b m = record { answer = prepared_answer b m; keys = key_part b; md5s = md5_part b }
+
+-- what the two buffers mean in each form
+abbrev pub tables_in : Form → List ℕ → List ℕ → Tables
+tables_in Bytes k m = bytes_tables k m
+tables_in Prepared k m = prepared_tables k m
 
 -- what the two buffers mean that are lent in a form: 0 their tables' own bytes, any other value a prepared table
 abbrev pub tables_of : ℕ → List ℕ → List ℕ → Tables

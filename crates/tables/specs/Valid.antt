@@ -11,7 +11,8 @@ use Rattle.keys.specs.declared.entry.Pair.{Pair}
 use Rattle.keys.specs.declared.table.TableKind.TheVariants.{Keys, Md5}
 pub use Rattle.prepared.specs.Form.{Digest16}
 use Rattle.tables.specs.Tables.{Tables, prepared_tables, tables_of, max_entries, no_index}
-use Rattle.tables.specs.declared.Admitted.TheVariants.{Valid, Refused}
+use Rattle.std.specs.Prelude.{Ok}
+use Rattle.tables.specs.Tables.{refused_with}
 
 -- no two entries at different places clash
 abbrev pub NoClash : List Entry → Type 0
@@ -45,28 +46,28 @@ abbrev pub ApartPairs : Type 0
 ApartPairs = (t : Tables) → Apart t → NoConflict t.keys × NoConflict t.md5s × NoneCrossed t
 
 pub record ValidTables (t : Tables) : Type 0 where
-  pub taken : (n : ℕ) × (t.answer ≡ Valid n)
+  pub taken : (n : ℕ) × (t.answer ≡ Ok n)
   pub held : Held t
   pub apart : Apart t
 
 -- of bytes the answer decides it: tables that are refused with none of 10 to 17 and 45 are valid
 abbrev pub ValidBytes : Type 0
-ValidBytes = (k m : List ℕ) (n : ℕ) → (tables_of 0 k m).answer ≡ Valid n → ValidTables (tables_of 0 k m)
+ValidBytes = (k m : List ℕ) (n : ℕ) → (tables_of 0 k m).answer ≡ Ok n → ValidTables (tables_of 0 k m)
 
 -- of a prepared table, and so of either form, it decides all but the clash and 45, which are not tested again
 abbrev pub TakenHeld : Type 0
-TakenHeld = (form : ℕ) (k m : List ℕ) (n : ℕ) → (tables_of form k m).answer ≡ Valid n → Held (tables_of form k m)
+TakenHeld = (form : ℕ) (k m : List ℕ) (n : ℕ) → (tables_of form k m).answer ≡ Ok n → Held (tables_of form k m)
 
 abbrev pub ValidApart : Type 0
-ValidApart = (form : ℕ) (k m : List ℕ) (n : ℕ) → (tables_of form k m).answer ≡ Valid n → Apart (tables_of form k m)
+ValidApart = (form : ℕ) (k m : List ℕ) (n : ℕ) → (tables_of form k m).answer ≡ Ok n → Apart (tables_of form k m)
     → ValidTables (tables_of form k m)
 
 -- the number that is given is that of the key entries
 abbrev pub ValidCount : Type 0
-ValidCount = (form : ℕ) (k m : List ℕ) (n : ℕ) → (tables_of form k m).answer ≡ Valid n
+ValidCount = (form : ℕ) (k m : List ℕ) (n : ℕ) → (tables_of form k m).answer ≡ Ok n
     → (n ≡ length (tables_of form k m).keys) × (n ≤ max_entries) × (length (tables_of form k m).md5s ≤ max_entries)
 
 -- in every form but 0 a prepared table is taken, with at most so many key entries, or refused with 44, and then no entry is named
 abbrev pub PreparedAnswer : Type 0
 PreparedAnswer = (form : ℕ) (b m : List ℕ) → (form ≡ 0 → ⊥)
-    → ((tables_of form b m).answer ≡ Refused 44 no_index) ⊎ ((n : ℕ) × ((tables_of form b m).answer ≡ Valid n) × (n ≤ max_entries))
+    → ((tables_of form b m).answer ≡ refused_with 44 no_index) ⊎ ((n : ℕ) × ((tables_of form b m).answer ≡ Ok n) × (n ≤ max_entries))

@@ -10,7 +10,7 @@ use Rattle.wire.specs.Header.{sequence}
 use Rattle.keys.specs.declared.entry.Pair.{Pair}
 use Rattle.keys.specs.declared.entry.Entry.{Entry}
 use Rattle.keys.specs.declared.entry.Ids.{Ids}
-use Rattle.keys.specs.declared.table.Found.{Found}
+use Rattle.keys.specs.Table.{Found}
 use Rattle.tables.specs.declared.Index.{Index}
 use Rattle.tables.specs.Tables.{Tables, send_entry, recv_entry, any_entry}
 use Rattle.rules.specs.declared.Outcome.{Outcome}

@@ -3,12 +3,12 @@ use Prim.Native.Nat.{ℕ}
 use mathlib.Core.Path.{◌≡◌, ap, ◌∙◌}
 use mathlib.Core.Bool.{Bool}
 use mathlib.Core.List.{List}
-use Rattle.tables.specs.declared.Admitted.{Admitted}
+use Rattle.tables.specs.Tables.{Admitted}
 use Rattle.tables.specs.Tables.{Tables, tables_of}
 use Rattle.rules.specs.declared.Judged.{Judged}
 use Rattle.rules.specs.declared.SynJudged.{SynJudged}
-use Rattle.rules.specs.declared.Settled.{Settled}
-use Rattle.rules.specs.declared.Signed.{Signed}
+use Rattle.rules.specs.Results.{Settled}
+use Rattle.rules.specs.Results.{Signed}
 use Rattle.rules.specs.declared.State.{State}
 use Rattle.rules.specs.Connection.{Arrival}
 use Rattle.rules.specs.Calls.{judged, judged_syn, opened_passively, opened_actively, opened_actively_md5, asked, signed}

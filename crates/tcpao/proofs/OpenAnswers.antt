@@ -9,13 +9,13 @@ use lib.ListN.{length}
 use lib.Dec.{eqb}
 use borrow.Author.Tests.{eqb-true, not-false}
 use Rattle.keys.specs.declared.entry.Pair.{Pair}
-use Rattle.keys.specs.declared.table.Found.{Found}
+use Rattle.keys.specs.Table.{Found}
 use Rattle.tables.specs.Tables.{Tables, send_entry, md5_entry}
 use Rattle.keys.proofs.MatchLaws.{and-true}
 use Rattle.rules.specs.declared.Outcome.{Outcome}
 use Rattle.rules.specs.declared.Outcome.TheVariants.{Good, Passed, Bad}
 use Rattle.rules.specs.declared.State.{State}
-use Rattle.rules.specs.declared.Settled.{Settled}
+use Rattle.rules.specs.Results.{Settled}
 use Rattle.octets.specs.Tests.{test, first}
 use Rattle.rules.specs.Connection.{sized, pair_of_lem, opening, empty}
 use Rattle.rules.specs.Calls.{refuse, unrefused, address_tests, table_tests, open_tests, settled_by_lem, opened_with, opened_actively}

@@ -13,12 +13,12 @@ use Rattle.keys.specs.Entry.{width}
 use Rattle.keys.proofs.EntryLaws.{width-le}
 use Rattle.keys.specs.declared.entry.Pair.{Pair}
 use Rattle.keys.specs.declared.entry.Secret.{Secret}
-use Rattle.keys.specs.declared.table.Found.{Found}
+use Rattle.keys.specs.Table.{Found}
 use Rattle.tables.specs.Tables.{Tables, send_entry, md5_entry}
 use Rattle.rules.specs.declared.Outcome.{Outcome}
 use Rattle.rules.specs.declared.Outcome.TheVariants.{Good}
 use Rattle.rules.specs.declared.State.{State}
-use Rattle.rules.specs.declared.Signed.{Signed}
+use Rattle.rules.specs.Results.{Signed}
 use Rattle.octets.specs.TestLaws.{NoneApplies, none-applied}
 use Rattle.rules.proofs.JudgeLaws.{is_bad, refusal-bad}
 use Rattle.rules.specs.Segment.{Whole, option_bytes, md5_option_bytes}

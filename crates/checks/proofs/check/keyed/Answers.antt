@@ -3,7 +3,7 @@ use Rattle.std.proofs.Common.{refl, ◌≤◌, sym, ap, ◌∙◌}
 use mathlib.Core.Path.{subst}
 use Rattle.wire.specs.Options.{ao_in}
 use Rattle.wire.specs.declared.header.Header.{Header}
-use Rattle.keys.specs.declared.table.Found.{Found}
+use Rattle.keys.specs.Table.{Found}
 use Rattle.rules.specs.Segment.{key_id_of}
 use Rattle.checks.proofs.Checks.{entry-mac}
 use Rattle.checks.proofs.check.keyed.Goals as goal

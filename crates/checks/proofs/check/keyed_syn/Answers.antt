@@ -3,11 +3,11 @@ use Rattle.std.proofs.Common.{ℕ, ◌≤◌, ◌≡◌, sym, ap, ◌∙◌, Boo
 use mathlib.Core.Path.{subst}
 use Rattle.wire.specs.Options.{ao_in}
 use Rattle.wire.specs.declared.header.Header.{Header}
-use Rattle.keys.specs.declared.table.Found.{Found}
+use Rattle.keys.specs.Table.{Found}
 use Rattle.tables.specs.Tables.{tables_of, any_entry}
 use Rattle.rules.specs.declared.Outcome.{Outcome}
 use Rattle.rules.specs.declared.Outcome.TheVariants.{Passed}
-use Rattle.rules.specs.declared.Place.TheVariants.{At}
+use Rattle.std.specs.Prelude.{Some}
 use Rattle.rules.specs.Segment.{key_id_of}
 use Rattle.rules.specs.Calls.{refuse}
 use Rattle.checks.specs.Groups.{arriving_on}
@@ -43,4 +43,4 @@ returns c =
     let matched = c.any_match-matched.ensures in
     begins-is a.segment.now (missing-is matched c.syn_missing.ensures) (unknown-is a.strict matched c.syn_unknown.ensures)
     c.entry_for-found.ensures (c.arriving_flow-flow.ensures ∙ ap (λ (n : ℕ). arriving_on a.pair n 0) number)
-    (c.own_place.ensures ∙ ap At number) c.by_key.ensures
+    (c.own_place.ensures ∙ ap Some number) c.by_key.ensures

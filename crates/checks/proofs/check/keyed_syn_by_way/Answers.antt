@@ -3,7 +3,7 @@ use Rattle.std.proofs.Common.{refl, sym, ap, ◌∙◌}
 use borrow.Author.Tests.{not-true, not-false}
 use Rattle.wire.specs.Header.{sequence}
 use Rattle.wire.specs.declared.header.Header.{Header}
-use Rattle.keys.specs.declared.table.Found.{Found}
+use Rattle.keys.specs.Table.{Found}
 use Rattle.tables.specs.Tables.{tables_of}
 use Rattle.checks.specs.Groups.{arriving_on}
 use Rattle.checks.proofs.Checks.{md5-is, syn-ao, syn-md5}

@@ -7,7 +7,7 @@ use mathlib.Core.Path.{◌≡◌, refl}
 use native.Mathlib.Omega.{arith}
 use lib.ListN.{length}
 use Rattle.rules.specs.declared.Outcome.TheVariants.{Passed}
-use Rattle.rules.specs.declared.Signing.TheVariants as S
+use Rattle.rules.specs.Signing as S
 use Rattle.tcpao.proofs.SignAnswers.{may_write, sum_fits, adds, writes, answers, outputs}
 use Rattle.tcpao.proofs.Numbered.{signed-numbered}
 use Rattle.tcpao.proofs.sign.sign.Goals as goal
