@@ -7,7 +7,8 @@ use native.Mathlib.Omega.{arith}
 use borrow.Author.Tests.{eq-eqb, ne_eqb, not-true, not-false}
 use Rattle.octets.specs.Tests.{any, Test, tests, first}
 use Rattle.wire.specs.Header.{size_faults, well_sized_of}
-use Rattle.wire.specs.declared.options.Options.{Options}
+use Rattle.std.specs.Prelude.{Option}
+use Rattle.wire.specs.declared.options.Seen.{Seen}
 use Rattle.rules.specs.declared.Outcome.{Outcome}
 use Rattle.rules.specs.Checksum.{segment_sum_of}
 use Rattle.rules.specs.Connection.{Arrival}
@@ -43,5 +44,5 @@ module _ (a : Arrival) {n : ℕ} (is : n ≡ segment_sum_of a.source a.destinati
   right-sum h = no (refuse 40) unrefused (ap not (eq-eqb (segment_sum_of a.source a.destination a.segment) 65535 (sym is ∙ h))) refl
 
 -- 21 and 22 by what was read
-pub form-is : {x : Options} (y : Options) → x ≡ y → {z : Outcome} → z ≡ first (option_tests y) unrefused → z ≡ first (option_tests x) unrefused
-form-is y e q = q ∙ ap (λ (k : Options). first (option_tests k) unrefused) (sym e)
+pub form-is : {x : Option Seen} (y : Option Seen) → x ≡ y → {z : Outcome} → z ≡ first (option_tests y) unrefused → z ≡ first (option_tests x) unrefused
+form-is y e q = q ∙ ap (λ (k : Option Seen). first (option_tests k) unrefused) (sym e)

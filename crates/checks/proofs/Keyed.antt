@@ -13,11 +13,10 @@ use Rattle.wire.specs.HeaderLaws.{sized, area-length}
 use Rattle.wire.specs.Options.{options_of, ao_in, md5_in}
 use Rattle.wire.specs.OptionPlaceLaws.{found_within}
 use Rattle.wire.specs.declared.options.Occurrence.{Occurrence}
-use Rattle.wire.specs.declared.options.Options.{Options}
-use Rattle.wire.specs.declared.options.Options.TheVariants.{Malformed, Found}
+use Rattle.std.specs.Prelude.{Option, Some, None}
+use Rattle.wire.specs.declared.options.Seen.{Seen}
 use Rattle.keys.specs.Table.{Found as Search}
 use Rattle.rules.specs.Position.{Place}
-use Rattle.std.specs.Prelude.{Some, None}
 use Rattle.rules.specs.declared.Outcome.{Outcome}
 use Rattle.rules.specs.declared.Outcome.TheVariants.{Good}
 use Rattle.octets.specs.Tests.{first}
@@ -30,10 +29,10 @@ use Rattle.checks.specs.GroupLaws.{yes, no}
 inside : (s : List ℕ) → ((ao s).at + (ao s).len ≤ length (area s)) × ((md5 s).at + (md5 s).len ≤ length (area s))
 inside s = go (options_of (area s)) refl
   where
-    go : (x : Options) → options_of (area s) ≡ x
+    go : (x : Option Seen) → options_of (area s) ≡ x
         → ((ao_in x).at + (ao_in x).len ≤ length (area s)) × ((md5_in x).at + (md5_in x).len ≤ length (area s))
-    go Malformed e = (omega arith, omega arith)
-    go (Found e) q = let f = found_within (area s) e q in (f.1.inside, f.0.inside)
+    go None e = (omega arith, omega arith)
+    go (Some e) q = let f = found_within (area s) e q in (f.1.inside, f.0.inside)
 
 -- an option lies in the header, and the header in the segment
 pub record Lies (s : List ℕ) (o : Occurrence) : Type 0 where

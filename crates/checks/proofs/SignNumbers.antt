@@ -6,7 +6,8 @@ use mathlib.Core.List.{[], ◌∷◌}
 use native.Mathlib.Omega.{arith}
 use lib.Dec.{ltb, eqb}
 use borrow.Author.Tests.{lt-ltb, le-ltb}
-use Rattle.wire.specs.declared.options.Options.{Options}
+use Rattle.std.specs.Prelude.{Option}
+use Rattle.wire.specs.declared.options.Seen.{Seen}
 use Rattle.wire.specs.declared.header.Header.{Header}
 use Rattle.rules.specs.declared.Outcome.{Outcome}
 use Rattle.rules.specs.declared.Outcome.TheVariants.{Good}
@@ -21,8 +22,8 @@ use Rattle.checks.specs.SignGroups.{fresh_lines, growth_lines, place_lines, segm
 use Rattle.checks.specs.GroupLaws.{yes, no, Else, stop, pass}
 
 -- 31 by what was read
-pub fresh-is : {x : Options} (y : Options) → x ≡ y → {z : Outcome} → z ≡ first (fresh_lines y) unrefused → z ≡ first (fresh_lines x) unrefused
-fresh-is y e q = q ∙ ap (λ (k : Options). first (fresh_lines k) unrefused) (sym e)
+pub fresh-is : {x : Option Seen} (y : Option Seen) → x ≡ y → {z : Outcome} → z ≡ first (fresh_lines y) unrefused → z ≡ first (fresh_lines x) unrefused
+fresh-is y e q = q ∙ ap (λ (k : Option Seen). first (fresh_lines k) unrefused) (sym e)
 
 -- 32
 module _ (added end len : ℕ) where

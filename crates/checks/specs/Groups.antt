@@ -1,9 +1,9 @@
 -- The groups in which the code takes document 01's tests (crate `rules`, specs/Calls): each function of src/faults.rt gives what one of
 -- them gives. A reader need not believe these: the calls cite the crate `rules` alone.
-use Rattle.std.specs.Prelude.{ℕ, cond, not, ◌&&◌, List, [], ◌∷◌, ◌++◌, ltb, eqb}
+use Rattle.std.specs.Prelude.{ℕ, cond, not, ◌&&◌, List, [], ◌∷◌, ◌++◌, ltb, eqb, Option}
 use Rattle.wire.specs.Bytes.{same_bytes}
 use Rattle.wire.specs.Options.{is_malformed, ao_in, md5_in}
-use Rattle.wire.specs.declared.options.Options.{Options}
+use Rattle.wire.specs.declared.options.Seen.{Seen}
 use Rattle.wire.specs.declared.header.Header.{Header}
 use Rattle.keys.specs.declared.entry.Pair.{Pair}
 use Rattle.rules.specs.declared.Outcome.{Outcome}
@@ -23,7 +23,7 @@ count_tests ao md5 =
     test (refuse 22) (ltb 1 ao) ∷ test (refuse 22) (ltb 0 ao && ltb 0 md5) ∷ test (refuse 22) (ltb 1 md5) ∷ []
 
 -- The tests by a header that was read: of `header_of_lem n s` they are the crate `rules`' tests of s, by computation.
-abbrev pub option_tests : Options → List (Test Outcome)
+abbrev pub option_tests : Option Seen → List (Test Outcome)
 option_tests x =
     test (refuse 21) (is_malformed x)
     ∷ test (refuse 22) (ltb 1 (ao_in x).count)

@@ -1,9 +1,9 @@
 -- The tests of signing in the parts that the code goes through (src/signing.rt): what was given; then, by the header that was read, the
 -- segment and the output. Joined in this order they are `sign_tests` of the crate `rules` (SignLaws). A reader need not believe these: the
 -- calls cite the crate `rules` alone.
-use Rattle.std.specs.Prelude.{ℕ, ◌+◌, Bool, cond, not, ◌&&◌, List, [], ◌∷◌, ◌++◌, ltb, eqb}
+use Rattle.std.specs.Prelude.{ℕ, ◌+◌, Bool, cond, not, ◌&&◌, List, [], ◌∷◌, ◌++◌, ltb, eqb, Option}
 use Rattle.wire.specs.Options.{is_malformed, ao_in, md5_in}
-use Rattle.wire.specs.declared.options.Options.{Options}
+use Rattle.wire.specs.declared.options.Seen.{Seen}
 use Rattle.wire.specs.declared.header.Header.{Header}
 use Rattle.keys.specs.declared.entry.Pair.{Pair}
 use Rattle.tables.specs.Tables.{Tables}
@@ -23,7 +23,7 @@ input_tests t s l = family_tests l ++ (table_tests t ++ length_tests 30 s)
 -- The tests by a header that was read: of `header_of_lem n s` they are the crate `rules`' tests of s, by computation.
 
 -- 31
-abbrev pub fresh_lines : Options → List (Test Outcome)
+abbrev pub fresh_lines : Option Seen → List (Test Outcome)
 fresh_lines x = tests (refuse 31) (is_malformed x ∷ ltb 0 (ao_in x).count ∷ ltb 0 (md5_in x).count ∷ [])
 
 -- 32

@@ -1,9 +1,8 @@
 -- Every call gives the number and the value that Answers.antt names for it: the first number of its tests that applies, or 0 (1 on pass)
 -- and its value. Assumes nothing.
-use Rattle.std.specs.Prelude.{ℕ, ◌+◌, ◌≡◌, refl, Bool, true, cond, List, length}
+use Rattle.std.specs.Prelude.{ℕ, ◌+◌, ◌≡◌, refl, Bool, true, cond, List, length, Option, Some, None}
 use Rattle.std.proofs.Common.{ap, arith}
-use Rattle.wire.specs.declared.options.Options.{Options}
-use Rattle.wire.specs.declared.options.Options.TheVariants as O
+use Rattle.wire.specs.declared.options.Seen.{Seen}
 use Rattle.wire.specs.Options.{options_of, is_malformed, ao_in}
 use Rattle.wire.specs.Header.{area}
 use Rattle.keys.specs.Table.{Found}
@@ -116,6 +115,6 @@ pub options-answer : (n : ℕ) (s : List ℕ) → options_answer n (options_of (
 unfolding options_answer
 options-answer n s = go (options_of (area s))
   where
-    go : (o : Options) → options_answer n o ≡ cond (is_malformed o) (answer n 0) (answer 0 (ao_in o).count)
-    go O.Malformed = refl
-    go (O.Found e) = refl
+    go : (o : Option Seen) → options_answer n o ≡ cond (is_malformed o) (answer n 0) (answer 0 (ao_in o).count)
+    go None = refl
+    go (Some e) = refl

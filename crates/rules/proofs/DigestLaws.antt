@@ -1,12 +1,11 @@
 -- The MD5 option in a segment that arrives, with any checksum: what is read of it, and that its digest is of the same bytes at both ends.
 -- RFC 2385; document 02, Ticket 9. Of MD5 nothing is used but that it gives 16 bytes.
-use Rattle.std.specs.Prelude.{ℕ, ◌+◌, ◌/◌, ◌≡◌, refl, true, false, List, [], ◌∷◌, ◌++◌, length, take, drop, replicate}
+use Rattle.std.specs.Prelude.{ℕ, ◌+◌, ◌/◌, ◌≡◌, refl, true, false, List, [], ◌∷◌, ◌++◌, length, take, drop, replicate, Some}
 use Rattle.std.proofs.Common.{ap, ap₂, sym, ◌∙◌, append_assoc, arith, length-append, take_at, drop-drop}
 use Rattle.octets.specs.Each.{Octets}
 use Rattle.mac.specs.Md5Laws.{length-md5}
 use Rattle.wire.specs.Header.{source_port_of, destination_port_of, header_end_of, area}
 use Rattle.wire.specs.Options.{options_of}
-use Rattle.wire.specs.declared.options.Options.TheVariants.{Found}
 use Rattle.wire.specs.OptionLaws.{once}
 use Rattle.rules.specs.Mac.{pseudo_header}
 use Rattle.rules.specs.Digest.{digest_front, digest_input, segment_digest}
@@ -38,7 +37,7 @@ pub reads-md5 : (s : List ℕ) → Fresh s → (m : List ℕ) → length m ≡ 1
 reads-md5 s fresh m h u c d b p =
     record { formed = rw options; one = rw options; no-ao = rw options; digest = rw options carried }
   where
-    options : options_of (area b) ≡ Found (record { md5 = once true 18; ao = once false 18 })
+    options : options_of (area b) ≡ Some (record { md5 = once true 18; ao = once false 18 })
     options = only s fresh 19 18 2 m (area b) (omega arith) (omega arith) (omega (arith, h)) p.its-area
 
     carried : take 16 (drop 22 b) ≡ m

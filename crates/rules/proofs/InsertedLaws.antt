@@ -1,6 +1,6 @@
 -- A segment into which an option was put directly behind byte 20, as it arrives, with any checksum and any ports in it: what stands where.
 -- Assumes of the option that it fills whole words, and of the segment what signing tests.
-use Rattle.std.specs.Prelude.{ℕ, zero, suc, ◌+◌, ◌-◌, ◌*◌, ◌/◌, ◌≤◌, false, ◌≡◌, refl, length, get_or, take, drop, replicate, eqb}
+use Rattle.std.specs.Prelude.{ℕ, zero, suc, ◌+◌, ◌-◌, ◌*◌, ◌/◌, ◌≤◌, false, ◌≡◌, refl, length, get_or, take, drop, replicate, eqb, Option, Some, None}
 use Rattle.std.proofs.Math.Path.{ap, ap₂, subst⁻¹}
 use Rattle.std.proofs.Common.{sym, ◌∙◌, subst, arith, length-append, length-take, length-drop, take-append-drop, drop-cons}
 use mathlib.Core.List.{List, [], ◌∷◌, ◌++◌, append_assoc}
@@ -8,8 +8,7 @@ use Rattle.std.proofs.Math.Seq.{take-append-add, drop-append-add, take-append_se
 use Rattle.wire.specs.Header.{sequence, header_end_of, syn, ack, area}
 use Rattle.wire.specs.Options.{least, options_of}
 use Rattle.wire.specs.OptionLaws.{once, alone}
-use Rattle.wire.specs.declared.options.Options.{Options}
-use Rattle.wire.specs.declared.options.Options.TheVariants.{Malformed, Found}
+use Rattle.wire.specs.declared.options.Seen.{Seen}
 use Rattle.rules.specs.Segment.{malformed, ao, md5, inserted, with_option, Whole}
 use Rattle.rules.specs.Ends.{rechecked, with_ports}
 use Rattle.rules.proofs.PortLaws.{Ports, ports_of_lem, written}
@@ -214,11 +213,11 @@ module _ (s : List ℕ) (fresh : Fresh s) (opt : List ℕ) (even : Whole (length
 -- Of the kinds that are reported, an option of kind k and n bytes with p bytes of padding is the only one, at the place 0.
 pub only : (s : List ℕ) → Fresh s → (k n p : ℕ) (body a : List ℕ) → 2 ≤ k → least k ≤ n → n ≡ 2 + length body
     → a ≡ ((k ∷ n ∷ body) ++ replicate p 1) ++ area s
-    → options_of a ≡ Found (record { md5 = once (eqb k 19) n; ao = once (eqb k 29) n })
+    → options_of a ≡ Some (record { md5 = once (eqb k 19) n; ao = once (eqb k 29) n })
 only s fresh k n p body a h l b e = go (options_of (area s)) refl
   where
-    go : (o : Options) → options_of (area s) ≡ o → options_of a ≡ Found (record { md5 = once (eqb k 19) n; ao = once (eqb k 29) n })
-    go Malformed f = let z : ◌≡◌ {A = ℕ} 0 1 = cc (rw f at fresh.formed) in absurd (omega arith)
-    go (Found x) f =
+    go : (o : Option Seen) → options_of (area s) ≡ o → options_of a ≡ Some (record { md5 = once (eqb k 19) n; ao = once (eqb k 29) n })
+    go None f = let z : ◌≡◌ {A = ℕ} 0 1 = cc (rw f at fresh.formed) in absurd (omega arith)
+    go (Some x) f =
         ap options_of (e ∙ append_assoc (k ∷ n ∷ body) (replicate p 1) (area s))
         ∙ alone k n p body (area s) x h l b f (rw f at fresh.no-md5) (rw f at fresh.no-ao)

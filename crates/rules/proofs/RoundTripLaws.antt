@@ -1,6 +1,6 @@
 -- TCP-AO put into a segment, as it arrives, with any checksum and any ports in it, read by the receiver's definitions.
 use Prim.Native.Nat.{ℕ, ◌+◌, ◌-◌, ◌/◌}
-use Rattle.std.specs.Prelude.{◌≡◌, refl, Bool, true, false, cond, get_or, take, drop, replicate}
+use Rattle.std.specs.Prelude.{◌≡◌, refl, Bool, true, false, cond, get_or, take, drop, replicate, Some}
 use Rattle.std.proofs.Math.Path.{ap, ap₂, subst⁻¹}
 use Rattle.std.proofs.Common.{sym, ◌∙◌, arith, length-append, take_at, drop-drop, get_or-drop}
 use mathlib.Core.List.{List, [], ◌∷◌, ◌++◌, append_assoc}
@@ -10,7 +10,6 @@ use Rattle.std.proofs.Math.Seq.{drop-append-add, drop-append_seam}
 use Rattle.wire.specs.Header.{source_port_of, destination_port_of, sequence, header_end_of, syn, ack, area}
 use Rattle.wire.specs.Options.{options_of}
 use Rattle.wire.specs.declared.options.Seen.{Seen}
-use Rattle.wire.specs.declared.options.Options.TheVariants.{Found}
 use Rattle.octets.specs.Octets.{bytes32}
 use Rattle.octets.specs.Each.{Octets}
 use Rattle.keys.specs.declared.entry.Secret.{Secret}
@@ -100,7 +99,7 @@ module _ (s : List ℕ) (fresh : Fresh s) (k r : ℕ) (m : List ℕ) where
     abbrev alone : Seen
     alone = record { md5 = record { count = 0; at = 0; len = 0 }; ao = record { count = 1; at = 0; len = 4 + length m } }
 
-    options-arrived : options_of (area b) ≡ Found alone
+    options-arrived : options_of (area b) ≡ Some alone
     options-arrived =
         only s fresh 29 (4 + length m) (padding (length m)) (k ∷ r ∷ m) (area b) (omega arith) (omega arith) (omega arith) p.its-area
 

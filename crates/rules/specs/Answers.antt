@@ -1,9 +1,8 @@
 -- "Where an answer is an enum, a definition sets out this paper's number and values for each of its cases." The number, and the value
 -- beside it, of every case of every answer: document 01, "Numbers given back"; 0 and 1 stand for what has no number there. Then the number
 -- and value of each call, by its tests: the promises of the crate `tcpao`, and of `locate` of `states`, cite them.
-use Rattle.std.specs.Prelude.{ℕ, ◌+◌, Bool, cond, List, length}
-use Rattle.wire.specs.declared.options.Options.{Options}
-use Rattle.wire.specs.declared.options.Options.TheVariants as O
+use Rattle.std.specs.Prelude.{ℕ, ◌+◌, Bool, cond, List, length, Option, Some, None}
+use Rattle.wire.specs.declared.options.Seen.{Seen}
 use Rattle.tables.specs.declared.Index.{Index}
 use Rattle.tables.specs.Tables.{Admitted}
 use Rattle.std.specs.Prelude.{Ok, Err}
@@ -76,9 +75,9 @@ abbrev pub position_number : (n reference s : ℕ) → Answer
 position_number n reference s = cond (located (position reference s)) (answer 0 (value (position reference s))) (answer n 0)
 
 -- an option area: 21 (when signing 31) where it is malformed, else how many TCP-AO options it has
-unfoldable pub options_answer : ℕ → Options → Answer
-options_answer n O.Malformed = answer n 0
-options_answer n (O.Found s) = answer 0 s.ao.count
+unfoldable pub options_answer : ℕ → Option Seen → Answer
+options_answer n None = answer n 0
+options_answer n (Some s) = answer 0 s.ao.count
 
 -- The calls: the first number of their tests that applies, with the entry's table and index beside 10 to 17 and 45; else 0, or 1 on pass,
 -- and the call's own value.

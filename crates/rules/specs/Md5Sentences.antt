@@ -1,13 +1,12 @@
 -- Document 02, Ticket 9, said of the definitions once more and apart from them, as Sentences.antt does for TCP-AO: the numbers of the MD5
 -- way row by row, the MD5 table's bytes, what RFC 2385's digest is of, and what is signed, as numerals. Md5SentenceLaws proves each.
-use Rattle.std.specs.Prelude.{ℕ, ◌-◌, ◌≡◌, Bool, true, false, not, ◌&&◌, List, [], ◌∷◌, ◌++◌, map, length, take, drop, replicate, eqb, ltb}
+use Rattle.std.specs.Prelude.{ℕ, ◌-◌, ◌≡◌, Bool, true, false, not, ◌&&◌, List, [], ◌∷◌, ◌++◌, map, length, take, drop, replicate, eqb, ltb, Some}
 use Rattle.octets.specs.Tests.{Test}
 use Rattle.mac.specs.Md5.{md5 as hash}
 use Rattle.wire.specs.Bytes.{same_bytes}
 use Rattle.wire.specs.Header.{sequence, header_end_of, syn, well_sized_of}
 use Rattle.wire.specs.Options.{options_of, md5_in}
 use Rattle.wire.specs.declared.options.Occurrence.{Occurrence}
-use Rattle.wire.specs.declared.options.Options.TheVariants.{Found as OptionsFound}
 use Rattle.keys.specs.declared.entry.Entry.{Entry}
 use Rattle.keys.specs.Table.{Found}
 use Rattle.keys.specs.declared.table.TableKind.TheVariants.{Md5}
@@ -190,7 +189,7 @@ pub record Md5Options : Type 0 where
   pub two : read19 (option19 18 ++ option19 18) ≡ record { count = 2; at = 0; len = 18 }
   -- a length other than 18 is read, and is not malformed
   pub lengths : map (λ (n : ℕ). options_of (option19 n)) (2 ∷ 17 ∷ 19 ∷ 20 ∷ [])
-      ≡ map (λ (n : ℕ). OptionsFound (record { md5 = record { count = 1; at = 0; len = n }; ao = record { count = 0; at = 0; len = 0 } }))
+      ≡ map (λ (n : ℕ). Some (record { md5 = record { count = 1; at = 0; len = n }; ao = record { count = 0; at = 0; len = 0 } }))
       (2 ∷ 17 ∷ 19 ∷ 20 ∷ [])
   -- behind kind 1 and an option of four bytes it stands at 5; behind kind 0 it is not seen
   pub behind : read19 ((1 ∷ 2 ∷ 4 ∷ 5 ∷ 180 ∷ []) ++ option19 18) ≡ record { count = 1; at = 5; len = 18 }

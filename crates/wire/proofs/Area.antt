@@ -3,6 +3,7 @@
 use Prim.Native.Nat.{ℕ, ◌-◌, ◌<◌, min}
 use mathlib.Core.Bool.{Bool, true, false}
 use mathlib.Core.Path.{◌≡◌, refl, sym, ap, ◌∙◌}
+use Rattle.std.specs.Prelude.{Some}
 use mathlib.Core.List.{List, []}
 use lib.ListN.{length, take, drop, length-drop}
 use lib.Seq.{take_all}
@@ -10,10 +11,9 @@ use lib.Dec.{leb}
 use native.Mathlib.Omega.{arith}
 use borrow.Author.Tests.{leb-true, leb-false}
 use Rattle.wire.specs.Options.{read_from, options_of}
-use Rattle.wire.specs.OptionSteps.{none}
-use Rattle.wire.specs.declared.options.Occurrence.{Occurrence}
-use Rattle.wire.specs.declared.options.Options.{Options}
-use Rattle.wire.specs.declared.options.Options.TheVariants.{Found}
+use Rattle.wire.specs.Header.{header_end_of, area}
+use Rattle.wire.proofs.Reading.{Nothing, nothing}
+use Rattle.wire.specs.declared.options.Seen.{Seen}
 
 -- h is the header's end by the data offset, e the smaller of it and the segment's length
 cut : (s : List ℕ) (e h : ℕ) → e ≡ min h (length s) → take (e - 20) (drop 20 s) ≡ take (h - 20) (drop 20 s)
@@ -28,12 +28,7 @@ cut s e h q = go (leb h (length s)) refl where
 short : (s : List ℕ) (e : ℕ) → e < 20 → take (e - 20) (drop 20 s) ≡ []
 short s e h = let z : e - 20 ≡ 0 = omega arith in ap (λ (n : ℕ). take n (drop 20 s)) z
 
-pub cut-options : (s : List ℕ) (e h x : ℕ) (o : Options) → x ≡ h → e ≡ min x (length s) → o ≡ options_of (take (e - 20) (drop 20 s))
-    → o ≡ options_of (take (h - 20) (drop 20 s))
-cut-options s e h x o p q r = r ∙ ap options_of (cut s e h (q ∙ ap (λ (n : ℕ). min n (length s)) p))
-
-pub no-options : (s : List ℕ) (e h x : ℕ) (m a : Occurrence) → x ≡ h → e ≡ min x (length s) → e < 20 → m ≡ none → a ≡ none
-    → Found (record { md5 = m; ao = a }) ≡ options_of (take (h - 20) (drop 20 s))
+pub no-options : (s : List ℕ) (e : ℕ) (x : Seen) → e ≡ min (header_end_of s) (length s) → e < 20 → Nothing x.md5 × Nothing x.ao → Some x ≡ options_of (area s)
 unfolding options_of read_from
-no-options s e h x m a p q l f g =
-    (λ i. Found (record { md5 = f i; ao = g i })) ∙ sym (ap options_of (short s e l)) ∙ ap options_of (cut s e h (q ∙ ap (λ (n : ℕ). min n (length s)) p))
+no-options s e x q l f =
+    (λ i. Some (record { md5 = nothing x.md5 f.0 i; ao = nothing x.ao f.1 i })) ∙ sym (ap options_of (short s e l)) ∙ ap options_of (cut s e (header_end_of s) q)

@@ -3,17 +3,19 @@
 use Prim.Native.Nat.{ℕ, suc, zero, ◌+◌, ◌*◌, ◌-◌, ◌/◌, ◌%◌, ◌^◌, ◌≤◌, ◌<◌, min}
 use mathlib.Core.Bool.{Bool, true, false, ◌&&◌}
 use mathlib.Core.Path.{◌≡◌, refl, sym, ap, ◌∙◌}
-use mathlib.Core.List.{List}
-use lib.ListN.{length, get_or}
+use mathlib.Core.List.{List, [], ◌∷◌, ◌++◌}
+use lib.ListN.{length, get_or, take, length-take}
+use Rattle.std.proofs.lemmas.List.{take_more}
 use lib.Dec.{eqb, ltb}
 use lib.Pow.{shl_exact, mod-pow-add}
-use lib.Bits.{bit_and, bit_or, bit_xor, and_mask}
+use lib.Bits.{bit_and, and_mask}
 use native.Mathlib.Omega.{arith}
 use native.Mathlib.Nat.{add-zero, add-suc, pow-suc, div-div-eq-div-mul, div-one, one-mul, mod-one}
 use native.Mathlib.Numerals.{add-one}
 use borrow.Author.Tests.{eq-eqb, ne_eqb, eqb-true, eqb-false, lt-ltb, le-ltb, ltb-true, ltb-false}
 use Rattle.wire.specs.Prefix.{agree, clear_to, clear_past_of}
-use Rattle.wire.proofs.Same.{kept}
+use Rattle.octets.specs.Each.{Octets}
+use Rattle.wire.specs.Bytes.{same_bytes}
 
 -- the first n bits of a byte, and those past them
 abbrev top_equal : ℕ → ℕ → ℕ → Bool
@@ -99,24 +101,45 @@ pub agree-last : (a b : List ℕ) (i w p n x y : ℕ) → x < 256 → y < 256 �
 agree-last a b i w p n x y ha hb ea eb q h k e =
     (λ j. top_equal n (ea j) (eb j)) ∙ last a b w (omega arith) (omega arith) p n h k (rw q at e)
 
--- the bytes before i agree exactly if the difference d is 0: one byte more
-pub agree-kept : (a b : List ℕ) (i d : ℕ) → get_or a i 0 < 256 → get_or b i 0 < 256 → eqb d 0 ≡ agree (8 * i) a b → eqb (bit_or d (bit_xor (get_or a i 0) (get_or b i 0))) 0 ≡ agree (8 * (i + 1)) a b
-agree-kept a b i d ha hb e =
-    let n : 8 * (i + 1) ≡ 8 * i + 8 = omega arith in
-    kept d (get_or a i 0) (get_or b i 0) ∙ rw (e, n, byte a b i ha hb 8 (omega arith), div-one (get_or a i 0), div-one (get_or b i 0))
+-- two strings with a byte more
+same_push : (p q : List ℕ) (x y : ℕ) → length p ≡ length q → same_bytes (p ++ (x ∷ [])) (q ++ (y ∷ [])) ≡ (same_bytes p q && eqb x y)
+unfolding same_bytes
+same_push [] [] x y l = all_true (eqb x y)
+same_push [] (v ∷ q) x y l = absurd (omega arith)
+same_push (u ∷ p) [] x y l = absurd (omega arith)
+same_push (u ∷ p) (v ∷ q) x y l = rw (same_push p q x y (omega arith)) (sym (regroup (eqb u v) (same_bytes p q) (eqb x y)))
+
+-- the first n bytes decide the first 8 * n bits
+front : (a b : List ℕ) (n : ℕ) → Octets a → Octets b → n ≤ length a → n ≤ length b → agree (8 * n) a b ≡ same_bytes (take n a) (take n b)
+unfolding agree same_bytes
+front a b zero o q h k = refl
+front a b (suc n) o q h k =
+    let m : 8 * suc n ≡ 8 * n + 8 = omega arith in
+    let x = get_or a n 0 in
+    let y = get_or b n 0 in
+    let f = ap (λ (j : ℕ). take j a) (sym (add-one n)) ∙ take_more a n 0 (omega arith) in
+    let g = ap (λ (j : ℕ). take j b) (sym (add-one n)) ∙ take_more b n 0 (omega arith) in
+    let l : length (take n a) ≡ length (take n b) = omega (arith, length-take n a, length-take n b) in
+    rw (m, byte a b n (o n) (q n) 8 (omega arith), div-one x, div-one y, front a b n o q (omega arith) (omega arith), f, g)
+    (sym (same_push (take n a) (take n b) x y l))
+
+-- r says so of as many bytes as both have, w at most
+pub front_is : (a b : List ℕ) (w m n : ℕ) (r z : Bool) → Octets a → Octets b → m ≡ min w (length a) → n ≡ min m (length b)
+    → r ≡ same_bytes (take n a) (take n b) → r ≡ z → agree (8 * n) a b ≡ z
+front_is a b w m n r z o q e f g h = front a b n o q (omega arith) (omega arith) ∙ sym g ∙ h
 
 -- bytes at the front that differ decide
-pub agree-front : (a b : List ℕ) (n p : ℕ) (r : Bool) → r ≡ agree (8 * n) a b → r ≡ false → 8 * n ≤ p → false ≡ agree p a b
-agree-front a b n p r e z h =
+pub agree-front : (a b : List ℕ) (n p : ℕ) → agree (8 * n) a b ≡ false → 8 * n ≤ p → false ≡ agree p a b
+agree-front a b n p e h =
     let k : p ≡ 8 * n + (p - 8 * n) = omega arith in
-    rw k (sym (stays (8 * n) (p - 8 * n) a b (sym e ∙ z)))
+    rw k (sym (stays (8 * n) (p - 8 * n) a b e))
 
 -- a mask of the low bits
 pub one_shl : (k : ℕ) → k ≤ 8 → (1 * 2 ^ k) % 2 ^ 64 ≡ 2 ^ k
 one_shl k h = shl_exact 1 k 64 (omega arith) (omega arith) ∙ one-mul (2 ^ k)
 
-pub clear-is : (x k : ℕ) → k ≤ 8 → eqb (bit_and x ((1 * 2 ^ k) % 2 ^ 64 - 1)) 0 ≡ eqb (x % 2 ^ k) 0
-clear-is x k h =
+pub clear_is : (x k : ℕ) → k ≤ 8 → eqb (bit_and x ((1 * 2 ^ k) % 2 ^ 64 - 1)) 0 ≡ eqb (x % 2 ^ k) 0
+clear_is x k h =
     ap (λ (m : ℕ). eqb (bit_and x (m - 1)) 0) (one_shl k h) ∙ ap (λ (m : ℕ). eqb m 0) (and_mask x k)
 
 -- the low k + 1 bits are zero where the last is and the k above it are
@@ -178,9 +201,6 @@ pub clear-not : (s : List ℕ) (p i : ℕ) → i < length s → clear_to p (8 * 
 clear-not s p i h e =
     let t : 8 * length s ≡ 8 * (i + 1) + (8 * length s - 8 * (i + 1)) = omega arith in
     rw t (sym (clear_stays s p (8 * (i + 1)) (8 * length s - 8 * (i + 1)) e))
-
-pub clear-end : (s : List ℕ) (p i : ℕ) → i ≡ length s → clear_to p (8 * i) s ≡ true → true ≡ clear_past_of p s
-clear-end s p i h e = sym (rw h at e)
 
 pub clear_none : (p : ℕ) (s : List ℕ) → clear_to p 0 s ≡ true
 unfolding clear_to

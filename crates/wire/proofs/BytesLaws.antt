@@ -1,7 +1,8 @@
 -- `same_bytes` says exactly that two strings are equal.
 -- Assumes nothing.
 use Rattle.std.specs.Prelude.{ℕ, Bool, true, false, ◌&&◌, ◌≡◌, refl, List, [], ◌∷◌, eqb}
-use Rattle.std.proofs.Common.{subst, arith, eq-eqb, eqb-true}
+use Rattle.std.specs.Cmp.Lexicographic.{pointwise}
+use Rattle.std.proofs.Common.{ap, subst, arith, eq-eqb, eqb-true}
 use Rattle.wire.specs.Bytes.{same_bytes}
 
 pub same_refl : (a : List ℕ) → same_bytes a a ≡ true
@@ -28,3 +29,11 @@ not_same a b h = go (same_bytes a b) refl where
   go : (t : Bool) → same_bytes a b ≡ t → t ≡ false
   go true e = absurd (h (eq-of-same a b e))
   go false e = refl
+
+-- the library's equality of slices is the same test
+pub same_is : (a b : List ℕ) → pointwise eqb a b ≡ same_bytes a b
+unfolding same_bytes
+same_is [] [] = refl
+same_is [] (y ∷ b) = refl
+same_is (x ∷ a) [] = refl
+same_is (x ∷ a) (y ∷ b) = ap (λ (r : Bool). eqb x y && r) (same_is a b)

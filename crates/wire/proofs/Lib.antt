@@ -1,6 +1,5 @@
 pub mod Area
 pub mod Bits
-pub mod Pick
 pub mod Reading
 pub mod Same
 pub mod BytesLaws

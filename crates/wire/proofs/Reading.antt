@@ -3,6 +3,8 @@
 use Prim.Native.Nat.{ℕ, suc, ◌+◌, ◌-◌, ◌≤◌, ◌<◌}
 use mathlib.Core.List.{List, [], ◌∷◌}
 use mathlib.Core.Bool.{Bool, true, false, cond, ◌||◌}
+use Rattle.std.specs.Prelude.{Option, Some, None}
+use Rattle.core.specs.Option.{option_map}
 use mathlib.Core.Path.{◌≡◌, refl, sym, ap, ◌∙◌, subst}
 use lib.ListN.{length, get_or, drop, length-drop, drop_of_length-le}
 use lib.Seq.{drop-cons, drop-drop, get_or-drop}
@@ -12,37 +14,34 @@ use native.Mathlib.Nat.{add-zero}
 use native.Mathlib.Numerals.{add-one}
 use borrow.Author.Tests.{ne_eqb, eq-eqb, ltb-false, eqb-true, leb-true, leb-false}
 use Rattle.octets.specs.Tests.{any}
-use Rattle.wire.specs.Options.{Option, Reading, malformed, options, more, least, length_faults_of, read_from, of_kind, occurrence, seen, options_of}
+use Rattle.wire.specs.Options.{TcpOption, Reading, malformed, options, more, least, length_faults_of, read_from, of_kind, occurrence, seen, options_of}
 use Rattle.wire.specs.OptionLaws.{read-skip, length_good}
-use Rattle.wire.specs.OptionSteps.{length_at_lem, to_step, step_at_lem, none, noted}
-use Rattle.wire.specs.declared.options.Length.{Length}
-use Rattle.wire.specs.declared.options.Length.TheVariants as L
+use Rattle.wire.specs.OptionSteps.{length_at_lem, step_at_lem, none, noted}
 use Rattle.wire.specs.declared.options.Step.{Step}
 use Rattle.wire.specs.declared.options.Step.TheVariants as S
 use Rattle.wire.specs.declared.options.Occurrence.{Occurrence}
-use Rattle.wire.specs.declared.options.Options.{Options}
-use Rattle.wire.specs.declared.options.Options.TheVariants.{Malformed, Found}
+use Rattle.wire.specs.declared.options.Seen.{Seen}
 
 -- what was noted of a kind, and then the options l of that kind
-abbrev joined : Occurrence → List Option → Occurrence
+abbrev joined : Occurrence → List TcpOption → Occurrence
 joined m [] = m
 joined m (o ∷ l) =
     cond (eqb m.count 0) (record { count = 1 + length l; at = o.at; len = o.len }) (record { count = m.count + (1 + length l); at = m.at; len = m.len })
 
-abbrev after : Occurrence → Occurrence → Reading → Options
-after m a malformed = Malformed
-after m a (options l) = Found (record { md5 = joined m (of_kind 19 l); ao = joined a (of_kind 29 l) })
+abbrev after : Occurrence → Occurrence → Reading → Option Seen
+after m a malformed = None
+after m a (options l) = Some (record { md5 = joined m (of_kind 19 l); ao = joined a (of_kind 29 l) })
 
-joined-none : (l : List Option) → joined none l ≡ occurrence l
+joined-none : (l : List TcpOption) → joined none l ≡ occurrence l
 joined-none [] = refl
 joined-none (o ∷ l) = refl
 
 after_none : (x : Reading) → after none none x ≡ seen x
 after_none malformed = refl
-after_none (options l) = λ i. Found (record { md5 = joined-none (of_kind 19 l) i; ao = joined-none (of_kind 29 l) i })
+after_none (options l) = λ i. Some (record { md5 = joined-none (of_kind 19 l) i; ao = joined-none (of_kind 29 l) i })
 
 -- the first of the options may as well be noted
-joined-more : (m : Occurrence) (o : Option) (l : List Option) → joined m (o ∷ l) ≡ joined (noted m o.at o.len) l
+joined-more : (m : Occurrence) (o : TcpOption) (l : List TcpOption) → joined m (o ∷ l) ≡ joined (noted m o.at o.len) l
 unfolding noted
 joined-more m o [] = refl
 joined-more m o (p ∷ l) = go (eqb m.count 0) where
@@ -60,17 +59,17 @@ abbrev noted_if : Bool → Occurrence → ℕ → ℕ → Occurrence
 noted_if true m at n = noted m at n
 noted_if false m at n = m
 
-joined-if : (j : ℕ) (m : Occurrence) (o : Option) (l : List Option)
+joined-if : (j : ℕ) (m : Occurrence) (o : TcpOption) (l : List TcpOption)
     → joined m (of_kind j (o ∷ l)) ≡ joined (noted_if (eqb o.kind j) m o.at o.len) (of_kind j l)
 joined-if j m o l = go (eqb o.kind j) where
   go : (t : Bool) → joined m (cond t (o ∷ of_kind j l) (of_kind j l)) ≡ joined (noted_if t m o.at o.len) (of_kind j l)
   go true = joined-more m o (of_kind j l)
   go false = refl
 
-after_more : (m a : Occurrence) (o : Option) (x : Reading)
+after_more : (m a : Occurrence) (o : TcpOption) (x : Reading)
     → after m a (more o x) ≡ after (noted_if (eqb o.kind 19) m o.at o.len) (noted_if (eqb o.kind 29) a o.at o.len) x
 after_more m a o malformed = refl
-after_more m a o (options l) = λ i. Found (record { md5 = joined-if 19 m o l i; ao = joined-if 29 a o l i })
+after_more m a o (options l) = λ i. Some (record { md5 = joined-if 19 m o l i; ao = joined-if 29 a o l i })
 
 -- the length at a place, in the reader's words
 folded : {A : Type 0} (x y : A) (a b c : Bool) → cond a x (cond b x (cond c x y)) ≡ cond (a || (b || (c || false))) x y
@@ -86,13 +85,13 @@ missing n m = go (leb n m) refl where
   go false e = let h = leb-false n m e in sym (ne_eqb (n - m) 0 (λ q. omega arith))
 
 length-is : (s : List ℕ) (at k : ℕ) (r : List ℕ) → length r ≡ length s - (at + 1) → at < length s → get_or r 0 0 ≡ get_or s (at + 1) 0
-    → length_at_lem s at (least k) ≡ cond (any (length_faults_of k r)) L.Wrong (L.Is (get_or r 0 0))
+    → length_at_lem s at (least k) ≡ cond (any (length_faults_of k r)) None (Some (get_or r 0 0))
 unfolding length_at_lem
 length-is s at k r e h g =
     let n : 1 + (length s - (at + 1)) ≡ 1 + length r = omega arith in
-    (λ i. cond ((missing (length s) (at + 1) ∙ ap (λ (j : ℕ). eqb j 0) (sym e)) i) L.Wrong
-    (cond (ltb (sym g i) (least k)) L.Wrong (cond (ltb (n i) (sym g i)) L.Wrong (L.Is (sym g i)))))
-    ∙ folded L.Wrong (L.Is (get_or r 0 0)) (eqb (length r) 0) (ltb (get_or r 0 0) (least k)) (ltb (1 + length r) (get_or r 0 0))
+    (λ i. cond ((missing (length s) (at + 1) ∙ ap (λ (j : ℕ). eqb j 0) (sym e)) i) None
+    (cond (ltb (sym g i) (least k)) None (cond (ltb (n i) (sym g i)) None (Some (sym g i)))))
+    ∙ folded None (Some (get_or r 0 0)) (eqb (length r) 0) (ltb (get_or r 0 0) (least k)) (ltb (1 + length r) (get_or r 0 0))
 
 least-two : (k : ℕ) → 2 ≤ least k
 least-two k = go (eqb k 29) where
@@ -101,11 +100,11 @@ least-two k = go (eqb k 29) where
   go false = omega arith
 
 -- the reading at a place, by its option's length
-abbrev by_length : (ℕ → Option) → (ℕ → Reading) → Length → Reading
-by_length o rest L.Wrong = malformed
-by_length o rest (L.Is n) = more (o n) (rest n)
+abbrev by_length : (ℕ → TcpOption) → (ℕ → Reading) → Option ℕ → Reading
+by_length o rest None = malformed
+by_length o rest (Some n) = more (o n) (rest n)
 
-abbrev option_at : List ℕ → ℕ → ℕ → Option
+abbrev option_at : List ℕ → ℕ → ℕ → TcpOption
 option_at s at n = record { kind = get_or s at 0; at = at; len = n }
 
 abbrev on : List ℕ → ℕ → Reading
@@ -128,11 +127,11 @@ read_at s at h =
     first : drop at s ≡ k ∷ r
     first = drop-cons s at 0 h ∙ ap (λ (j : ℕ). k ∷ drop j s) (sym (add-one at))
 
-    len : length_at_lem s at (least k) ≡ cond (any (length_faults_of k r)) L.Wrong (L.Is (get_or r 0 0))
+    len : length_at_lem s at (least k) ≡ cond (any (length_faults_of k r)) None (Some (get_or r 0 0))
     len = length-is s at k r (length-drop (at + 1) s) h (get_or-drop (at + 1) s 0 0 ∙ ap (λ (j : ℕ). get_or s j 0) (add-zero (at + 1)))
 
-    is : (t : Bool) → any (length_faults_of k r) ≡ t → cond t L.Wrong (L.Is (get_or r 0 0)) ≡ length_at_lem s at (least k)
-    is t e = ap (λ (b : Bool). cond b L.Wrong (L.Is (get_or r 0 0))) (sym e) ∙ sym len
+    is : (t : Bool) → any (length_faults_of k r) ≡ t → cond t None (Some (get_or r 0 0)) ≡ length_at_lem s at (least k)
+    is t e = ap (λ (b : Bool). cond b None (Some (get_or r 0 0))) (sym e) ∙ sym len
 
     go : (t : Bool) → any (length_faults_of k r) ≡ t
         → cond t malformed (more (record { kind = k; at = at; len = get_or r 0 0 }) (read_from (get_or r 0 0 - 1) (at + 1) r))
@@ -153,28 +152,35 @@ pub record Along (s : List ℕ) (at : ℕ) (m a : Occurrence) : Type 0 where
   pub aos : a.count ≤ at
   pub rest : after m a (on s at) ≡ options_of s
 
-pub start : (s : List ℕ) (m a : Occurrence) → m ≡ none → a ≡ none → Along s 0 m a
+-- what is seen before any option is read
+abbrev pub Nothing : Occurrence → Type 0
+Nothing o = (o.count ≡ 0) × ((o.at ≡ 0) × (o.len ≡ 0))
+
+pub nothing : (o : Occurrence) → Nothing o → o ≡ none
+nothing o z = λ i. record { count = z.0 i; at = z.1.0 i; len = z.1.1 i }
+
+pub start : (s : List ℕ) (m a : Occurrence) → Nothing m → Nothing a → Along s 0 m a
 unfolding options_of
 start s m a e f =
     record {
       within = omega arith;
-      md5s = rw e (omega arith);
-      aos = rw f (omega arith);
-      rest = (λ i. after (e i) (f i) (read_from 0 0 s)) ∙ after_none (read_from 0 0 s);
+      md5s = omega (arith, e.0);
+      aos = omega (arith, f.0);
+      rest = (λ i. after (nothing m e i) (nothing a f i) (read_from 0 0 s)) ∙ after_none (read_from 0 0 s);
     }
 
-pub done : (s : List ℕ) (at : ℕ) (m a : Occurrence) → Along s at m a → length s ≤ at → Found (record { md5 = m; ao = a }) ≡ options_of s
+pub done : (s : List ℕ) (at : ℕ) (m a : Occurrence) → Along s at m a → length s ≤ at → Some (record { md5 = m; ao = a }) ≡ options_of s
 unfolding read_from
 done s at m a d h = sym (ap (λ (l : List ℕ). after m a (read_from 0 at l)) (drop_of_length-le s h)) ∙ d.rest
 
 -- what is known after the option x at `at`
-abbrev pub Next : List ℕ → ℕ → Occurrence → Occurrence → Step → Type 0
-Next s at m a S.End = Found (record { md5 = m; ao = a }) ≡ options_of s
-Next s at m a S.Nop = Along s (at + 1) m a
-Next s at m a (S.Md5 n) = (2 ≤ n) × (at + n ≤ length s) × ((r : Occurrence) → r ≡ noted m at n → Along s (at + n) r a)
-Next s at m a (S.Ao n) = (2 ≤ n) × (at + n ≤ length s) × ((r : Occurrence) → r ≡ noted a at n → Along s (at + n) m r)
-Next s at m a (S.Other n) = (2 ≤ n) × Along s (at + n) m a
-Next s at m a S.Wrong = Malformed ≡ options_of s
+abbrev pub Next : List ℕ → ℕ → Occurrence → Occurrence → Option Step → Type 0
+Next s at m a (Some S.End) = Some (record { md5 = m; ao = a }) ≡ options_of s
+Next s at m a (Some S.Nop) = Along s (at + 1) m a
+Next s at m a (Some (S.Md5 n)) = (2 ≤ n) × (at + n ≤ length s) × ((r : Occurrence) → r ≡ noted m at n → Along s (at + n) r a)
+Next s at m a (Some (S.Ao n)) = (2 ≤ n) × (at + n ≤ length s) × ((r : Occurrence) → r ≡ noted a at n → Along s (at + n) m r)
+Next s at m a (Some (S.Other n)) = (2 ≤ n) × Along s (at + n) m a
+Next s at m a None = None ≡ options_of s
 
 noted-count : (o : Occurrence) (at n : ℕ) → (noted o at n).count ≤ o.count + 1
 unfolding noted
@@ -183,13 +189,13 @@ noted-count o at n = go (eqb o.count 0) where
   go true = omega arith
   go false = omega arith
 
-length-bounds : (s : List ℕ) (at low n : ℕ) → length_at_lem s at low ≡ L.Is n → (low ≤ n) × (n ≤ 1 + (length s - (at + 1)))
+length-bounds : (s : List ℕ) (at low n : ℕ) → length_at_lem s at low ≡ Some n → (low ≤ n) × (n ≤ 1 + (length s - (at + 1)))
 unfolding length_at_lem
 length-bounds s at low n e = go (leb (length s) (at + 1)) (ltb x low) (ltb (1 + (length s - (at + 1))) x) refl refl e where
   x : ℕ
   x = get_or s (at + 1) 0
 
-  go : (a b c : Bool) → ltb x low ≡ b → ltb (1 + (length s - (at + 1))) x ≡ c → cond a L.Wrong (cond b L.Wrong (cond c L.Wrong (L.Is x))) ≡ L.Is n → (low ≤ n) × (n ≤ 1 + (length s - (at + 1)))
+  go : (a b c : Bool) → ltb x low ≡ b → ltb (1 + (length s - (at + 1))) x ≡ c → cond a None (cond b None (cond c None (Some x))) ≡ Some n → (low ≤ n) × (n ≤ 1 + (length s - (at + 1)))
   go true b c p q e = let z : ◌≡◌ {A = ℕ} 0 1 = cc in absurd (omega arith)
   go false true c p q e = let z : ◌≡◌ {A = ℕ} 0 1 = cc in absurd (omega arith)
   go false false true p q e = let z : ◌≡◌ {A = ℕ} 0 1 = cc in absurd (omega arith)
@@ -197,12 +203,12 @@ length-bounds s at low n e = go (leb (length s) (at + 1)) (ltb x low) (ltb (1 + 
 
 module _ (s : List ℕ) (at : ℕ) (m a : Occurrence) (h : at < length s) (d : Along s at m a) where
   -- an option with a length, once its kind is known
-  sized : (low : ℕ) (f : ℕ → Step) (l : Length) → 2 ≤ low → length_at_lem s at low ≡ l
+  sized : (low : ℕ) (f : ℕ → Step) (l : Option ℕ) → 2 ≤ low → length_at_lem s at low ≡ l
       → after m a (by_length (option_at s at) (λ (n : ℕ). on s (at + n)) l) ≡ options_of s
-      → ((n : ℕ) → 2 ≤ n → at + n ≤ length s → after m a (more (option_at s at n) (on s (at + n))) ≡ options_of s → Next s at m a (f n))
-      → Next s at m a (to_step f l)
-  sized low f L.Wrong k e q g = q
-  sized low f (L.Is n) k e q g = let b = length-bounds s at low n e in g n (omega arith) (omega arith) q
+      → ((n : ℕ) → 2 ≤ n → at + n ≤ length s → after m a (more (option_at s at n) (on s (at + n))) ≡ options_of s → Next s at m a (Some (f n)))
+      → Next s at m a (option_map f l)
+  sized low f None k e q g = q
+  sized low f (Some n) k e q g = let b = length-bounds s at low n e in g n (omega arith) (omega arith) q
 
   -- it is noted by its kind
   marked : (n : ℕ) (p q : Bool) → eqb (get_or s at 0) 19 ≡ p → eqb (get_or s at 0) 29 ≡ q → after m a (more (option_at s at n) (on s (at + n))) ≡ options_of s
@@ -215,7 +221,7 @@ module _ (s : List ℕ) (at : ℕ) (m a : Occurrence) (h : at < length s) (d : A
     k : ℕ
     k = get_or s at 0
 
-    rest : Length → Reading
+    rest : Option ℕ → Reading
     rest l = by_length (option_at s at) (λ (n : ℕ). on s (at + n)) l
 
     low : (t : Bool) → eqb k 29 ≡ t → after m a (rest (length_at_lem s at (least k))) ≡ options_of s → after m a (rest (length_at_lem s at (cond t 4 2))) ≡ options_of s
@@ -223,7 +229,7 @@ module _ (s : List ℕ) (at : ℕ) (m a : Occurrence) (h : at < length s) (d : A
 
     go : (b0 b1 b19 b29 : Bool) → eqb k 19 ≡ b19 → eqb k 29 ≡ b29
         → after m a (cond b0 (options []) (cond b1 (on s (at + 1)) (rest (length_at_lem s at (least k))))) ≡ options_of s
-        → Next s at m a (cond b0 S.End (cond b1 S.Nop (cond b19 (to_step S.Md5 (length_at_lem s at 2)) (cond b29 (to_step S.Ao (length_at_lem s at 4)) (to_step S.Other (length_at_lem s at 2))))))
+        → Next s at m a (cond b0 (Some S.End) (cond b1 (Some S.Nop) (cond b19 (option_map S.Md5 (length_at_lem s at 2)) (cond b29 (option_map S.Ao (length_at_lem s at 4)) (option_map S.Other (length_at_lem s at 2))))))
     go true b1 b19 b29 e f q = q
     go false true b19 b29 e f q = record { within = omega arith; md5s = omega (arith, d.md5s); aos = omega (arith, d.aos); rest = q }
     go false false true true e f q = absurd (omega (arith, eqb-true k 19 e, eqb-true k 29 f))
@@ -255,6 +261,10 @@ module _ (s : List ℕ) (at : ℕ) (m a : Occurrence) (h : at < length s) (d : A
         sized 2 S.Other (length_at_lem s at 2) (omega arith) refl (low false f q)
         (λ n b c r. (b, record { within = c; md5s = omega (arith, d.md5s); aos = omega (arith, d.aos); rest = marked n false false e f r }))
 
--- one turn of the loop: the option y was read at `at`
-pub next : (s : List ℕ) (at : ℕ) (m a : Occurrence) (x y : Step) → at < length s → Along s at m a → x ≡ step_at_lem s at → x ≡ y → Next s at m a y
-next s at m a x y h d q p = subst (Next s at m a) (sym q ∙ p) (core s at m a h d)
+-- one turn of the loop: the option y was read at `at`, or none whose length is right
+pub next : (s : List ℕ) (at : ℕ) (m a : Occurrence) {x : Option Step} {f : Step} (y : Step) → at < length s → Along s at m a → x ≡ step_at_lem s at → x ≡ Some f → f ≡ y
+    → Next s at m a (Some y)
+next s at m a y h d q p e = subst (Next s at m a) (sym q ∙ p ∙ ap Some e) (core s at m a h d)
+
+pub wrong : (s : List ℕ) (at : ℕ) (m a : Occurrence) {x : Option Step} → at < length s → Along s at m a → x ≡ step_at_lem s at → x ≡ None → None ≡ options_of s
+wrong s at m a h d q p = subst (Next s at m a) (sym q ∙ p) (core s at m a h d)

@@ -1,35 +1,14 @@
--- Two strings compared from an index on: what the loops of `bytes` need.
+-- Two strings compared byte by byte, all of them: what the loop of `bytes::same_throughout` needs.
 -- Assumes nothing.
-use Prim.Native.Nat.{ℕ, ◌+◌, ◌≤◌, ◌<◌}
-use mathlib.Core.Bool.{Bool, true, false, ◌&&◌}
-use mathlib.Core.Path.{◌≡◌, refl, sym, ap, ◌∙◌}
-use mathlib.Core.List.{List}
-use lib.ListN.{length, get_or, drop, drop_of_length-le}
-use lib.Seq.{drop-cons}
+use Rattle.std.specs.Prelude.{ℕ, Bool, true, false, ◌&&◌, ◌≡◌, refl, List, [], ◌∷◌, ◌⊎◌, length, eqb}
+use Rattle.std.proofs.Common.{ap, sym, ◌∙◌, ⊎_elim, arith, ne_eqb, eqb-true}
+use Rattle.std.proofs.lemmas.Bool.{eqb-false}
 use lib.Bits.{bit_or, bit_xor, and_le_l, and_le_r, or_add_and, xor_add_and, xor_self}
-use lib.Dec.{eqb}
-use native.Mathlib.Omega.{arith}
-use native.Mathlib.Numerals.{add-one}
-use borrow.Author.Tests.{eq-eqb, ne_eqb, eqb-true, eqb-false}
 use Rattle.wire.specs.Bytes.{same_bytes}
 use Rattle.wire.proofs.BytesLaws.{not_same}
 
--- before i the strings differ exactly if d is not 0, and what stands from i on decides the rest
-pub record Compared (a b : List ℕ) (i d : ℕ) : Type 0 where
-  pub within : i ≤ length a
-  pub long : length a ≡ length b
-  pub rest : (eqb d 0 && same_bytes (drop i a) (drop i b)) ≡ same_bytes a b
-
-pub start : (a b : List ℕ) → length a ≡ length b → Compared a b 0 0
-start a b e = record { within = omega arith; long = e; rest = refl }
-
 pub lengths : (a b : List ℕ) → (length a ≡ length b → ⊥) → false ≡ same_bytes a b
 lengths a b h = sym (not_same a b (λ e. h (ap length e)))
-
-step : (a b : List ℕ) (i : ℕ) → i < length a → i < length b
-    → same_bytes (drop i a) (drop i b) ≡ (eqb (get_or a i 0) (get_or b i 0) && same_bytes (drop (i + 1) a) (drop (i + 1) b))
-unfolding same_bytes
-step a b i h k = rw (add-one, drop-cons a i 0, drop-cons b i 0)
 
 -- a byte's difference is 0 exactly if the bytes are equal, and once it is not 0 it stays so
 pub kept : (d x y : ℕ) → eqb (bit_or d (bit_xor x y)) 0 ≡ (eqb d 0 && eqb x y)
@@ -50,32 +29,31 @@ regroup : (p q r : Bool) → ((p && q) && r) ≡ (p && (q && r))
 regroup true q r = refl
 regroup false q r = refl
 
-pub turn : (a b : List ℕ) (i d : ℕ) → i < length a → Compared a b i d → Compared a b (i + 1) (bit_or d (bit_xor (get_or a i 0) (get_or b i 0)))
-turn a b i d h c =
-    let l : i < length b = omega arith in
-    record {
-      within = omega arith;
-      long = c.long;
-      rest = rw (kept d (get_or a i 0) (get_or b i 0), regroup, ← step a b i h l) c.rest;
-    }
+-- of a and b what is left is r and q, and what stood before it differs exactly if d is not 0
+pub record Compared (a b r q : List ℕ) (d : ℕ) : Type 0 where
+  pub long : length r ≡ length q
+  pub rest : (eqb d 0 && same_bytes r q) ≡ same_bytes a b
 
--- where no difference is kept: equal bytes go on, and the first unequal ones decide
-pub equal : (a b : List ℕ) (i : ℕ) → i < length a → get_or a i 0 ≡ get_or b i 0 → Compared a b i 0 → Compared a b (i + 1) 0
-equal a b i h e c =
-    let l : i < length b = omega arith in
-    record { within = omega arith; long = c.long; rest = sym (step a b i h l ∙ rw (eq-eqb (get_or a i 0) (get_or b i 0) e)) ∙ c.rest }
+pub start : (a b r q : List ℕ) → r ≡ a → q ≡ b → length a ≡ length b → Compared a b r q 0
+start a b r q e f h = record { long = ap length e ∙ h ∙ sym (ap length f); rest = λ i. same_bytes (e i) (f i) }
 
-pub unequal : (a b : List ℕ) (i : ℕ) → i < length a → (get_or a i 0 ≡ get_or b i 0 → ⊥) → Compared a b i 0 → false ≡ same_bytes a b
-unequal a b i h e c =
-    let l : i < length b = omega arith in
-    sym (step a b i h l ∙ rw (ne_eqb (get_or a i 0) (get_or b i 0) e)) ∙ c.rest
+pub turn : (a b r q s t : List ℕ) (d x y : ℕ) → r ≡ x ∷ s → q ≡ y ∷ t → Compared a b r q d → Compared a b s t (bit_or d (bit_xor x y))
+unfolding same_bytes
+turn a b r q s t d x y e f c =
+    let l : length s ≡ length t = omega (arith, ap length e, ap length f, c.long) in
+    record { long = l; rest = rw (kept d x y, regroup) ((λ i. eqb d 0 && same_bytes (sym e i) (sym f i)) ∙ c.rest) }
 
 all_true : (x : Bool) → (x && true) ≡ x
 all_true true = refl
 all_true false = refl
 
-pub done : (a b : List ℕ) (i d : ℕ) → length a ≤ i → Compared a b i d → eqb d 0 ≡ same_bytes a b
+-- of two strings of one length both are empty where one is
+none_left : (r q : List ℕ) → length r ≡ length q → (r ≡ []) ⊎ (q ≡ []) → same_bytes r q ≡ true
 unfolding same_bytes
-done a b i d h c =
-    let p : length b ≤ i = omega arith in
-    sym (all_true (eqb d 0)) ∙ sym (rw (drop_of_length-le a h, drop_of_length-le b p)) ∙ c.rest
+none_left [] [] l h = refl
+none_left [] (y ∷ q) l h = absurd (omega arith)
+none_left (x ∷ r) [] l h = absurd (omega arith)
+none_left (x ∷ r) (y ∷ q) l h = ⊎_elim (λ (e : x ∷ r ≡ []). cc) (λ (e : y ∷ q ≡ []). cc) h
+
+pub done : (a b r q : List ℕ) (d : ℕ) → (r ≡ []) ⊎ (q ≡ []) → Compared a b r q d → eqb d 0 ≡ same_bytes a b
+done a b r q d h c = sym (all_true (eqb d 0)) ∙ rw (← none_left r q c.long h) c.rest

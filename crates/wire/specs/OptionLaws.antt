@@ -1,14 +1,13 @@
 -- Laws of the option reader, for what stands above: an option before the rest, padding before the rest, an option alone of its kind.
 -- Assumes nothing: any bytes.
-use Rattle.std.specs.Prelude.{ℕ, suc, zero, ◌+◌, ◌-◌, ◌≤◌, ◌<◌, List, [], ◌∷◌, ◌++◌, map, Bool, true, false, cond, ◌||◌, ◌≡◌, refl, length, get_or, drop, replicate, ltb, eqb}
+use Rattle.std.specs.Prelude.{ℕ, suc, zero, ◌+◌, ◌-◌, ◌≤◌, ◌<◌, List, [], ◌∷◌, ◌++◌, map, Bool, true, false, cond, Some, ◌||◌, ◌≡◌, refl, length, get_or, drop, replicate, ltb, eqb}
 use Rattle.std.proofs.Common.{sym, ap, ◌∙◌, length-append, arith, add-zero, le-ltb, ne_eqb, ltb-false}
 use Rattle.std.proofs.Math.Seq.{drop-append_seam}
 use Rattle.std.proofs.lemmas.Bool.{eqb-false}
 use Rattle.octets.specs.Tests.{any}
-use Rattle.wire.specs.Options.{Option, Reading, malformed, options, more, least, length_faults_of, read_from, of_kind, occurrence, occurrences, seen, options_of}
+use Rattle.wire.specs.Options.{TcpOption, Reading, malformed, options, more, least, length_faults_of, read_from, of_kind, occurrence, occurrences, seen, options_of}
 use Rattle.wire.specs.declared.options.Occurrence.{Occurrence}
 use Rattle.wire.specs.declared.options.Seen.{Seen}
-use Rattle.wire.specs.declared.options.Options.TheVariants.{Found}
 
 -- to pass over n bytes is to read on behind them
 pub read-skip : (n at : ℕ) (s : List ℕ) → n ≤ length s → read_from n at s ≡ read_from 0 (at + n) (drop n s)
@@ -64,14 +63,14 @@ read-pads (suc p) at rest =
     read-pads p (at + 1) rest ∙ ap (λ (k : ℕ). read_from 0 k rest) e
 
 -- the same options d places later
-abbrev pub later : ℕ → Option → Option
+abbrev pub later : ℕ → TcpOption → TcpOption
 later d o = record { kind = o.kind; at = d + o.at; len = o.len }
 
 abbrev pub shifted : ℕ → Reading → Reading
 shifted d malformed = malformed
 shifted d (options l) = options (map (later d) l)
 
-shifted-more : (d : ℕ) (o : Option) (x : Reading) → more (later d o) (shifted d x) ≡ shifted d (more o x)
+shifted-more : (d : ℕ) (o : TcpOption) (x : Reading) → more (later d o) (shifted d x) ≡ shifted d (more o x)
 shifted-more d o malformed = refl
 shifted-more d o (options l) = refl
 
@@ -87,7 +86,7 @@ read-shift d zero at (k ∷ r) =
     let next : (n : ℕ) → read_from n (d + at + 1) r ≡ shifted d (read_from n (at + 1) r) = λ n. ap (λ (j : ℕ). read_from n j r) e ∙ read-shift d n (at + 1) r in
     go (eqb k 0) (eqb k 1) (any (length_faults_of k r)) (read_from 0 (at + 1) r) (read_from (get_or r 0 0 - 1) (at + 1) r) (next 0) (next (get_or r 0 0 - 1))
   where
-    o : Option
+    o : TcpOption
     o = record { kind = k; at = at; len = get_or r 0 0 }
 
     go : (p q t : Bool) {x y : Reading} (x₀ y₀ : Reading) → x ≡ shifted d x₀ → y ≡ shifted d y₀
@@ -97,16 +96,16 @@ read-shift d zero at (k ∷ r) =
     go false false true x₀ y₀ e f = refl
     go false false false x₀ y₀ e f = ap (more (later d o)) f ∙ shifted-more d o y₀
 
-of_kind-later : (k d : ℕ) (l : List Option) → of_kind k (map (later d) l) ≡ map (later d) (of_kind k l)
+of_kind-later : (k d : ℕ) (l : List TcpOption) → of_kind k (map (later d) l) ≡ map (later d) (of_kind k l)
 of_kind-later k d [] = refl
 of_kind-later k d (o ∷ l) = go (eqb o.kind k) (of_kind-later k d l) where
-  go : (t : Bool) {x : List Option} → x ≡ map (later d) (of_kind k l)
+  go : (t : Bool) {x : List TcpOption} → x ≡ map (later d) (of_kind k l)
       → cond t (later d o ∷ x) x ≡ map (later d) (cond t (o ∷ of_kind k l) (of_kind k l))
-  go true e = ap (λ (x : List Option). later d o ∷ x) e
+  go true e = ap (λ (x : List TcpOption). later d o ∷ x) e
   go false e = e
 
 -- where none is counted there is none
-pub none-counted : (l : List Option) → (occurrence l).count ≡ 0 → l ≡ []
+pub none-counted : (l : List TcpOption) → (occurrence l).count ≡ 0 → l ≡ []
 none-counted [] e = refl
 none-counted (o ∷ l) e = absurd (omega arith)
 
@@ -115,7 +114,7 @@ abbrev pub once : Bool → ℕ → Occurrence
 once true n = record { count = 1; at = 0; len = n }
 once false n = record { count = 0; at = 0; len = 0 }
 
-once_is : (k j n : ℕ) (l : List Option) → l ≡ [] → occurrence (cond (eqb k j) (record { kind = k; at = 0; len = n } ∷ l) l) ≡ once (eqb k j) n
+once_is : (k j n : ℕ) (l : List TcpOption) → l ≡ [] → occurrence (cond (eqb k j) (record { kind = k; at = 0; len = n } ∷ l) l) ≡ once (eqb k j) n
 once_is k j n l e = go (eqb k j) where
   go : (t : Bool) → occurrence (cond t (record { kind = k; at = 0; len = n } ∷ l) l) ≡ once t n
   go true = rw e
@@ -124,31 +123,31 @@ once_is k j n l e = go (eqb k j) where
 -- An option of kind k and n bytes, p bytes of padding, and a rest that is well formed without kinds 19 and 29: of the kinds that are
 -- reported there is this option alone, at 0, if k is one of them.
 pub alone : (k n p : ℕ) (body rest : List ℕ) (e : Seen) → 2 ≤ k → least k ≤ n → n ≡ 2 + length body
-    → options_of rest ≡ Found e → e.md5.count ≡ 0 → e.ao.count ≡ 0
-    → options_of (k ∷ n ∷ (body ++ (replicate p 1 ++ rest))) ≡ Found (record { md5 = once (eqb k 19) n; ao = once (eqb k 29) n })
+    → options_of rest ≡ Some e → e.md5.count ≡ 0 → e.ao.count ≡ 0
+    → options_of (k ∷ n ∷ (body ++ (replicate p 1 ++ rest))) ≡ Some (record { md5 = once (eqb k 19) n; ao = once (eqb k 29) n })
 unfolding options_of
 alone k n p body rest e h l b f m a =
     ap seen (read-option k n 0 body (replicate p 1 ++ rest) h l b ∙ ap (more o) (read-pads p (0 + n) rest ∙ there)) ∙ go (read_from 0 0 rest) f
   where
-    o : Option
+    o : TcpOption
     o = record { kind = k; at = 0; len = n }
 
     there : read_from 0 (0 + n + p) rest ≡ shifted (0 + n + p) (read_from 0 0 rest)
     there = ap (λ (j : ℕ). read_from 0 j rest) (sym (add-zero (0 + n + p))) ∙ read-shift (0 + n + p) 0 0 rest
 
-    go : (x : Reading) → seen x ≡ Found e → seen (more o (shifted (0 + n + p) x)) ≡ Found (record { md5 = once (eqb k 19) n; ao = once (eqb k 29) n })
+    go : (x : Reading) → seen x ≡ Some e → seen (more o (shifted (0 + n + p) x)) ≡ Some (record { md5 = once (eqb k 19) n; ao = once (eqb k 29) n })
     go malformed q = let z : ◌≡◌ {A = ℕ} 0 1 = cc in absurd (omega arith)
     go (options x) q =
         let u : record { md5 = occurrences 19 x; ao = occurrences 29 x } ≡ e = cc in
         let v : (j : ℕ) → (occurrences j x).count ≡ 0 → of_kind j (map (later (0 + n + p)) x) ≡ [] =
         λ j r. of_kind-later j (0 + n + p) x ∙ ap (map (later (0 + n + p))) (none-counted (of_kind j x) r) in
-        λ i. Found (record {
+        λ i. Some (record {
           md5 = once_is k 19 n _ (v 19 (ap (λ (y : Seen). y.md5.count) u ∙ m)) i;
           ao = once_is k 29 n _ (v 29 (ap (λ (y : Seen). y.ao.count) u ∙ a)) i;
         })
 
 -- in particular TCP-AO
-pub ao-alone : (n p : ℕ) (body rest : List ℕ) (e : Seen) → 4 ≤ n → n ≡ 2 + length body → options_of rest ≡ Found e → e.md5.count ≡ 0 → e.ao.count ≡ 0
+pub ao-alone : (n p : ℕ) (body rest : List ℕ) (e : Seen) → 4 ≤ n → n ≡ 2 + length body → options_of rest ≡ Some e → e.md5.count ≡ 0 → e.ao.count ≡ 0
     → options_of (29 ∷ n ∷ (body ++ (replicate p 1 ++ rest)))
-    ≡ Found (record { md5 = record { count = 0; at = 0; len = 0 }; ao = record { count = 1; at = 0; len = n } })
+    ≡ Some (record { md5 = record { count = 0; at = 0; len = 0 }; ao = record { count = 1; at = 0; len = n } })
 ao-alone n p body rest e l b f m a = alone 29 n p body rest e (omega arith) l b f m a

@@ -1,32 +1,27 @@
 -- One option at a place of the area: what the private functions of `options` promise each other.
 -- A reader need not believe these: the contract of `read` cites `Options` alone.
-use Rattle.std.specs.Prelude.{ℕ, ◌+◌, ◌-◌, List, cond, length, get_or, ltb, leb, eqb}
-use Rattle.wire.specs.declared.options.Length.{Length}
-use Rattle.wire.specs.declared.options.Length.TheVariants as L
+use Rattle.std.specs.Prelude.{ℕ, ◌+◌, ◌-◌, List, cond, Option, Some, None, length, get_or, ltb, leb, eqb}
+use Rattle.core.specs.Option.{option_map}
 use Rattle.wire.specs.declared.options.Step.{Step}
 use Rattle.wire.specs.declared.options.Step.TheVariants as S
 use Rattle.wire.specs.declared.options.Occurrence.{Occurrence}
 
-unfoldable pub length_at_lem : List ℕ → ℕ → ℕ → Length
+unfoldable pub length_at_lem : List ℕ → ℕ → ℕ → Option ℕ
 length_at_lem s at low =
-    cond (leb (length s) (at + 1)) L.Wrong
-    (cond (ltb (get_or s (at + 1) 0) low) L.Wrong
-    (cond (ltb (1 + (length s - (at + 1))) (get_or s (at + 1) 0)) L.Wrong
-    (L.Is (get_or s (at + 1) 0))))
+    cond (leb (length s) (at + 1)) None
+    (cond (ltb (get_or s (at + 1) 0) low) None
+    (cond (ltb (1 + (length s - (at + 1))) (get_or s (at + 1) 0)) None
+    (Some (get_or s (at + 1) 0))))
 
-abbrev pub to_step : (ℕ → Step) → Length → Step
-to_step f (L.Is n) = f n
-to_step f L.Wrong = S.Wrong
-
-abbrev pub kind_step : ℕ → (ℕ → Length) → Step
+abbrev pub kind_step : ℕ → (ℕ → Option ℕ) → Option Step
 kind_step k l =
-    cond (eqb k 0) S.End
-    (cond (eqb k 1) S.Nop
-    (cond (eqb k 19) (to_step S.Md5 (l 2))
-    (cond (eqb k 29) (to_step S.Ao (l 4))
-    (to_step S.Other (l 2)))))
+    cond (eqb k 0) (Some S.End)
+    (cond (eqb k 1) (Some S.Nop)
+    (cond (eqb k 19) (option_map S.Md5 (l 2))
+    (cond (eqb k 29) (option_map S.Ao (l 4))
+    (option_map S.Other (l 2)))))
 
-unfoldable pub step_at_lem : List ℕ → ℕ → Step
+unfoldable pub step_at_lem : List ℕ → ℕ → Option Step
 step_at_lem s at = kind_step (get_or s at 0) (length_at_lem s at)
 
 abbrev pub none : Occurrence

@@ -1,23 +1,22 @@
 -- What the option area of a TCP header holds: document 01, "The option in a segment".
 -- First the area as a list of options, or malformed; then what is asked of the list.
-use Rattle.std.specs.Prelude.{ℕ, suc, zero, ◌+◌, ◌-◌, List, [], ◌∷◌, Bool, true, false, cond, length, get_or, ltb, eqb}
+use Rattle.std.specs.Prelude.{ℕ, suc, zero, ◌+◌, ◌-◌, List, [], ◌∷◌, Bool, true, false, cond, Option, Some, None, length, get_or, ltb, eqb}
 use Rattle.octets.specs.Tests.{any}
 use Rattle.wire.specs.declared.options.Occurrence.{Occurrence}
-use Rattle.wire.specs.declared.options.Options.{Options}
-use Rattle.wire.specs.declared.options.Options.TheVariants.{Malformed, Found}
+use Rattle.wire.specs.declared.options.Seen.{Seen}
 
 -- an option of more than one byte: its kind, where it stands in the area, and how many bytes it has
-pub record Option : Type 0 where
+pub record TcpOption : Type 0 where
   pub kind : ℕ
   pub at : ℕ
   pub len : ℕ
 
 pub data Reading : Type 0 where
   malformed : Reading
-  options : List Option → Reading
+  options : List TcpOption → Reading
 
 -- an option before the others
-abbrev pub more : Option → Reading → Reading
+abbrev pub more : TcpOption → Reading → Reading
 more o malformed = malformed
 more o (options l) = options (o ∷ l)
 
@@ -45,35 +44,35 @@ read_from zero at (k ∷ r) =
     (more (record { kind = k; at = at; len = get_or r 0 0 }) (read_from (get_or r 0 0 - 1) (at + 1) r))))
 
 -- the options of kind k
-abbrev pub of_kind : ℕ → List Option → List Option
+abbrev pub of_kind : ℕ → List TcpOption → List TcpOption
 of_kind k [] = []
 of_kind k (o ∷ l) = cond (eqb o.kind k) (o ∷ of_kind k l) (of_kind k l)
 
 -- how many there are, where the first stands and how long it is; all 0 where there is none
-abbrev pub occurrence : List Option → Occurrence
+abbrev pub occurrence : List TcpOption → Occurrence
 occurrence [] = record { count = 0; at = 0; len = 0 }
 occurrence (o ∷ l) = record { count = 1 + length l; at = o.at; len = o.len }
 
-abbrev pub occurrences : ℕ → List Option → Occurrence
+abbrev pub occurrences : ℕ → List TcpOption → Occurrence
 occurrences k l = occurrence (of_kind k l)
 
 -- "19 is TCP MD5, 29 is TCP-AO"
-abbrev pub seen : Reading → Options
-seen malformed = Malformed
-seen (options l) = Found (record { md5 = occurrences 19 l; ao = occurrences 29 l })
+abbrev pub seen : Reading → Option Seen
+seen malformed = None
+seen (options l) = Some (record { md5 = occurrences 19 l; ao = occurrences 29 l })
 
-unfoldable pub options_of : List ℕ → Options
+unfoldable pub options_of : List ℕ → Option Seen
 options_of area = seen (read_from 0 0 area)
 
 -- total readers of the answer, for a list of tests of which only the first that applies counts
-abbrev pub is_malformed : Options → Bool
-is_malformed Malformed = true
-is_malformed (Found e) = false
+abbrev pub is_malformed : Option Seen → Bool
+is_malformed None = true
+is_malformed (Some e) = false
 
-abbrev pub md5_in : Options → Occurrence
-md5_in Malformed = occurrence []
-md5_in (Found e) = e.md5
+abbrev pub md5_in : Option Seen → Occurrence
+md5_in None = occurrence []
+md5_in (Some e) = e.md5
 
-abbrev pub ao_in : Options → Occurrence
-ao_in Malformed = occurrence []
-ao_in (Found e) = e.ao
+abbrev pub ao_in : Option Seen → Occurrence
+ao_in None = occurrence []
+ao_in (Some e) = e.ao

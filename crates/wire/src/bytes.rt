@@ -7,24 +7,15 @@ ghost use Rattle.wire.specs.Bytes.{same_bytes};
 pub fn byte_at(s: &[u8], i: usize) -> u8
     ensures { result ≡ get_or s.now i 0 }
 {
-    if i < s.len() { s[i] } else { 0 }
+    s.get(i).copied().unwrap_or(0)
 }
 
 // Whether two strings have the same bytes; stops at the first difference.
+#[tactic(auto, using(crate::proofs::BytesLaws::same_is))]
 pub fn same(a: &[u8], b: &[u8]) -> bool
     ensures { result ≡ same_bytes a.now b.now }
 {
-    if a.len() != b.len() {
-        return false;
-    }
-    let mut i: usize = 0;
-    while i < a.len() {
-        if a[i] != b[i] {
-            return false;
-        }
-        i += 1;
-    }
-    true
+    a == b
 }
 
 // The same answer, for MACs: every byte is looked at, so the time taken does not say where two strings of one length differ.
@@ -34,11 +25,9 @@ pub fn same_throughout(a: &[u8], b: &[u8]) -> bool
     if a.len() != b.len() {
         return false;
     }
-    let mut difference: u8 = 0;
-    let mut i: usize = 0;
-    while i < a.len() {
-        difference = difference | (a[i] ^ b[i]);
-        i += 1;
+    let mut difference = 0;
+    for (x, y) in a.iter().zip(b) {
+        difference |= x ^ y;
     }
     difference == 0
 }

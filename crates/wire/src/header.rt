@@ -5,7 +5,7 @@ ghost use Rattle.wire.specs.Header.{source_port_of, destination_port_of, sequenc
 ghost use Rattle.wire.specs.Header.{syn as syn_of, ack as ack_of, well_sized_of, header_of_lem};
 
 use crate::bytes::byte_at;
-use crate::options::{Options, of_segment};
+use crate::options::{Seen, of_segment};
 
 // What a segment's header says, read once; `len` is the whole segment's length, as it is or as it was announced.
 #[derive(Clone, Copy)]
@@ -18,7 +18,8 @@ pub struct Header {
     pub sequence: u32,
     pub syn: bool,
     pub ack: bool,
-    pub options: Options,
+    // None: they are malformed.
+    pub options: Option<Seen>,
 }
 
 pub fn source_port(segment: &[u8]) -> u16
@@ -74,19 +75,9 @@ pub fn ack(segment: &[u8]) -> bool
 pub fn well_sized(segment: &[u8]) -> bool
     ensures { result ≡ well_sized_of segment.now }
 {
-    if segment.len() < 20 {
-        return false;
-    }
-    if 65535 < segment.len() {
-        return false;
-    }
-    if data_offset(segment) < 5 {
-        return false;
-    }
-    if segment.len() < header_end(segment) {
-        return false;
-    }
-    true
+    (20..=65535).contains(&segment.len())
+        && 5 <= data_offset(segment)
+        && header_end(segment) <= segment.len()
 }
 
 // The header of a segment of `len` bytes, of which these are there: all of its header, or more. The data are not looked at.
