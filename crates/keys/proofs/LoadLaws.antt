@@ -21,8 +21,8 @@ use Rattle.keys.proofs.MatchLaws.{and-true, Fields, clash-conflict, conflict-cla
 use Rattle.keys.specs.Table.{number_of, clashing, entry_tests, own_tests, load_tests, loaded_from, loaded}
 use Rattle.keys.specs.declared.entry.Entry.{Entry}
 use Rattle.keys.specs.declared.table.TableKind.{TableKind}
-use Rattle.std.specs.Prelude.{Ok}
-use Rattle.keys.specs.Table.{fault}
+use Rattle.std.specs.Prelude.{Ok, Err}
+use Rattle.keys.specs.Table.{Loaded, fault}
 use Rattle.keys.proofs.FaultLaws.{number-none, number-low, last-given, given-last, item-lacks, own-lacks, item-low, none_passed, passed_none, listed-sound}
 use Rattle.keys.proofs.PlaceLaws.{each_at, at-seam, at_left, at-below, Apart, Clear, clear_apart, apart-clear, clashing-in}
 use Rattle.keys.proofs.PlaceLaws.{in-clashing, apart-no-conflict, no-conflict-apart}
@@ -45,6 +45,16 @@ data Stops (kind : TableKind) (limit : ℕ) : ℕ → List Entry → List Item �
   stop : {i : ℕ} {before : List Entry} {x : Item} {l : List Item} → NoneApplies (front_tests kind limit i x) → clashing x.entry before ≡ true → Stops kind limit i before (x ∷ l) i
   go_on : {i k : ℕ} {before : List Entry} {x : Item} {l : List Item} → NoneApplies (front_tests kind limit i x) → clashing x.entry before ≡ false
       → Stops kind limit (i + 1) (before ++ (x.entry ∷ [])) l k → Stops kind limit i before (x ∷ l) k
+
+-- what a fault says
+
+abbrev fault_number : Loaded → ℕ
+fault_number (Ok n) = 0
+fault_number (Err f) = f.number
+
+abbrev fault_index : Loaded → ℕ
+fault_index (Ok n) = 0
+fault_index (Err f) = f.index
 
 module _ (kind : TableKind) (limit : ℕ) where
   good-step : (i : ℕ) (before : List Entry) (x : Item) → NoneApplies (front_tests kind limit i x) → clashing x.entry before ≡ false → number_of (load_tests kind limit i before x) ≡ 0
@@ -85,8 +95,8 @@ module _ (kind : TableKind) (limit : ℕ) where
       go zero q ih = let s = step-good i before x q in go_on s.0 s.1 (ih (rw q at e))
       go (suc m) q ih =
           let f : fault (suc m) i ≡ fault 17 k = rw q at e in
-          let a : suc m ≡ 17 = cc in
-          let b : i ≡ k = cc in
+          let a : suc m ≡ 17 = ap fault_number f in
+          let b : i ≡ k = ap fault_index f in
           let r = last-given 17 (clashing x.entry before) (front_tests kind limit i x) (own-lacks kind x) (λ z. omega arith) (q ∙ a) in
           subst (Stops kind limit i before (x ∷ l)) b (stop r.0 r.1)
 
@@ -271,7 +281,7 @@ from_low kind limit n i (x ∷ l) j before q = go (number_of (load_tests kind li
     go zero r ih = ih (rw r at q)
     go (suc m) r ih =
         let f : fault (suc m) j ≡ fault n i = rw r at q in
-        let a : suc m ≡ n = cc in
+        let a : suc m ≡ n = ap fault_number f in
         let b = number-low (load_tests kind limit j before x) (item-low kind before x) in
         omega arith
 

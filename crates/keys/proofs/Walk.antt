@@ -27,10 +27,9 @@ use Rattle.keys.specs.declared.entry.Entry.{Entry}
 use Rattle.keys.specs.declared.table.TableKind.{TableKind}
 use Rattle.keys.specs.declared.table.TableKind.TheVariants.{Keys, Md5}
 use Rattle.keys.specs.Table.{Loaded}
-use Rattle.std.specs.Prelude.{Ok}
+use Rattle.std.specs.Prelude.{Ok, None}
 use Rattle.keys.specs.Table.{fault}
 use Rattle.keys.specs.Table.{Found}
-use Rattle.keys.specs.Table.{Meeting}
 
 -- what begins at `at`
 
@@ -210,7 +209,7 @@ module _ {t : List ℕ} {i at : ℕ} (w : Counting t i at) where
 
 -- the two searches by another table's entries, with the loop of a search
 
-pub place-by : (t : List ℕ) (test : Entry → Bool) → nobody ≡ found test 0 (entries t) → ◌≡◌ {A = Meeting} (record { there = false; index = 0 }) (place_of (found test 0 (entries t)))
+pub place-by : (t : List ℕ) (test : Entry → Bool) → nobody ≡ found test 0 (entries t) → None ≡ place_of (found test 0 (entries t))
 unfolding nobody
 place-by t test e = ap place_of e
 

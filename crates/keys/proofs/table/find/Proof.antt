@@ -1,9 +1,10 @@
 -- `Seeking` says what the loop has passed; the laws of Walk.antt are its turns.
 use borrow.Author.Rules.{rules}
 use Prim.Native.Nat.{◌-◌}
+use mathlib.Core.Path.{refl}
 use lib.ListN.{length}
 use Rattle.keys.proofs.Walk.{Seeking, seek-start, seek-over, seek-cut, seek-inside, seek-step, seek_hit, seek-next, tail-whole}
-use Rattle.keys.specs.Table.{answers}
+use Rattle.keys.specs.Table.{nobody, answers}
 use native.Mathlib.Omega.{arith}
 use Rattle.keys.proofs.table.find.Statement.{statement}
 use Rattle.keys.proofs.table.find.Tie as tie
@@ -15,7 +16,7 @@ abbrev decreases-loop : tie.decreases-loop-at
 decreases-loop table pair by at₀ i₀ at i = length table - at
 
 returns : tie.Need-returns-then-n-eq0 invariant-loop decreases-loop
-returns c = seek-cut c.before.before.before.before.loop-at.invariant _ c.before.before.size_at-n.ensures c.before.if-n-eq0.true _ c.nothing.ensures
+returns c = seek-cut c.before.before.before.loop-at.invariant _ c.before.size_at-n.ensures c.if-n-eq0.true nobody refl
 
 answers_at-requires : tie.Need-answers_at-requires invariant-loop decreases-loop
 answers_at-requires c κs = seek-inside c.before.before.before.loop-at.invariant _ c.before.size_at-n.ensures c.if-n-eq0.false
@@ -38,7 +39,7 @@ loop-again : tie.Need-loop-at-preserved invariant-loop decreases-loop
 loop-again c = seek-next c.before.before.before.before.before.loop-at.invariant _ c.before.before.before.size_at-n.ensures c.before.before.if-n-eq0.false _ c.before.answers_at.ensures c.if-answers_at.false
 
 returns-3 : tie.Need-returns invariant-loop decreases-loop
-returns-3 c = seek-over c.before.before.loop-at.invariant c.before.loop-at-test.false _ c.nothing-2.ensures
+returns-3 c = seek-over c.before.loop-at.invariant c.loop-at-test.false nobody refl
 
 pub find_spec : {M : Type 1} → statement M
 find_spec =
@@ -47,7 +48,6 @@ find_spec =
     invariant-loop
     decreases-loop
     (λ c. seek-start _ _)
-    (λ c κs. search rules)
     (λ c κs. search rules)
     returns
     answers_at-requires
@@ -60,5 +60,4 @@ find_spec =
     (λ c. search rules)
     loop-less
     loop-again
-    (λ c κs. search rules)
     returns-3)
