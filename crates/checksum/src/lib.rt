@@ -7,13 +7,14 @@ ghost use Rattle.checksum.specs.Checksum.{complement};
 ghost use Rattle.checksum.specs.Running.{word_sum, folded, Congruent, begun, added, padded as padded_of};
 
 // A sum under way, with its carries brought back; and whether it ends inside a word, so that the next octet is a word's second.
-#[derive(Clone, Copy)]
+#[derive(Clone, Copy, Default)]
 pub struct Sum {
     pub sum: u16,
     pub odd: bool,
 }
 
 // A plain sum, with all its carries brought back.
+#[tactic(auto, unfolding(crate::specs::Running::folded))]
 fn fold(total: u64) -> u16
     ensures { result ≡ folded total }
 {
@@ -38,22 +39,20 @@ fn last_words(piece: &[u8]) -> u32
     requires { length piece.now ≤ 4 }
     ensures { folded result ≡ folded (word_sum false piece.now) }
 {
-    let mut four = [0u8; 4];
-    octets::copy_at(&mut four, 0, piece);
-    octets::load32(&four, 0)
+    octets::load32(&octets::padded::<4>(piece), 0)
 }
 
 // The sum of a piece that begins a word, two words side by side at a step. Carries are brought back only when they need room.
 fn words(piece: &[u8]) -> u64
     ensures { Congruent (word_sum false piece.now) (2 ^ 63 + 2 ^ 32) result }
 {
-    let mut total: u64 = 0;
-    let mut i: usize = 0;
-    while 4 <= piece.len() - i {
-        total = with_room(total) + octets::load32(piece, i) as u64;
-        i += 4;
+    let pairs = piece.chunks_exact(4);
+    let last = pairs.remainder();
+    let mut total = 0;
+    for pair in pairs {
+        total = with_room(total) + octets::load32(pair, 0) as u64;
     }
-    with_room(total) + last_words(&piece[i..]) as u64
+    with_room(total) + last_words(last) as u64
 }
 
 // A sum, and a piece more that begins a word.
@@ -67,32 +66,31 @@ fn with_words(sum: u16, piece: &[u8]) -> u16
 fn with_half(sum: u16, piece: &[u8]) -> u16
     ensures { result ≡ folded (sum + word_sum true piece.now) }
 {
-    if piece.len() == 0 {
-        return sum;
+    match piece {
+        [] => sum,
+        [half, rest @ ..] => fold(sum as u64 + *half as u64 + words(rest)),
     }
-    fold(sum as u64 + piece[0] as u64 + words(&piece[1..]))
 }
 
 impl Sum {
     pub fn start() -> Self
         ensures { result ≡ begun }
     {
-        Sum { sum: 0, odd: false }
+        Sum::default()
     }
 
     // One piece more, of any length.
     pub fn add(self, piece: &[u8]) -> Self
         ensures { result ≡ added self piece.now }
     {
-        if self.odd {
-            return Sum {
-                sum: with_half(self.sum, piece),
-                odd: piece.len() % 2 == 0,
-            };
-        }
+        let sum = if self.odd {
+            with_half(self.sum, piece)
+        } else {
+            with_words(self.sum, piece)
+        };
         Sum {
-            sum: with_words(self.sum, piece),
-            odd: piece.len() % 2 == 1,
+            sum,
+            odd: self.odd != (piece.len() % 2 == 1),
         }
     }
 
@@ -100,10 +98,7 @@ impl Sum {
     pub fn padded(self) -> Self
         ensures { result ≡ padded_of self }
     {
-        Sum {
-            sum: self.sum,
-            odd: false,
-        }
+        Sum { odd: false, ..self }
     }
 
     // The sum of all that was added.
@@ -117,6 +112,6 @@ impl Sum {
     pub fn checksum(self) -> u16
         ensures { result ≡ complement self.sum }
     {
-        65535 - self.sum
+        !self.sum
     }
 }
