@@ -50,7 +50,7 @@ settles (Drop n) = false
 
 -- whether an active one is not
 abbrev pub opens : Done → Bool
-opens D.Done = true
+opens D.Succeeded = true
 opens (D.Refused n) = false
 
 -- "`setting` says what a bare SYN with TCP-AO gets where no entry matches its pair: 0 pass, any other value drop 26."

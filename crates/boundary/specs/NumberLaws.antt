@@ -274,7 +274,7 @@ signing-tells (S.Refused n) i h = refused-tells n (h n refl)
 
 done-tells : (a : Done) (i : Index) → ((n : ℕ) → a ≡ D.Refused n → 10 ≤ n) → Tells (done_answer a i).number (opens a) false
 unfolding done_answer
-done-tells D.Done i h = record { zero = refl; one = refl }
+done-tells D.Succeeded i h = record { zero = refl; one = refl }
 done-tells (D.Refused n) i h = refused-tells n (h n refl)
 
 pub number-tells : NumberTells

@@ -48,7 +48,7 @@ pub struct Entry {
 }
 
 // A socket pair. The bytes of an address field that the family does not use mean nothing.
-#[derive(Clone, Copy)]
+#[derive(Clone, Copy, PartialEq, Eq, Debug)]
 pub struct Pair {
     pub family: u8,
     pub local_port: u16,

@@ -1,5 +1,5 @@
 -- Demand 2, of the definitions: what one end signs by TCP-AO, the other end accepts. First what the three ways that it can go share.
-use Rattle.std.specs.Prelude.{ℕ, ◌+◌, ◌^◌, ◌<◌, ◌≡◌, refl, true, false, not, List, ltb, eqb}
+use Rattle.std.specs.Prelude.{ℕ, ◌+◌, ◌^◌, ◌<◌, ◌≡◌, refl, true, false, not, List, ltb, eqb, Some}
 use Rattle.std.proofs.Common.{ap, sym, ◌∙◌, arith, eq-eqb, eqb-true}
 use Rattle.std.proofs.lemmas.Bool.{not-false}
 use Rattle.octets.specs.Each.{Octets}
@@ -13,7 +13,6 @@ use Rattle.keys.specs.Mirror.{Mirror}
 use Rattle.tables.specs.Tables.{Tables}
 use Rattle.tables.specs.Valid.{ValidTables}
 use Rattle.tables.specs.Search.{hit}
-use Rattle.std.specs.Prelude.{Some}
 use Rattle.rules.specs.declared.Outcome.{Outcome}
 use Rattle.rules.specs.declared.State.{State}
 use Rattle.octets.specs.TestLaws.{NoneApplies}

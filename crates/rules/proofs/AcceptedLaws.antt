@@ -1,5 +1,5 @@
 -- One segment signed by TCP-AO, one judging call: the tests that the receiver makes of it all fail, on each of the three ways that it can go.
-use Rattle.std.specs.Prelude.{ℕ, ◌-◌, ◌≡◌, Bool, true, false, ◌&&◌, List, ◌⊎◌, length, take, replicate, eqb}
+use Rattle.std.specs.Prelude.{ℕ, ◌-◌, ◌≡◌, Bool, true, false, ◌&&◌, List, ◌⊎◌, length, take, replicate, eqb, Some}
 use Rattle.std.proofs.Math.Path.{refl, sym, subst⁻¹}
 use Rattle.std.proofs.Common.{ap, ◌∙◌, inl, inr, arith, length-append, length-take-le, eq-eqb}
 use Rattle.std.proofs.Math.Bool.{cond, not}
@@ -13,7 +13,7 @@ use Rattle.keys.specs.Entry.{width, padded}
 use Rattle.keys.proofs.EntryLaws.{width-le}
 use Rattle.keys.proofs.FormedLaws.{KeyProper}
 use Rattle.keys.proofs.MatchLaws.{and-true}
-use Rattle.keys.specs.Places.{Some as EntryAt}
+use Rattle.keys.specs.Places.{At as EntryAt}
 use Rattle.keys.specs.Mirror.{Mirror}
 use Rattle.keys.specs.Table.{Found}
 use Rattle.tables.specs.Tables.{Tables, recv_entry}
@@ -21,21 +21,19 @@ use Rattle.tables.specs.Valid.{ValidTables}
 use Rattle.tables.proofs.ValidLaws.{valid-key}
 use Rattle.tables.specs.Search.{hit}
 use Rattle.tables.proofs.SearchLaws.{recv-found, send-holder, uncrossed}
-use Rattle.rules.specs.Position.{Place}
-use Rattle.std.specs.Prelude.{Some}
+use Rattle.rules.specs.Position.{Place, position, Near}
 use Rattle.rules.specs.declared.Outcome.{Outcome}
 use Rattle.rules.specs.declared.Outcome.TheVariants.{Good}
 use Rattle.rules.specs.declared.Connection.{Connection}
 use Rattle.rules.specs.declared.State.{State}
-use Rattle.rules.specs.Position.{position, Near}
 use Rattle.rules.proofs.PositionLaws.{complete, sound}
 use Rattle.octets.specs.TestLaws.{NoneApplies, none-append}
 use Rattle.rules.proofs.GroupLaws.{first-clear, key-ao, mac-ao, syn-key-ao, syn-mac-ao}
 use Rattle.rules.specs.Mac.{Flow, leaving_hidden_of}
 use Rattle.rules.proofs.MacLaws.{Alike}
 use Rattle.rules.specs.Segment.{key_id_of, is_bare_syn_of}
-use Rattle.rules.specs.Connection.{sized, Arrival, local_address, remote_address, arrival_pair_of, is_open_of, is_md5_of, arriving, arriving_syn}
-use Rattle.rules.specs.Connection.{leaving, place_on_lem, value, extension_of_lem}
+use Rattle.rules.specs.Connection.{sized, Arrival, local_address, remote_address, arrival_pair_of, is_open_of, is_md5_of, arriving}
+use Rattle.rules.specs.Connection.{arriving_syn, leaving, place_on_lem, value, extension_of_lem}
 use Rattle.rules.specs.Calls.{refuse, family_tests, address_tests, table_tests, input_tests, pair_tests, stage_tests, key_tests, mac_tests}
 use Rattle.rules.specs.Calls.{judge_groups, check, syn_missing_of, syn_unknown_of, syn_is_md5, syn_groups, check_syn_of}
 use Rattle.rules.specs.Lent.{tables}

@@ -1,14 +1,12 @@
 -- Every call gives the number and the value that Answers.antt names for it: the first number of its tests that applies, or 0 (1 on pass)
 -- and its value. Assumes nothing.
-use Rattle.std.specs.Prelude.{ℕ, ◌+◌, ◌≡◌, refl, Bool, true, cond, List, length, Option, Some, None}
+use Rattle.std.specs.Prelude.{ℕ, ◌+◌, ◌≡◌, refl, Bool, true, cond, List, length, Option, Some, None, Ok, Err}
 use Rattle.std.proofs.Common.{ap, arith}
 use Rattle.wire.specs.declared.options.Seen.{Seen}
 use Rattle.wire.specs.Options.{options_of, is_malformed, ao_in}
 use Rattle.wire.specs.Header.{area}
 use Rattle.keys.specs.Table.{Found}
-use Rattle.tables.specs.Tables.{Admitted}
-use Rattle.std.specs.Prelude.{Ok, Err}
-use Rattle.tables.specs.Tables.{Tables, send_entry, md5_entry}
+use Rattle.tables.specs.Tables.{Admitted, Tables, send_entry, md5_entry}
 use Rattle.tables.proofs.ValidLaws.{valid-count}
 use Rattle.rules.specs.declared.Outcome.{Outcome}
 use Rattle.rules.specs.declared.Outcome.TheVariants.{Good, Passed, Bad}
@@ -19,13 +17,12 @@ use Rattle.octets.specs.TestLaws.{first_passes}
 use Rattle.rules.specs.Segment.{malformed, ao}
 use Rattle.rules.specs.Connection.{Arrival, pair_of_lem, extension_of_lem, empty, with_asked_of}
 use Rattle.rules.specs.Calls.{verdict_of_lem, index_of, check, judged, check_syn_of, judged_syn, opened_passively, unrefused}
-use Rattle.rules.specs.Calls.{settled_by_lem, open_tests, opened_actively, opened_actively_md5, ask_tests, asked, outgoing, added_on_lem, sign_tests}
-use Rattle.rules.specs.Calls.{check_sign, signed_by, signed}
+use Rattle.rules.specs.Calls.{settled_by_lem, open_tests, opened_actively, opened_actively_md5, ask_tests, asked, outgoing, added_on_lem}
+use Rattle.rules.specs.Calls.{sign_tests, check_sign, signed_by, signed}
 use Rattle.rules.specs.Lent.{Lent, tables}
 use Rattle.rules.proofs.JudgeLaws.{not_passed, refusal-not-passed}
-use Rattle.rules.specs.Answers.{Answer, answer, outcome_answer, verdict_answer, signing_answer, done_answer, table_answer}
-use Rattle.rules.specs.Answers.{options_answer, table_number, judged_number, syn_number, opened_number, opened_md5_number, asked_number}
-use Rattle.rules.specs.Answers.{signed_number}
+use Rattle.rules.specs.Answers.{Answer, answer, outcome_answer, verdict_answer, signing_answer, done_answer, table_answer, options_answer}
+use Rattle.rules.specs.Answers.{table_number, judged_number, syn_number, opened_number, opened_md5_number, asked_number, signed_number}
 
 -- Judging.
 

@@ -20,8 +20,8 @@ use Rattle.rules.specs.Connection.{next_key_of, opened, with_accepted_of}
 use Rattle.rules.specs.Calls.{check, check_syn_of, verdict_of_lem, index_of, judged_by, judged, judged_syn, opened_by_lem, opened_passively}
 use Rattle.rules.specs.Calls.{syn_is_md5}
 use Rattle.rules.specs.Ends.{Typed, FacingUnder, OtherEnd, rechecked, with_ports, Delivered, SignedAt, Holds}
-use Rattle.rules.specs.Demand2.{SignedRight, SentComes, SentFaces, FacesUnder, rewritten, RewrittenComes, FacesBack}
-use Rattle.rules.specs.Demand2.{OpenSegment, SynAck, BareSyn, BareSynOpens, OpenedTogether}
+use Rattle.rules.specs.Demand2.{SignedRight, SentComes, SentFaces, FacesUnder, rewritten, RewrittenComes, FacesBack, OpenSegment, SynAck}
+use Rattle.rules.specs.Demand2.{BareSyn, BareSynOpens, OpenedTogether}
 use Rattle.rules.proofs.PortLaws.{Ports, ports_of_lem, written, read_again, Small, own-ports}
 use Rattle.rules.proofs.ChecksumLaws.{rechecked-self, checked-is, checked-ports, checked-right}
 use Rattle.rules.proofs.DeliveryLaws.{address-length, signs, wrote_right, wrote-long, wrote-ports}

@@ -1,14 +1,12 @@
 -- Which numbers each call can give: the statements of GivenNumbers.antt, proved. Assumes nothing.
 use Prim.Native.Nat.{ℕ, zero, suc, ◌+◌, ◌≤◌}
-use Rattle.std.specs.Prelude.{◌≡◌, Bool, true, false, cond, not, ◌&&◌, ◌||◌, ◌⊎◌, length, eqb, ltb, leb}
+use Rattle.std.specs.Prelude.{◌≡◌, Bool, true, false, cond, not, ◌&&◌, ◌||◌, ◌⊎◌, length, eqb, ltb, leb, Ok, Err}
 use Rattle.std.proofs.Math.Path.{refl}
 use Rattle.std.proofs.Common.{ap, sym, ◌∙◌, inl, inr, arith, ltb-true, ltb-false, leb-true, eqb-true, ne_eqb}
 use mathlib.Core.List.{List, [], ◌∷◌, ◌++◌}
 use Rattle.std.proofs.lemmas.Bool.{eqb-false}
 use Rattle.keys.specs.declared.entry.Entry.{Entry}
-use Rattle.keys.specs.Table.{Found}
-use Rattle.keys.specs.Table.{Loaded}
-use Rattle.std.specs.Prelude.{Ok, Err}
+use Rattle.keys.specs.Table.{Found, Loaded}
 use Rattle.keys.specs.declared.table.TableKind.{TableKind}
 use Rattle.keys.specs.declared.table.TableKind.TheVariants.{Keys, Md5}
 use Rattle.keys.specs.Entry.{Item, items, entries}
@@ -18,9 +16,8 @@ use Rattle.keys.proofs.FoundLaws.{found-there}
 use Rattle.keys.proofs.LoadLaws.{valid-formed, refused-low}
 use Rattle.keys.proofs.MatchLaws.{and-true}
 use Rattle.keys.proofs.PlaceLaws.{at-below}
-use Rattle.tables.specs.Tables.{Admitted}
-use Rattle.tables.specs.Tables.{refused_with}
-use Rattle.tables.specs.Tables.{no_index, max_entries, crossing, besides, admitted, tables_of, send_entry, any_entry, md5_entry}
+use Rattle.tables.specs.Tables.{Admitted, refused_with, no_index, max_entries, crossing, besides, admitted, tables_of, send_entry}
+use Rattle.tables.specs.Tables.{any_entry, md5_entry}
 use Rattle.tables.proofs.ValidLaws.{prepared-answer}
 use Rattle.rules.specs.declared.Outcome.{Outcome}
 use Rattle.rules.specs.declared.Outcome.TheVariants.{Good, Passed, Bad}
@@ -30,9 +27,9 @@ use Rattle.rules.specs.Done as D
 use Rattle.octets.specs.Tests.{Test, first}
 use Rattle.octets.specs.TestLaws.{each_gives, first_passes}
 use Rattle.rules.specs.Connection.{Arrival, arrival_pair_of, is_md5_of, pair_of_lem, empty}
-use Rattle.rules.specs.Calls.{refuse, is_refused, refusal, verdict_of_lem, judge_tests, check, judged, syn_is_md5, judge_syn_tests, check_syn_of}
-use Rattle.rules.specs.Calls.{judged_syn, opened_passively, unrefused, settled_by_lem, open_tests, opened_actively, opened_actively_md5, ask_tests}
-use Rattle.rules.specs.Calls.{asked, outgoing, sign_tests, check_sign, signed_by, signed}
+use Rattle.rules.specs.Calls.{refuse, is_refused, refusal, verdict_of_lem, judge_tests, check, judged, syn_is_md5, judge_syn_tests}
+use Rattle.rules.specs.Calls.{check_syn_of, judged_syn, opened_passively, unrefused, settled_by_lem, open_tests, opened_actively}
+use Rattle.rules.specs.Calls.{opened_actively_md5, ask_tests, asked, outgoing, sign_tests, check_sign, signed_by, signed}
 use Rattle.rules.specs.Lent.{Lent, tables}
 use Rattle.rules.specs.History.{judge, sign, ask}
 use Rattle.rules.proofs.GroupLaws.{unknown-passes}
@@ -121,13 +118,13 @@ bytes-within k m = go (K.loaded Keys max_entries k) (K.loaded Md5 max_entries m)
 
     go : (o p : Loaded) (c : Bool) → K.loaded Keys max_entries k ≡ o → K.loaded Md5 max_entries m ≡ p → x.there ≡ c
         → Bounded max_entries (admitted k m)
-    go (Err f) p c e f q =
+    go (Err r) p c e f q =
         let w = rw e at (loads-within Keys max_entries k) in
-        let l = refused-low Keys max_entries f.number f.index k e in
+        let l = refused-low Keys max_entries r.number r.index k e in
         rw e (w.0, omega arith, w.1, λ z. absurd (omega (arith, l, z)))
-    go (Ok n) (Err f) c e f q =
+    go (Ok n) (Err r) c e f q =
         let w = rw f at (loads-within Md5 max_entries m) in
-        let l = refused-low Md5 max_entries f.number f.index m f in
+        let l = refused-low Md5 max_entries r.number r.index m f in
         rw (e, f) (w.0, omega arith, w.1, λ z. absurd (omega (arith, l, z)))
     go (Ok n) (Ok j) true e f q =
         let h = found-there (K.meets_any_of (entries k)) (entries m) 0 q in

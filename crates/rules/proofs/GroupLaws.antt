@@ -1,12 +1,11 @@
 -- What the groups of tests leave, each by its name: nothing here or above says at which place a test stands.
 -- Assumes nothing.
-use Rattle.std.specs.Prelude.{ℕ, ◌≡◌, refl, Bool, not, true, false, List, ◌∷◌}
+use Rattle.std.specs.Prelude.{ℕ, ◌≡◌, refl, Bool, not, true, false, List, ◌∷◌, Some}
 use Rattle.std.proofs.Common.{ap}
 use Rattle.octets.specs.Tests.{joined, first}
 use Rattle.wire.specs.Header.{sequence, size_faults, well_sized_of}
 use Rattle.keys.specs.declared.entry.Pair.{Pair}
 use Rattle.tables.specs.Tables.{Tables, recv_entry, any_entry, md5_entry}
-use Rattle.std.specs.Prelude.{Some}
 use Rattle.rules.specs.declared.Outcome.{Outcome}
 use Rattle.rules.specs.declared.Outcome.TheVariants.{Passed}
 use Rattle.rules.specs.declared.Connection.{Connection}

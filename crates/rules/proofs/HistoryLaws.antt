@@ -11,18 +11,17 @@ use Rattle.rules.specs.declared.Outcome.TheVariants.{Good, Passed, Bad}
 use Rattle.rules.specs.declared.Verdict.{Verdict}
 use Rattle.rules.specs.declared.State.{State}
 use Rattle.octets.specs.Tests.{first}
-use Rattle.rules.specs.Connection.{pair_of_lem, is_open_of, is_md5_of, extension_of_lem, value, stop, slots, slot, is_counted, opening, empty, with_accepted_of}
-use Rattle.rules.specs.Connection.{with_asked_of, arrival_pair_of}
-use Rattle.rules.specs.Calls.{syn_is_md5, check, check_syn_of, check_sign, ask_tests, verdict_of_lem, after_judging_of, judged, accepted_on_lem, opened_by_lem}
-use Rattle.rules.specs.Calls.{opened_passively}
+use Rattle.rules.specs.Connection.{pair_of_lem, is_open_of, is_md5_of, extension_of_lem, value, stop, slots, slot, is_counted, opening}
+use Rattle.rules.specs.Connection.{empty, with_accepted_of, with_asked_of, arrival_pair_of}
+use Rattle.rules.specs.Calls.{syn_is_md5, check, check_syn_of, check_sign, ask_tests, verdict_of_lem, after_judging_of, judged}
+use Rattle.rules.specs.Calls.{accepted_on_lem, opened_by_lem, opened_passively, settled_by_lem, unrefused, open_tests, opened_actively}
+use Rattle.rules.specs.Calls.{opened_actively_md5, asked, outgoing, signed_by, signed}
 use Rattle.rules.specs.Segment.{key_id_of}
-use Rattle.rules.specs.Calls.{settled_by_lem, unrefused, open_tests, opened_actively, opened_actively_md5, asked, outgoing, signed_by, signed}
 use Rattle.rules.specs.Lent.{tables}
 use Rattle.rules.specs.Demand3.{sum}
 use Rattle.rules.specs.History.{Call, judge, sign, ask, next, ended, verdict_on, verdicts_on, accepts, drops, counted_drops, drop_count}
 use Rattle.rules.specs.History.{CountsZero, FromZero, FromPassive, FromActive, FromActiveMd5}
-use Rattle.rules.proofs.CountLaws.{raised, each_below, slot-below, length-count, Counts, count_none, count-accept}
-use Rattle.rules.proofs.CountLaws.{count-drop}
+use Rattle.rules.proofs.CountLaws.{raised, each_below, slot-below, length-count, Counts, count_none, count-accept, count-drop}
 
 -- What a history needs of the state that it starts from: as many counts as the type says, all 0 unless it is open.
 pub record Ready (q : State) : Type 0 where

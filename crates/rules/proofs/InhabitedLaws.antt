@@ -1,5 +1,6 @@
 -- The statements of Inhabited.antt, proved: what is given there holds by computing, with the MAC and the digest shut.
-use Rattle.std.specs.Prelude.{ℕ, zero, suc, ◌+◌, ◌<◌, ◌≤◌, ◌≡◌, Bool, true, false, ◌&&◌, List, [], ◌∷◌, length, drop, replicate, ltb}
+use Rattle.std.specs.Prelude.{ℕ, zero, suc, ◌+◌, ◌<◌, ◌≤◌, ◌≡◌, Bool, true, false, ◌&&◌, List, [], ◌∷◌, length, drop, replicate, ltb, Some}
+use Rattle.std.specs.Prelude.{Ok}
 use Rattle.std.proofs.Math.Path.{refl, ap, sym, subst⁻¹}
 use Rattle.std.proofs.Common.{◌∙◌, arith, ltb-true}
 use Rattle.std.proofs.Math.ListN.{take}
@@ -12,8 +13,8 @@ use Rattle.wire.specs.Options.{options_of, read_from}
 use Rattle.keys.specs.declared.entry.Entry.{Entry}
 use Rattle.keys.specs.declared.entry.Pair.{Pair}
 use Rattle.keys.specs.Algorithm.{mac_bytes_of}
-use Rattle.keys.specs.Entry.{known_kind_of, family_of_lem, extra, is_family_of, body, width, side_of, selector_of_lem, ids_of, mac_length_of, secret_of_lem, entry_of, item}
-use Rattle.keys.specs.Entry.{items, entries_of}
+use Rattle.keys.specs.Entry.{known_kind_of, family_of_lem, extra, is_family_of, body, width, side_of, selector_of_lem, ids_of}
+use Rattle.keys.specs.Entry.{mac_length_of, secret_of_lem, entry_of, item, items, entries_of}
 use Rattle.keys.specs.Places as Places
 use Rattle.keys.specs.Match.{holds, matches, meet, overlap, share, clash}
 use Rattle.keys.specs.Mirror.{Mirror}
@@ -21,7 +22,6 @@ use Rattle.keys.specs.Table.{any_of, number_of, clashing, loaded_from, loaded, n
 use Rattle.tables.specs.Tables.{Tables, besides, admitted, any_entry}
 use Rattle.tables.specs.Valid.{ValidTables}
 use Rattle.tables.proofs.ValidLaws.{valid-bytes}
-use Rattle.std.specs.Prelude.{Some}
 use Rattle.rules.specs.declared.Outcome.{Outcome}
 use Rattle.rules.specs.declared.Outcome.TheVariants.{Good}
 use Rattle.rules.specs.Signing as S
@@ -33,8 +33,8 @@ use Rattle.rules.specs.Checksum.{segment_sum_of, with_checksum_of}
 use Rattle.rules.specs.Mac.{pseudo_header}
 use Rattle.rules.specs.Segment.{inserted, with_option}
 use Rattle.rules.specs.Connection.{arrival_pair_of, place_on_lem, opened}
-use Rattle.rules.specs.Calls.{outgoing, added_on_lem, check_sign, authenticated, digested, signed_segment, written, signed_by, output_by, signed}
-use Rattle.rules.specs.Calls.{output, opened_passively}
+use Rattle.rules.specs.Calls.{outgoing, added_on_lem, check_sign, authenticated, digested, signed_segment, written, signed_by, output_by}
+use Rattle.rules.specs.Calls.{signed, output, opened_passively}
 use Rattle.rules.specs.Lent.{Lent, tables}
 use Rattle.rules.specs.Ends.{Typed, Facing, Delivered, Holds, Md5Mirror, HoldsMd5, SignedAt, OtherEnd}
 use Rattle.rules.proofs.InsertedLaws.{Fresh}
@@ -44,13 +44,12 @@ use Rattle.rules.proofs.OrderLaws.{demand3}
 use Rattle.rules.proofs.Demand2Laws.{sent-comes, sent-faces, faces-under, rewritten-comes, bare-syn}
 use Rattle.rules.specs.Demand2.{sent}
 use Rattle.rules.proofs.Demand2Md5Laws.{open-segment-md5, bare-syn-md5, bare-syn-opens-md5, opened-together-md5}
-use Rattle.rules.specs.Inhabited.{entry4, entry5, our_bytes, our_table, their_table, their_entry, their_short, their_hidden, our_pair, their_pair}
-use Rattle.rules.specs.Inhabited.{hidden_pair, from_them, our_state, theirs, segment, hidden_segment, hidden_bytes, signed_bytes, short_bytes}
-use Rattle.rules.specs.Inhabited.{Arrivals, all, Demand3NotEmpty, opener, syn_segment, syn_bytes, BareSynNotEmpty, md5_entry4, md5_table}
-use Rattle.rules.specs.Inhabited.{md5_passive, syn_ack_segment, syn_ack_bytes, OpenedMd5NotEmpty, md5_theirs, open_bytes_md5, OpenMd5NotEmpty}
-use Rattle.rules.specs.Inhabited.{md5_opener, syn_bytes_md5, BareSynMd5NotEmpty, unknown_syn, no_table, UnknownKeyNotEmpty}
-use Rattle.std.specs.Prelude.{Ok}
-use Rattle.rules.specs.Inhabited.{our_prepared, PreparedNotEmpty}
+use Rattle.rules.specs.Inhabited.{entry4, entry5, our_bytes, our_table, their_table, their_entry, their_short, their_hidden, our_pair}
+use Rattle.rules.specs.Inhabited.{their_pair, hidden_pair, from_them, our_state, theirs, segment, hidden_segment, hidden_bytes}
+use Rattle.rules.specs.Inhabited.{signed_bytes, short_bytes, Arrivals, all, Demand3NotEmpty, opener, syn_segment, syn_bytes}
+use Rattle.rules.specs.Inhabited.{BareSynNotEmpty, md5_entry4, md5_table, md5_passive, syn_ack_segment, syn_ack_bytes, OpenedMd5NotEmpty}
+use Rattle.rules.specs.Inhabited.{md5_theirs, open_bytes_md5, OpenMd5NotEmpty, md5_opener, syn_bytes_md5, BareSynMd5NotEmpty, unknown_syn}
+use Rattle.rules.specs.Inhabited.{no_table, UnknownKeyNotEmpty, our_prepared, PreparedNotEmpty}
 use Rattle.rules.specs.Prepared.{PreparedFrom}
 use Rattle.rules.proofs.PreparedLaws.{prepared-means}
 use Rattle.rules.specs.Passes.{UnknownKey}

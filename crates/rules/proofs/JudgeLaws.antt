@@ -1,6 +1,6 @@
 -- One arrival on an open connection: what is accepted verifies, and what does not verify is dropped with a number that is counted unless it
 -- is 19. Document 01, last section. The second half assumes a valid table and an allowed family, as demand 3 does.
-use Rattle.std.specs.Prelude.{ℕ, ◌<◌, ◌≡◌, Bool, cond, ◌&&◌, eqb, ltb}
+use Rattle.std.specs.Prelude.{ℕ, ◌<◌, ◌≡◌, Bool, cond, ◌&&◌, eqb, ltb, Ok, Err}
 use Rattle.std.proofs.Math.Path.{refl, ap}
 use Rattle.std.proofs.Common.{◌∙◌, subst, arith, ltb-true, ltb-false, eqb-true}
 use Rattle.std.proofs.Math.Bool.{true, false, not}
@@ -9,9 +9,7 @@ use Rattle.wire.specs.Bytes.{same_bytes}
 use Rattle.wire.proofs.BytesLaws.{eq-of-same}
 use Rattle.wire.specs.Header.{source_port_of, destination_port_of, sequence, syn, ack}
 use Rattle.tables.specs.declared.Index.{Index}
-use Rattle.tables.specs.Tables.{Admitted}
-use Rattle.std.specs.Prelude.{Ok, Err}
-use Rattle.tables.specs.Tables.{Tables, no_index, recv_entry}
+use Rattle.tables.specs.Tables.{Admitted, Tables, no_index, recv_entry}
 use Rattle.tables.specs.Valid.{ValidTables}
 use Rattle.rules.specs.declared.Outcome.{Outcome}
 use Rattle.rules.specs.declared.Outcome.TheVariants.{Good, Passed, Bad}
@@ -20,8 +18,8 @@ use Rattle.octets.specs.Tests.{joined}
 use Rattle.octets.specs.TestLaws.{NoneApplies, each_gives, none-append, first_passes, none-applied}
 use Rattle.rules.proofs.GroupLaws.{Clear, none-clear, past-input, key-ao, mac-ao, sized_of}
 use Rattle.rules.specs.Segment.{ao, md5, key_id_of, is_bare_syn_of}
-use Rattle.rules.specs.Connection.{sized, Arrival, local_address, remote_address, is_open_of, is_md5_of, arriving, place_on_lem, value, extension_of_lem}
-use Rattle.rules.specs.Connection.{slot, is_counted}
+use Rattle.rules.specs.Connection.{sized, Arrival, local_address, remote_address, is_open_of, is_md5_of, arriving, place_on_lem, value}
+use Rattle.rules.specs.Connection.{extension_of_lem, slot, is_counted}
 use Rattle.rules.specs.Calls.{is_refused, refusal, family_tests, address_tests, table_tests, input_tests, state_tests, mac_differs}
 use Rattle.rules.specs.Calls.{segment_groups, judge_groups, judge_tests, check}
 use Rattle.rules.specs.Ends.{Allowed, Verifies}

@@ -1,22 +1,20 @@
 -- The statement of Kept holds of every state: judging, signing and asking on an open connection leave what it is, and what `Typed` says.
 -- Assumes nothing of tables, bytes or the calls' order.
-use Rattle.std.specs.Prelude.{ℕ, ◌+◌, ◌-◌, ◌^◌, ◌<◌, ◌≡◌, refl, Bool, true, false, cond, List, [], ◌∷◌, length, ltb, leb}
+use Rattle.std.specs.Prelude.{ℕ, ◌+◌, ◌-◌, ◌^◌, ◌<◌, ◌≡◌, refl, Bool, true, false, cond, List, [], ◌∷◌, length, ltb, leb, Some, None}
 use Rattle.std.proofs.Common.{ap, sym, ◌∙◌, subst, arith, ltb-true}
 use Rattle.tables.specs.Tables.{Tables}
 use Rattle.wire.specs.Header.{sequence}
-use Rattle.rules.specs.Position.{Place}
-use Rattle.std.specs.Prelude.{Some, None}
+use Rattle.rules.specs.Position.{Place, position, wrapping_difference}
 use Rattle.rules.specs.declared.Outcome.{Outcome}
 use Rattle.rules.specs.declared.Outcome.TheVariants.{Good, Passed, Bad}
 use Rattle.rules.specs.declared.Connection.{Connection}
 use Rattle.rules.specs.declared.State.{State}
-use Rattle.rules.specs.Position.{position, wrapping_difference}
 use Rattle.octets.specs.Tests.{first}
 use Rattle.rules.specs.Segment.{rnext_key_id}
 use Rattle.rules.specs.Connection.{Arrival, is_open_of, is_md5_of, place_on_lem, value, with_counted_of, with_asked_of}
-use Rattle.rules.specs.Calls.{good_by, judge_groups, check, judged, accepted_on_lem, after_judging_of, ask_tests, unrefused, settled_by_lem, asked}
+use Rattle.rules.specs.Calls.{good_by, judge_groups, check, judged, accepted_on_lem, after_judging_of, ask_tests, unrefused, settled_by_lem}
+use Rattle.rules.specs.Calls.{asked, check_sign, after_signing_of, signed, signed_by, outgoing}
 use Rattle.rules.specs.Lent.{tables}
-use Rattle.rules.specs.Calls.{check_sign, after_signing_of, signed, signed_by, outgoing}
 use Rattle.rules.proofs.GroupLaws.{first-clear}
 use Rattle.rules.proofs.JudgeLaws.{none_of}
 use Rattle.rules.proofs.SigningLaws.{signs-good}

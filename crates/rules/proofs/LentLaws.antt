@@ -1,11 +1,9 @@
 -- What lent tables are, where they are not refused: entries that valid bytes could hold, and what is found among them proper.
-use Rattle.std.specs.Prelude.{ℕ, ◌≡◌, refl, true, false}
+use Rattle.std.specs.Prelude.{ℕ, ◌≡◌, refl, true, false, Ok, Err}
 use Rattle.std.proofs.Common.{sym, ap, ◌∙◌, subst, arith}
 use Rattle.keys.proofs.FormedLaws.{KeyProper, Md5Proper}
 use Rattle.keys.specs.declared.entry.Pair.{Pair}
-use Rattle.tables.specs.Tables.{Admitted}
-use Rattle.std.specs.Prelude.{Ok, Err}
-use Rattle.tables.specs.Tables.{Tables, tables_of, send_entry, md5_entry}
+use Rattle.tables.specs.Tables.{Admitted, Tables, tables_of, send_entry, md5_entry}
 use Rattle.tables.specs.Valid.{Held, ValidTables}
 use Rattle.tables.proofs.ValidLaws.{valid-bytes, valid-apart, taken-held}
 use Rattle.tables.proofs.SearchLaws.{send-proper, md5-proper}

@@ -25,8 +25,8 @@ use Rattle.rules.specs.Mac.{Flow}
 use Rattle.rules.specs.Segment.{md5, is_bare_syn_of, rnext_key_id}
 use Rattle.rules.specs.Connection.{Arrival, arrival_pair_of, local_address, remote_address, is_open_of, is_md5_of, arriving, arriving_syn}
 use Rattle.rules.specs.Connection.{value}
-use Rattle.rules.specs.Calls.{family_tests, address_tests, table_tests, input_tests, form_tests, pair_tests, stage_tests}
-use Rattle.rules.specs.Calls.{md5_tests, digest_tests, judge_groups, check, syn_groups, check_syn_of}
+use Rattle.rules.specs.Calls.{family_tests, address_tests, table_tests, input_tests, form_tests, pair_tests, stage_tests, md5_tests}
+use Rattle.rules.specs.Calls.{digest_tests, judge_groups, check, syn_groups, check_syn_of}
 use Rattle.rules.specs.Ends.{Typed, Facing, Delivered, SignedAt}
 use Rattle.rules.proofs.GroupLaws.{first-clear, key-md5, mac-md5, syn-key-md5, syn-mac-md5}
 use Rattle.rules.proofs.DigestLaws.{ReadsMd5}

@@ -1,5 +1,5 @@
 -- Document 02's sentences of Md5Sentences.antt, proved.
-use Rattle.std.specs.Prelude.{ℕ, ◌+◌, ◌-◌, ◌≤◌, ◌≡◌, refl, Bool, true, false, cond, List, [], ◌∷◌, ◌++◌, length, take, drop}
+use Rattle.std.specs.Prelude.{ℕ, ◌+◌, ◌-◌, ◌≤◌, ◌≡◌, refl, Bool, true, false, cond, List, [], ◌∷◌, ◌++◌, length, take, drop, Some}
 use Rattle.std.proofs.Common.{ap, ◌∙◌, subst, arith, ltb-false}
 use Rattle.std.proofs.Math.Seq.{take-append-add}
 use Rattle.std.proofs.lemmas.Bool.{not-true}
@@ -10,12 +10,11 @@ use Rattle.wire.specs.Header.{sequence, data_offset_of, header_end_of, size_faul
 use Rattle.wire.specs.Options.{options_of, read_from}
 use Rattle.wire.specs.Prefix.{agree, clear_to}
 use Rattle.keys.specs.Algorithm.{mac_bytes_of}
-use Rattle.keys.specs.Entry.{known_kind_of, family_of_lem, extra, body, width, side_of, selector_of_lem, ids_of, mac_length_of, secret_of_lem, entry_of, item, items}
-use Rattle.keys.specs.Entry.{entries_of}
+use Rattle.keys.specs.Entry.{known_kind_of, family_of_lem, extra, body, width, side_of, selector_of_lem, ids_of, mac_length_of}
+use Rattle.keys.specs.Entry.{secret_of_lem, entry_of, item, items, entries_of}
 use Rattle.keys.specs.Match.{holds, matches, meet, overlap, share, clash}
 use Rattle.keys.specs.Table.{any_of, number_of, clashing, loaded_from, loaded, nobody, found, answers, meets_any_of}
 use Rattle.tables.specs.Tables.{besides, admitted, md5_entry}
-use Rattle.std.specs.Prelude.{Some}
 use Rattle.rules.specs.declared.Outcome.{Outcome}
 use Rattle.rules.specs.declared.Outcome.TheVariants.{Good}
 use Rattle.rules.specs.Mac.{pseudo_header, blank}
@@ -32,9 +31,9 @@ use Rattle.rules.proofs.InsertedLaws.{fixed, head_of, shape}
 use Rattle.rules.proofs.DeliveryLaws.{outgoing-md5}
 use Rattle.rules.proofs.SentenceLaws.{first_flat, sign-rows}
 use Rattle.rules.specs.Md5Sentences.{judge_rows_md5, syn_rows_md5, JudgeTableMd5, SynTableMd5, SignTableMd5, EntryOrderMd5, ListedMd5}
+use Rattle.rules.specs.Md5Sentences.{OpenActiveMd5Table, WayNumbers, CrossedExample, Md5Keys, Md5Options, DigestOf, SignedAsMd5}
+use Rattle.rules.specs.Md5Sentences.{SignedExampleMd5, DigestedBytes, ReadBack}
 use Rattle.rules.specs.Sentences.{open_rows}
-use Rattle.rules.specs.Md5Sentences.{OpenActiveMd5Table, WayNumbers, CrossedExample, Md5Keys, Md5Options}
-use Rattle.rules.specs.Md5Sentences.{DigestOf, SignedAsMd5, SignedExampleMd5, DigestedBytes, ReadBack}
 
 pub judge-table-md5 : JudgeTableMd5
 unfolding check segment_sum_of

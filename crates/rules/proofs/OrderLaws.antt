@@ -16,8 +16,8 @@ use Rattle.rules.specs.declared.Verdict.TheVariants.{Accept, Drop}
 use Rattle.rules.specs.declared.Connection.{Connection}
 use Rattle.rules.specs.declared.State.{State}
 use Rattle.rules.specs.declared.Judged.{Judged}
-use Rattle.rules.specs.Connection.{Arrival, sized, is_open_of, is_md5_of, extension_of_lem, slots, is_counted, available, next_key_of, with_accepted_of}
-use Rattle.rules.specs.Connection.{with_drop_of}
+use Rattle.rules.specs.Connection.{Arrival, sized, is_open_of, is_md5_of, extension_of_lem, slots, is_counted, available, next_key_of}
+use Rattle.rules.specs.Connection.{with_accepted_of, with_drop_of}
 use Rattle.rules.specs.Calls.{check, judged_by, judged}
 use Rattle.rules.specs.Ends.{Allowed, TrueSegment, Verifies}
 use Rattle.rules.specs.Demand3.{judge_all, Arriving, real, other, arrival, positions, requested, trues, others, AllFit, largest, those}

@@ -1,7 +1,6 @@
 -- `position` is the number that document 01's sentence describes: complete, sound, unique. And where it is none, the answer is 28 or 36.
-use Rattle.std.specs.Prelude.{ℕ, ◌+◌, ◌-◌, ◌^◌, ◌≤◌, ◌<◌, ◌≡◌, refl, Bool, true, false, ltb, leb}
+use Rattle.std.specs.Prelude.{ℕ, ◌+◌, ◌-◌, ◌^◌, ◌≤◌, ◌<◌, ◌≡◌, refl, Bool, true, false, ltb, leb, Some, None}
 use Rattle.std.proofs.Common.{ap, arith, ltb-true, ltb-false, leb-true, lt-ltb, le-leb}
-use Rattle.std.specs.Prelude.{Some, None}
 use Rattle.rules.specs.Position.{wrapping_difference, position, Near, Complete, Sound, Unique}
 use Rattle.rules.specs.declared.Connection.{Connection}
 use Rattle.rules.specs.Connection.{is_open_of, is_md5_of, place_on_lem}

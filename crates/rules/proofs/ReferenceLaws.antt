@@ -1,14 +1,12 @@
 -- The statements of References.antt, proved.
-use Rattle.std.specs.Prelude.{ℕ, ◌+◌, ◌-◌, ◌<◌, max, ◌≡◌, refl, Bool, true, false, cond, List, length, get_or, set, ltb}
+use Rattle.std.specs.Prelude.{ℕ, ◌+◌, ◌-◌, ◌<◌, max, ◌≡◌, refl, Bool, true, false, cond, List, length, get_or, set, ltb, Ok, Err, Some}
+use Rattle.std.specs.Prelude.{None}
 use Rattle.std.proofs.Common.{ap, sym, ◌∙◌, subst, inl, arith, ltb-true, ltb-false}
 use Rattle.std.proofs.lemmas.Bool.{not-false}
 use Rattle.wire.specs.Header.{sequence}
 use Rattle.keys.specs.declared.entry.Entry.{Entry}
-use Rattle.tables.specs.Tables.{Admitted}
-use Rattle.std.specs.Prelude.{Ok, Err}
-use Rattle.tables.specs.Tables.{Tables, send_entry, recv_entry, any_entry, md5_entry}
-use Rattle.rules.specs.Position.{Place}
-use Rattle.std.specs.Prelude.{Some, None}
+use Rattle.tables.specs.Tables.{Admitted, Tables, send_entry, recv_entry, any_entry, md5_entry}
+use Rattle.rules.specs.Position.{Place, position}
 use Rattle.rules.specs.declared.Outcome.{Outcome}
 use Rattle.rules.specs.declared.Outcome.TheVariants.{Good, Passed, Bad}
 use Rattle.rules.specs.declared.Verdict.TheVariants.{Accept, Drop}
@@ -17,13 +15,12 @@ use Rattle.rules.specs.Signing as S
 use Rattle.rules.specs.Done as D
 use Rattle.octets.specs.Tests.{first}
 use Rattle.octets.specs.TestLaws.{NoneApplies, each_gives, first-none, none-applied}
-use Rattle.rules.specs.Position.{position}
 use Rattle.rules.specs.Segment.{key_id_of, rnext_key_id}
-use Rattle.rules.specs.Connection.{Arrival, pair_of_lem, arrival_pair_of, is_open_of, is_md5_of, place_on_lem, located, value, bump, stop, slot, count_at_lem}
-use Rattle.rules.specs.Connection.{count_drop_of, next_key_of, empty, with_drop_of, with_asked_of}
-use Rattle.rules.specs.Calls.{refuse, refusal, good_by, check, check_syn_of, judge_groups, syn_is_md5, judge_syn_tests, after_judging_of, judged}
-use Rattle.rules.specs.Calls.{opened_on, opened_by_lem, opened_passively, settled_by_lem, unrefused, open_tests, opened_actively, opened_actively_md5}
-use Rattle.rules.specs.Calls.{ask_tests, asked, outgoing, check_sign, after_signing_of, signed_by, signed}
+use Rattle.rules.specs.Connection.{Arrival, pair_of_lem, arrival_pair_of, is_open_of, is_md5_of, place_on_lem, located, value, bump, stop}
+use Rattle.rules.specs.Connection.{slot, count_at_lem, count_drop_of, next_key_of, empty, with_drop_of, with_asked_of}
+use Rattle.rules.specs.Calls.{refuse, refusal, good_by, check, check_syn_of, judge_groups, syn_is_md5, judge_syn_tests, after_judging_of}
+use Rattle.rules.specs.Calls.{judged, opened_on, opened_by_lem, opened_passively, settled_by_lem, unrefused, open_tests, opened_actively}
+use Rattle.rules.specs.Calls.{opened_actively_md5, ask_tests, asked, outgoing, check_sign, after_signing_of, signed_by, signed}
 use Rattle.rules.proofs.PositionLaws.{place-md5}
 use Rattle.rules.proofs.JudgeLaws.{none_of}
 use Rattle.rules.proofs.SigningLaws.{signs-good, signed-good}
@@ -33,9 +30,8 @@ use Rattle.rules.proofs.KeptLaws.{good-is}
 use Rattle.rules.proofs.GivenNumberLaws.{ask-not-passed, open-not-passed}
 use Rattle.rules.specs.References.{count_up, SignedOpen, SignedOpenMd5, SignedOpening, OpensActively, OpensActivelyMd5, OpensPassively}
 use Rattle.rules.specs.References.{OpensPassivelyMd5, SynAckOpens, SynAckOpensMd5, AcceptedOpen, AcceptedOpenMd5, dropped_to, DropCounted}
-use Rattle.rules.specs.References.{Drop40Counted, Drop46Counted, Drop47Counted, DropUncounted, Drop44Uncounted}
-use Rattle.rules.specs.References.{Drop45Uncounted, DropOpening}
-use Rattle.rules.specs.References.{SigningRefused, Asks, AskingRefused}
+use Rattle.rules.specs.References.{Drop40Counted, Drop46Counted, Drop47Counted, DropUncounted, Drop44Uncounted, Drop45Uncounted}
+use Rattle.rules.specs.References.{DropOpening, SigningRefused, Asks, AskingRefused}
 
 -- a place that is there
 at_value : (p : Place) → located p ≡ true → p ≡ Some (value p)
@@ -127,7 +123,7 @@ syn-good t a strict x r e =
 
 -- The openings.
 
-settled-done : (o : Outcome) (old new : State) → (o ≡ Passed → ⊥) → (settled_by_lem o old new).answer ≡ D.Done → (settled_by_lem o old new).state ≡ new
+settled-done : (o : Outcome) (old new : State) → (o ≡ Passed → ⊥) → (settled_by_lem o old new).answer ≡ D.Succeeded → (settled_by_lem o old new).state ≡ new
 settled-done (Good x r) old new p e = refl
 settled-done Passed old new p e = absurd (p refl)
 settled-done (Bad n i) old new p e = let z : ◌≡◌ {A = ℕ} 0 1 = cc in absurd (omega arith)

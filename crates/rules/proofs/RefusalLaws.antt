@@ -1,5 +1,5 @@
 -- A refusal changes nothing but the count: the statements of Refusals.antt, proved. Assumes nothing.
-use Rattle.std.specs.Prelude.{ℕ, ◌+◌, ◌≤◌, Bool, true, false, cond, ◌&&◌, List}
+use Rattle.std.specs.Prelude.{ℕ, ◌+◌, ◌≤◌, Bool, true, false, cond, ◌&&◌, List, Some, None}
 use Rattle.std.proofs.Math.Path.{◌≡◌, refl, ap}
 use Rattle.std.proofs.Common.{◌∙◌, arith}
 use Rattle.std.proofs.Math.ListN.{length, drop, length-append, length-drop}
@@ -9,7 +9,6 @@ use Rattle.keys.specs.declared.entry.Pair.{Pair}
 use Rattle.keys.specs.declared.entry.Entry.{Entry}
 use Rattle.tables.specs.Tables.{Tables, send_entry, recv_entry, md5_entry}
 use Rattle.rules.specs.Position.{Place}
-use Rattle.std.specs.Prelude.{Some, None}
 use Rattle.rules.specs.declared.Outcome.{Outcome}
 use Rattle.rules.specs.declared.Outcome.TheVariants.{Good, Passed, Bad}
 use Rattle.rules.specs.Signing as S
@@ -19,9 +18,9 @@ use Rattle.octets.specs.Tests.{first}
 use Rattle.octets.specs.TestLaws.{NoneApplies, none-applied}
 use Rattle.rules.specs.Segment.{key_id_of}
 use Rattle.rules.specs.Connection.{pair_of_lem, arrival_pair_of, is_open_of, is_counted, slot, count_drop_of, empty, with_drop_of, with_asked_of}
-use Rattle.rules.specs.Calls.{check, check_syn_of, verdict_of_lem, after_judging_of, judged, opened_by_lem, opened_passively, settled_by_lem, unrefused}
-use Rattle.rules.specs.Calls.{open_tests, opened_actively, opened_actively_md5, ask_tests, asked, outgoing, added_on_lem, sign_tests, check_sign}
-use Rattle.rules.specs.Calls.{signed_segment, signed_by, output_by, signed, output}
+use Rattle.rules.specs.Calls.{check, check_syn_of, verdict_of_lem, after_judging_of, judged, opened_by_lem, opened_passively}
+use Rattle.rules.specs.Calls.{settled_by_lem, unrefused, open_tests, opened_actively, opened_actively_md5, ask_tests, asked, outgoing}
+use Rattle.rules.specs.Calls.{added_on_lem, sign_tests, check_sign, signed_segment, signed_by, output_by, signed, output}
 use Rattle.rules.specs.Lent.{Lent, tables}
 use Rattle.rules.proofs.JudgeLaws.{is_bad, refusal-bad}
 use Rattle.rules.proofs.SigningLaws.{signs-good}

@@ -1,42 +1,39 @@
 -- Document 01's sentences of Sentences.antt, proved.
-use Rattle.std.specs.Prelude.{ℕ, ◌+◌, ◌*◌, ◌≡◌, refl, Bool, true, false, cond, not, List, [], ◌∷◌, ◌++◌, length, eqb, ltb}
+use Rattle.std.specs.Prelude.{ℕ, ◌+◌, ◌*◌, ◌≡◌, refl, Bool, true, false, cond, not, List, [], ◌∷◌, ◌++◌, length, eqb, ltb, Some}
 use Rattle.std.proofs.Common.{ap, ◌∙◌, arith, length-append, lt-ltb, eq-eqb, eqb-true}
-use Rattle.octets.specs.Tests.{any}
+use Rattle.octets.specs.Tests.{any, Test, tests, joined, first}
 use Rattle.wire.specs.Header.{source_port_of, destination_port_of, sequence, data_offset_of, header_end_of}
 use Rattle.wire.specs.Prefix.{clear_to}
 use Rattle.checksum.specs.Checksum.{ones_sum, checksum_of, checksummed}
 use Rattle.keys.specs.Algorithm.{mac_bytes_of, output_bits_of}
 use Rattle.keys.specs.declared.entry.Pair.{Pair}
-use Rattle.keys.specs.Table.{Found}
+use Rattle.keys.specs.Table.{Found, number_of}
 use Rattle.keys.specs.Entry.{known_kind_of, family_of_lem, extra, body, is_family_of, width, side_of, selector_of_lem, ids_of, mac_length_of, secret_of_lem, entry_of, key_of}
-use Rattle.keys.specs.Table.{number_of}
 use Rattle.tables.specs.Tables.{Tables, send_entry, recv_entry, any_entry}
 use Rattle.rules.specs.Position.{Place}
-use Rattle.std.specs.Prelude.{Some}
 use Rattle.rules.specs.declared.Outcome.{Outcome}
 use Rattle.rules.specs.declared.Outcome.TheVariants.{Good, Passed}
 use Rattle.rules.specs.declared.State.{State}
-use Rattle.octets.specs.Tests.{Test, tests, joined, first}
 use Rattle.octets.specs.TestLaws.{first-append}
-use Rattle.rules.specs.Mac.{context, derivation_input_of, aes_key_of, applied, traffic_key_of, pseudo_header, covered_header, front, message}
-use Rattle.rules.specs.Mac.{segment_mac}
+use Rattle.rules.specs.Mac.{context, derivation_input_of, aes_key_of, applied, traffic_key_of, pseudo_header, covered_header, front}
+use Rattle.rules.specs.Mac.{message, segment_mac}
 use Rattle.rules.specs.Checksum.{segment_sum_of, with_checksum_of}
 use Rattle.rules.specs.Segment.{malformed, ao, md5, key_id_of, rnext_key_id, is_bare_syn_of, inserted, with_option, option_bytes, md5_option_bytes}
 use Rattle.rules.specs.Connection.{arrival_pair_of, local_address, remote_address, is_open_of, is_md5_of, arriving_syn, place_on_lem, value}
 use Rattle.rules.specs.Connection.{pair_of_lem, opening, empty}
-use Rattle.rules.specs.Calls.{key_tests, mac_tests, good_by, judge_groups, check, syn_missing_of, syn_unknown_of, syn_groups, check_syn_of, unrefused}
-use Rattle.rules.specs.Calls.{settled_by_lem, opened_actively, check_sign, outgoing, added_bytes_of, added_on_lem, authenticated, digested, signed_segment}
+use Rattle.rules.specs.Calls.{key_tests, mac_tests, good_by, judge_groups, check, syn_missing_of, syn_unknown_of, syn_groups, check_syn_of}
+use Rattle.rules.specs.Calls.{unrefused, settled_by_lem, opened_actively, check_sign, outgoing, added_bytes_of, added_on_lem, authenticated}
+use Rattle.rules.specs.Calls.{digested, signed_segment}
 use Rattle.rules.proofs.GroupLaws.{key-ao, mac-ao, syn-key-ao, syn-mac-ao}
 use Rattle.rules.proofs.DeliveryLaws.{outgoing-ao}
 use Rattle.rules.specs.Answers.{verdict_answer}
 use Rattle.rules.proofs.MacLaws.{length-context, length-key-1, length-key-2, length-key-3}
 use Rattle.rules.proofs.GrowthLaws.{above-15}
 use Rattle.rules.specs.Sentences.{NumberRow, bad, row, first_of, bad_size, judge_rows, syn_rows, sign_rows, no_place, entries_row}
-use Rattle.rules.specs.Sentences.{JudgeTable, SynTable, SignTable}
-use Rattle.rules.specs.Sentences.{EntryBytes, Listed, Ranged}
-use Rattle.rules.specs.Sentences.{open_rows, OpenActiveTable, AskTable, EntryOrder, AnswerNumbers, CountsStop, Context, Contexts, TrafficKeys}
-use Rattle.rules.specs.Sentences.{PseudoHeaders, MessageOrder, Lengths, SegmentMacs, SignedExample, CheckedExamples, PaddedExample, Covered, option_words}
-use Rattle.rules.specs.Sentences.{SignedAs, HiddenContexts, HiddenCovered}
+use Rattle.rules.specs.Sentences.{JudgeTable, SynTable, SignTable, EntryBytes, Listed, Ranged, open_rows, OpenActiveTable, AskTable}
+use Rattle.rules.specs.Sentences.{EntryOrder, AnswerNumbers, CountsStop, Context, Contexts, TrafficKeys, PseudoHeaders, MessageOrder}
+use Rattle.rules.specs.Sentences.{Lengths, SegmentMacs, SignedExample, CheckedExamples, PaddedExample, Covered, option_words, SignedAs}
+use Rattle.rules.specs.Sentences.{HiddenContexts, HiddenCovered}
 
 -- the tests of rows, one behind another
 abbrev pub flat : List NumberRow → List (Test Outcome)

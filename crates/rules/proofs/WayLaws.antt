@@ -1,5 +1,5 @@
 -- The two ways, proved: the statements of Ways.antt. Assumes nothing of tables or of the calls' order.
-use Rattle.std.specs.Prelude.{ℕ, ◌≡◌, Bool, cond, not, List, [], ◌∷◌, length, eqb}
+use Rattle.std.specs.Prelude.{ℕ, ◌≡◌, Bool, cond, not, List, [], ◌∷◌, length, eqb, Ok, Err, Some}
 use Rattle.std.proofs.Math.Path.{refl, sym, subst⁻¹}
 use Rattle.std.proofs.Common.{ap, ap₂, ◌∙◌, subst, arith, ltb-false, eqb-true}
 use Rattle.std.proofs.Math.Bool.{true, false}
@@ -13,11 +13,8 @@ use Rattle.keys.specs.declared.entry.Pair.{Pair}
 use Rattle.keys.specs.declared.entry.Entry.{Entry}
 use Rattle.keys.specs.Table.{Found}
 use Rattle.keys.specs.Entry.{is_family_of, key_of}
-use Rattle.tables.specs.Tables.{Admitted}
-use Rattle.std.specs.Prelude.{Ok, Err}
-use Rattle.tables.specs.Tables.{Tables, recv_entry, any_entry, md5_entry}
+use Rattle.tables.specs.Tables.{Admitted, Tables, recv_entry, any_entry, md5_entry}
 use Rattle.rules.specs.Position.{Place}
-use Rattle.std.specs.Prelude.{Some}
 use Rattle.rules.specs.declared.Outcome.{Outcome}
 use Rattle.rules.specs.declared.Outcome.TheVariants.{Good, Passed, Bad}
 use Rattle.rules.specs.declared.Verdict.TheVariants.{Accept}
@@ -25,18 +22,19 @@ use Rattle.rules.specs.declared.State.{State}
 use Rattle.rules.specs.Segment.{ao, md5, key_id_of, digest_in}
 use Rattle.rules.specs.Digest.{segment_digest}
 use Rattle.rules.specs.Mac.{Flow}
-use Rattle.rules.specs.Connection.{Arrival, arrival_pair_of, is_open_of, is_md5_of, arriving, arriving_syn, place_on_lem, value, extension_of_lem}
-use Rattle.rules.specs.Connection.{with_asked_of}
-use Rattle.rules.specs.Calls.{refuse, is_refused, refusal, form_tests, md5_tests, digest_tests, good_by, judge_groups, check, syn_missing_of}
-use Rattle.rules.specs.Calls.{syn_is_md5, syn_groups, judge_syn_tests, check_syn_of, verdict_of_lem, after_judging_of, judged, judged_syn}
-use Rattle.rules.specs.Calls.{opened_by_lem, opened_passively, unrefused, settled_by_lem, ask_tests, asked, outgoing, check_sign, signed_by, signed}
+use Rattle.rules.specs.Connection.{Arrival, arrival_pair_of, is_open_of, is_md5_of, arriving, arriving_syn, place_on_lem, value}
+use Rattle.rules.specs.Connection.{extension_of_lem, with_asked_of}
+use Rattle.rules.specs.Calls.{refuse, is_refused, refusal, form_tests, md5_tests, digest_tests, good_by, judge_groups, check}
+use Rattle.rules.specs.Calls.{syn_missing_of, syn_is_md5, syn_groups, judge_syn_tests, check_syn_of, verdict_of_lem, after_judging_of}
+use Rattle.rules.specs.Calls.{judged, judged_syn, opened_by_lem, opened_passively, unrefused, settled_by_lem, ask_tests, asked, outgoing}
+use Rattle.rules.specs.Calls.{check_sign, signed_by, signed}
 use Rattle.rules.proofs.GroupLaws.{Clear, none-clear, first-clear, key-ao, key-md5, mac-md5, syn-key-ao, syn-key-md5, syn-mac-md5}
 use Rattle.rules.proofs.GroupLaws.{unknown-passes}
 use Rattle.rules.proofs.JudgeLaws.{nonzero, absent, none_of}
 use Rattle.rules.specs.History.{Call, judge, sign, ask, next, ended}
 use Rattle.rules.specs.Lent.{tables}
-use Rattle.rules.specs.Ways.{ByAo, ByMd5, AcceptedByMd5, AcceptedByAo, SynAcceptedByMd5, SynAcceptedByAo, OpenedByMd5, OpenedByAo}
-use Rattle.rules.specs.Ways.{WayStays, Md5Still}
+use Rattle.rules.specs.Ways.{ByAo, ByMd5, AcceptedByMd5, AcceptedByAo, SynAcceptedByMd5, SynAcceptedByAo, OpenedByMd5, OpenedByAo, WayStays}
+use Rattle.rules.specs.Ways.{Md5Still}
 use Rattle.rules.proofs.PositionLaws.{place-md5}
 use Rattle.rules.proofs.AcceptanceLaws.{sequence-below}
 

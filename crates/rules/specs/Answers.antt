@@ -1,14 +1,11 @@
 -- "Where an answer is an enum, a definition sets out this paper's number and values for each of its cases." The number, and the value
 -- beside it, of every case of every answer: document 01, "Numbers given back"; 0 and 1 stand for what has no number there. Then the number
 -- and value of each call, by its tests: the promises of the crate `tcpao`, and of `locate` of `states`, cite them.
-use Rattle.std.specs.Prelude.{ℕ, ◌+◌, Bool, cond, List, length, Option, Some, None}
+use Rattle.std.specs.Prelude.{ℕ, ◌+◌, Bool, cond, List, length, Option, Some, None, Ok, Err}
 use Rattle.wire.specs.declared.options.Seen.{Seen}
 use Rattle.tables.specs.declared.Index.{Index}
-use Rattle.tables.specs.Tables.{Admitted}
-use Rattle.std.specs.Prelude.{Ok, Err}
-use Rattle.tables.specs.Tables.{Tables, send_entry, md5_entry}
-use Rattle.rules.specs.Position.{Place}
-use Rattle.std.specs.Prelude.{Some, None}
+use Rattle.tables.specs.Tables.{Admitted, Tables, send_entry, md5_entry}
+use Rattle.rules.specs.Position.{Place, position}
 use Rattle.rules.specs.declared.Outcome.{Outcome}
 use Rattle.rules.specs.declared.Outcome.TheVariants.{Good, Passed, Bad}
 use Rattle.rules.specs.declared.Verdict.{Verdict}
@@ -20,7 +17,6 @@ use Rattle.rules.specs.Done as D
 use Rattle.rules.specs.declared.Connection.{Connection}
 use Rattle.rules.specs.declared.State.{State}
 use Rattle.octets.specs.Tests.{first}
-use Rattle.rules.specs.Position.{position}
 use Rattle.rules.specs.Connection.{Arrival, pair_of_lem, located, value, extension_of_lem}
 use Rattle.rules.specs.Calls.{unrefused, table_tests, check, check_syn_of, open_tests, ask_tests, outgoing, added_on_lem, check_sign}
 
@@ -57,7 +53,7 @@ signing_answer (S.Refused n) i = refused n i
 
 -- an opening, or a RecvID to ask for
 unfoldable pub done_answer : Done → Index → Answer
-done_answer D.Done i = answer 0 0
+done_answer D.Succeeded i = answer 0 0
 done_answer (D.Refused n) i = refused n i
 
 -- the tables: how many entries the key table has, or "10 to 17 .. with the entry's index", or 45, or 44

@@ -1,6 +1,7 @@
 -- Every call of documents 01 and 02, for every input: its numbers in order, of which the first that applies is given; then the answer, the
 -- new state, and every byte of the output. What a call knows of its tables is a value of `Tables`.
 use Rattle.std.specs.Prelude.{ℕ, ◌+◌, Bool, true, false, cond, not, ◌&&◌, ◌||◌, List, [], ◌∷◌, ◌++◌, length, drop, replicate, eqb, ltb}
+use Rattle.std.specs.Prelude.{Ok, Err, Some}
 use Rattle.wire.specs.Bytes.{same_bytes}
 use Rattle.wire.specs.Header.{source_port_of, destination_port_of, sequence, header_end_of, syn, ack, size_faults}
 use Rattle.keys.specs.declared.entry.Pair.{Pair}
@@ -8,11 +9,8 @@ use Rattle.keys.specs.declared.entry.Entry.{Entry}
 use Rattle.keys.specs.Table.{Found}
 use Rattle.keys.specs.Entry.{is_family_of, key_of}
 use Rattle.tables.specs.declared.Index.{Index}
-use Rattle.tables.specs.Tables.{Admitted}
-use Rattle.std.specs.Prelude.{Ok, Err}
-use Rattle.tables.specs.Tables.{Tables, no_index, send_entry, recv_entry, any_entry, md5_entry}
+use Rattle.tables.specs.Tables.{Admitted, Tables, no_index, send_entry, recv_entry, any_entry, md5_entry}
 use Rattle.rules.specs.Position.{Place}
-use Rattle.std.specs.Prelude.{Some}
 use Rattle.rules.specs.declared.Outcome.{Outcome}
 use Rattle.rules.specs.declared.Outcome.TheVariants.{Good, Passed, Bad}
 use Rattle.rules.specs.declared.Verdict.{Verdict}
@@ -22,21 +20,18 @@ use Rattle.rules.specs.declared.State.{State}
 use Rattle.rules.specs.declared.Judged.{Judged}
 use Rattle.rules.specs.declared.SynJudged.{SynJudged}
 use Rattle.rules.specs.Signing as S
-use Rattle.rules.specs.Results.{Signed}
+use Rattle.rules.specs.Results.{Signed, Settled}
 use Rattle.rules.specs.Done as D
-use Rattle.rules.specs.Results.{Settled}
 use Rattle.octets.specs.Tests.{Test, test, tests, joined, first}
 use Rattle.rules.specs.Mac.{Flow, leaving_hidden_of, arriving_hidden_of, segment_mac}
 use Rattle.rules.specs.Checksum.{sums_right, with_checksum_of}
 use Rattle.rules.specs.Digest.{segment_digest}
 use Rattle.rules.specs.Segment.{malformed, ao, md5, ao_at, key_id_of, rnext_key_id, mac_in, digest_in, is_bare_syn_of, option_bytes}
-use Rattle.rules.specs.Segment.{signed_with}
-use Rattle.rules.specs.Segment.{md5_option_bytes, digested_with}
+use Rattle.rules.specs.Segment.{signed_with, md5_option_bytes, digested_with}
 use Rattle.rules.specs.Connection.{sized, pair_of_lem, Arrival, arrival_pair_of, local_address, remote_address, is_open_of, is_md5_of}
-use Rattle.rules.specs.Connection.{ao_way, md5_way}
-use Rattle.rules.specs.Connection.{arriving, leaving, arriving_syn, place_on_lem, located, value, extension_of_lem, next_key_of, opened}
-use Rattle.rules.specs.Connection.{opening}
-use Rattle.rules.specs.Connection.{empty, with_accepted_of, with_counted_of, with_drop_of, with_sent_of, with_asked_of}
+use Rattle.rules.specs.Connection.{ao_way, md5_way, arriving, leaving, arriving_syn, place_on_lem, located, value, extension_of_lem}
+use Rattle.rules.specs.Connection.{next_key_of, opened, opening, empty, with_accepted_of, with_counted_of, with_drop_of, with_sent_of}
+use Rattle.rules.specs.Connection.{with_asked_of}
 
 abbrev pub refuse : ℕ → Outcome
 refuse n = Bad n no_index
@@ -294,8 +289,8 @@ abbrev pub unrefused : Outcome
 unrefused = Good 0 0
 
 abbrev pub settled_by_lem : Outcome → State → State → Settled
-settled_by_lem (Good x r) old new = record { answer = D.Done; index = no_index; state = new }
-settled_by_lem Passed old new = record { answer = D.Done; index = no_index; state = old }
+settled_by_lem (Good x r) old new = record { answer = D.Succeeded; index = no_index; state = new }
+settled_by_lem Passed old new = record { answer = D.Succeeded; index = no_index; state = old }
 settled_by_lem (Bad n i) old new = record { answer = D.Refused n; index = i; state = old }
 
 -- "Active opening names a SendID; its entry must match the pair. It gives the outgoing key and, by RecvID, the key asked of the peer."

@@ -1,17 +1,15 @@
 -- Document 01, "Positions", "A connection's life" and "Numbers given back", and document 02, Tickets 5 and 9: what a connection is, and
 -- who writes its state.
 use Rattle.std.specs.Prelude.{ℕ, suc, ◌+◌, ◌-◌, ◌/◌, ◌^◌, max, Bool, true, false, cond, not, ◌&&◌, ◌||◌, List, [], ◌∷◌, length, get_or, set}
-use Rattle.std.specs.Prelude.{take, replicate, eqb, ltb}
+use Rattle.std.specs.Prelude.{take, replicate, eqb, ltb, Some, None}
 use Rattle.wire.specs.Header.{source_port_of, destination_port_of, sequence}
 use Rattle.keys.specs.declared.entry.Pair.{Pair}
 use Rattle.keys.specs.Entry.{width, padded}
 use Rattle.tables.specs.Tables.{Tables, send_entry}
-use Rattle.rules.specs.Position.{Place}
-use Rattle.std.specs.Prelude.{Some, None}
+use Rattle.rules.specs.Position.{Place, position}
 use Rattle.rules.specs.declared.Connection.{Connection}
 use Rattle.rules.specs.declared.State.{State}
 use Rattle.rules.specs.Mac.{Flow}
-use Rattle.rules.specs.Position.{position}
 
 -- A socket pair.
 

@@ -15,8 +15,7 @@ use Rattle.tables.specs.Tables.{Tables, no_index}
 use Rattle.rules.specs.declared.Verdict.TheVariants.{Accept}
 use Rattle.rules.specs.declared.State.{State}
 use Rattle.rules.specs.Connection.{Arrival, local_address, remote_address, arrival_pair_of, is_open_of, is_md5_of, extension_of_lem}
-use Rattle.rules.specs.Connection.{next_key_of}
-use Rattle.rules.specs.Connection.{ao_way, opened, with_accepted_of}
+use Rattle.rules.specs.Connection.{next_key_of, ao_way, opened, with_accepted_of}
 use Rattle.rules.specs.Checksum.{sums_right, with_checksum_of}
 use Rattle.rules.specs.Calls.{judged, judged_syn, opened_passively}
 use Rattle.rules.specs.Ends.{Typed, Allowed, Facing, FacingUnder, OtherEnd, with_ports, Delivered, SignedAt, Holds}

@@ -1,12 +1,11 @@
 -- Demand 3, as a statement: document 01's last section and the demand's own words. `demand3` of OrderLaws proves it.
-use Rattle.std.specs.Prelude.{ℕ, ◌+◌, ◌^◌, ◌<◌, max, ◌≡◌, Bool, true, false, cond}
+use Rattle.std.specs.Prelude.{ℕ, ◌+◌, ◌^◌, ◌<◌, max, ◌≡◌, Bool, true, false, cond, Ok}
 use mathlib.Core.List.{List, [], ◌∷◌, map, Permᴰ}
 use Rattle.octets.specs.Each.{Each}
 use Rattle.rules.specs.declared.Verdict.{Verdict}
 use Rattle.rules.specs.declared.Verdict.TheVariants.{Accept}
 use Rattle.rules.specs.declared.Connection.{Connection}
 use Rattle.rules.specs.declared.State.{State}
-use Rattle.std.specs.Prelude.{Ok}
 use Rattle.tables.specs.Tables.{Tables}
 use Rattle.tables.specs.Valid.{Apart, ValidTables}
 use Rattle.rules.specs.Connection.{Arrival, is_open_of, is_md5_of, sized, extension_of_lem, stop, available}

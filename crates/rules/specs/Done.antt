@@ -2,5 +2,5 @@
 use Rattle.std.specs.Prelude.{ℕ}
 
 pub data Done : Type 0 where
-  Done : Done
+  Succeeded : Done
   Refused : ℕ → Done

@@ -1,6 +1,6 @@
 -- The two ends of a connection, in document 01's words: the last section ("a true segment was signed at the other end ..", "an arrival
 -- verifies if ..", "a key is available if ..") and "Positions".
-use Rattle.std.specs.Prelude.{ℕ, ◌^◌, ◌<◌, ◌≡◌, true, false, List, ◌∷◌, ◌++◌, length, take, drop}
+use Rattle.std.specs.Prelude.{ℕ, ◌^◌, ◌<◌, ◌≡◌, true, false, List, ◌∷◌, ◌++◌, length, take, drop, Ok, Some}
 use Rattle.octets.specs.Octets.{bytes16}
 use Rattle.octets.specs.Each.{Octets}
 use Rattle.wire.specs.Header.{source_port_of, destination_port_of, sequence, well_sized_of}
@@ -8,13 +8,11 @@ use Rattle.keys.specs.declared.entry.Pair.{Pair}
 use Rattle.keys.specs.declared.entry.Entry.{Entry}
 use Rattle.keys.specs.declared.entry.Secret.{Secret}
 use Rattle.keys.specs.Entry.{is_family_of, local_hidden_of, remote_hidden, key_of}
-use Rattle.keys.specs.Places.{Some as EntryAt}
+use Rattle.keys.specs.Places.{At as EntryAt}
 use Rattle.keys.specs.Match.{matches}
 use Rattle.keys.specs.Mirror.{Mirror}
-use Rattle.std.specs.Prelude.{Ok}
 use Rattle.tables.specs.Tables.{Tables, recv_entry}
 use Rattle.tables.specs.Valid.{Apart, ValidTables}
-use Rattle.std.specs.Prelude.{Some}
 use Rattle.rules.specs.declared.Connection.{Connection}
 use Rattle.rules.specs.declared.State.{State}
 use Rattle.rules.specs.Signing as S

@@ -1,13 +1,10 @@
 -- Which numbers each call can give, and that only a bare SYN judged without a state can pass, as statements: document 01, "Numbers given
 -- back". So no refusal has the number 0 or 1, which an answer keeps for what has no number there (Answers.antt). GivenNumberLaws proves
 -- them.
-use Rattle.std.specs.Prelude.{ℕ, ◌≤◌, ◌≡◌, Bool, true, false, cond, ◌||◌, List, [], ◌∷◌, ◌++◌, eqb}
+use Rattle.std.specs.Prelude.{ℕ, ◌≤◌, ◌≡◌, Bool, true, false, cond, ◌||◌, List, [], ◌∷◌, ◌++◌, eqb, Ok, Err}
 use Rattle.keys.specs.Table.{Found}
 use Rattle.tables.specs.declared.Index.{Index}
-use Rattle.tables.specs.Tables.{Admitted}
-use Rattle.std.specs.Prelude.{Ok, Err}
-use Rattle.tables.specs.Tables.{refused_with}
-use Rattle.tables.specs.Tables.{Tables, no_index, max_entries}
+use Rattle.tables.specs.Tables.{Admitted, refused_with, Tables, no_index, max_entries}
 use Rattle.rules.specs.declared.Outcome.TheVariants.{Passed}
 use Rattle.rules.specs.declared.Verdict.{Verdict}
 use Rattle.rules.specs.declared.Verdict.TheVariants.{Accept, Pass, Drop}

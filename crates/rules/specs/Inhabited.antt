@@ -2,14 +2,13 @@
 -- translation, and one of the other sort, of which demand 3 holds; a bare SYN that demand 2 accepts, by TCP-AO and by MD5; by MD5 also the
 -- SYN+ACK that answers it, and a segment once open; tables that are prepared; and a bare SYN whose KeyID is unknown. As statements, with
 -- the MAC and the digest shut: they are whatever they are. InhabitedLaws proves them.
-use Rattle.std.specs.Prelude.{ℕ, ◌≡◌, true, false, List, [], ◌∷◌, ◌++◌, replicate}
+use Rattle.std.specs.Prelude.{ℕ, ◌≡◌, true, false, List, [], ◌∷◌, ◌++◌, replicate, Ok}
 use Rattle.wire.specs.Header.{syn}
 use Rattle.keys.specs.declared.entry.Entry.{Entry}
 use Rattle.keys.specs.declared.entry.Pair.{Pair}
 use Rattle.keys.specs.Entry.{entry_of}
 use Rattle.tables.specs.Tables.{Tables, no_index, tables_of, any_entry}
 use Rattle.tables.specs.Preparing.{prepared_of}
-use Rattle.std.specs.Prelude.{Ok}
 use Rattle.rules.specs.declared.Verdict.TheVariants.{Accept, Pass, Drop}
 use Rattle.rules.specs.declared.State.{State}
 use Rattle.rules.specs.Connection.{Arrival, arrival_pair_of, is_open_of, is_md5_of, slots, opened, with_counted_of}

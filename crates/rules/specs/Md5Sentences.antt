@@ -13,8 +13,7 @@ use Rattle.keys.specs.declared.table.TableKind.TheVariants.{Md5}
 use Rattle.keys.specs.Algorithm.{mac_bytes_of}
 use Rattle.keys.specs.Entry.{Item, item, entry_of, key_of}
 use Rattle.keys.specs.Table as K
-use Rattle.tables.specs.Tables.{refused_with}
-use Rattle.tables.specs.Tables.{Tables, admitted, md5_entry}
+use Rattle.tables.specs.Tables.{refused_with, Tables, admitted, md5_entry}
 use Rattle.rules.specs.declared.Outcome.TheVariants.{Good}
 use Rattle.rules.specs.declared.Connection.{Connection}
 use Rattle.rules.specs.declared.State.{State}

@@ -1,11 +1,10 @@
 -- Prepared tables, of every call, as statements: document 02, Ticket 8, "a prepared table that is built once from valid bytes; a call with
 -- it gives what the bytes would give". PreparedLaws proves them. That bytes are below 256 (`Octets`) is so of every byte.
-use Rattle.std.specs.Prelude.{ℕ, Bool, ◌≡◌, List, []}
+use Rattle.std.specs.Prelude.{ℕ, Bool, ◌≡◌, List, [], Ok}
 use Rattle.octets.specs.Each.{Octets}
 use Rattle.tables.specs.Tables.{Tables}
 use Rattle.tables.specs.Preparing.{prepared_of}
 use Rattle.tables.specs.Valid.{ValidTables}
-use Rattle.std.specs.Prelude.{Ok}
 use Rattle.rules.specs.declared.State.{State}
 use Rattle.rules.specs.Connection.{Arrival}
 use Rattle.rules.specs.Calls.{judged, judged_syn, opened_passively, opened_actively, opened_actively_md5, asked, signed, output}

@@ -1,10 +1,9 @@
 -- What each call makes of the references, ISNs, stage, IDs and counts of a state, as statements with every field written out: document 01,
 -- "Positions", "A connection's life" and "Numbers given back"; document 02, Ticket 9. ReferenceLaws proves them.
-use Rattle.std.specs.Prelude.{ℕ, ◌+◌, ◌<◌, min, max, ◌≡◌, Bool, true, false, List, [], ◌∷◌, get_or, set}
+use Rattle.std.specs.Prelude.{ℕ, ◌+◌, ◌<◌, min, max, ◌≡◌, Bool, true, false, List, [], ◌∷◌, get_or, set, Some}
 use Rattle.wire.specs.Header.{sequence}
 use Rattle.keys.specs.declared.entry.Ids.{Ids}
 use Rattle.tables.specs.Tables.{Tables, send_entry, recv_entry}
-use Rattle.std.specs.Prelude.{Some}
 use Rattle.rules.specs.declared.Verdict.TheVariants.{Accept, Drop}
 use Rattle.rules.specs.declared.State.{State}
 use Rattle.rules.specs.Signing as S
@@ -60,7 +59,7 @@ SignedOpening = (t : Tables) (s out : List ℕ) (q : State) (n : ℕ) → is_ope
 -- that side's ISN; until the peer's ISN is known, it and its reference are 0."
 abbrev pub OpensActively : Type 0
 OpensActively = (t : Tables) (local remote : List ℕ) (local_port remote_port isn send_id : ℕ)
-    → (opened_actively t local remote local_port remote_port isn send_id).answer ≡ D.Done
+    → (opened_actively t local remote local_port remote_port isn send_id).answer ≡ D.Succeeded
     → (opened_actively t local remote local_port remote_port isn send_id).state ≡ record {
       conn = record { stage = 0; way = 0; pair = pair_of_lem local remote local_port remote_port; isn = isn; peer_isn = 0 };
       sent = isn;
@@ -74,7 +73,7 @@ OpensActively = (t : Tables) (local remote : List ℕ) (local_port remote_port i
 -- by MD5: no IDs
 abbrev pub OpensActivelyMd5 : Type 0
 OpensActivelyMd5 = (t : Tables) (local remote : List ℕ) (local_port remote_port isn : ℕ)
-    → (opened_actively_md5 t local remote local_port remote_port isn).answer ≡ D.Done
+    → (opened_actively_md5 t local remote local_port remote_port isn).answer ≡ D.Succeeded
     → (opened_actively_md5 t local remote local_port remote_port isn).state ≡ record {
       conn = record { stage = 0; way = 1; pair = pair_of_lem local remote local_port remote_port; isn = isn; peer_isn = 0 };
       sent = isn;
@@ -234,7 +233,7 @@ SigningRefused = (t : Tables) (s out : List ℕ) (q : State) (n : ℕ) → (sign
 
 -- "An operator call sets the RecvID asked of the peer; nothing else does."
 abbrev pub Asks : Type 0
-Asks = (t : Tables) (id : ℕ) (q : State) → (asked t id q).answer ≡ D.Done → (asked t id q).state ≡ record {
+Asks = (t : Tables) (id : ℕ) (q : State) → (asked t id q).answer ≡ D.Succeeded → (asked t id q).state ≡ record {
   conn = q.conn;
   sent = q.sent;
   seen = q.seen;

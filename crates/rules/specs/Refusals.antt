@@ -25,12 +25,12 @@ pub data Request : Type 0 where
 
 -- what it answers: done, or refused with a number. A verdict refuses by a drop, signing by no length.
 abbrev pub by_verdict : Verdict → Done
-by_verdict (Accept e) = D.Done
-by_verdict Pass = D.Done
+by_verdict (Accept e) = D.Succeeded
+by_verdict Pass = D.Succeeded
 by_verdict (Drop n) = D.Refused n
 
 abbrev pub by_signing : Signing → Done
-by_signing (S.Signed n) = D.Done
+by_signing (S.Signed n) = D.Succeeded
 by_signing (S.Refused n) = D.Refused n
 
 abbrev pub reply : Request → Done

@@ -27,5 +27,5 @@ signed_as q (Ok s) = record { answer = S.Signed s.len; index = no_index; state =
 signed_as q (Err r) = record { answer = S.Refused r.number; index = r.index; state = q }
 
 abbrev pub settled_as : State → Result State Refusal → Settled
-settled_as old (Ok q) = record { answer = D.Done; index = no_index; state = q }
+settled_as old (Ok q) = record { answer = D.Succeeded; index = no_index; state = q }
 settled_as old (Err r) = record { answer = D.Refused r.number; index = r.index; state = old }

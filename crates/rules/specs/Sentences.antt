@@ -3,8 +3,8 @@
 -- and what both ways share; Md5Sentences.antt has the MD5 way of document 02, Ticket 9. SentenceLaws proves each, PositionLaws
 -- `PlaceAnswers`.
 use Rattle.std.specs.Prelude.{ℕ, ◌+◌, ◌-◌, ◌*◌, ◌/◌, ◌%◌, ◌<◌, ◌≡◌, Bool, true, false, cond, not, ◌&&◌, List, [], ◌∷◌, ◌++◌, map, length}
-use Rattle.std.specs.Prelude.{get_or, take, drop, replicate, eqb, ltb}
-use Rattle.octets.specs.Tests.{Test, any}
+use Rattle.std.specs.Prelude.{get_or, take, drop, replicate, eqb, ltb, Some}
+use Rattle.octets.specs.Tests.{Test, any, first}
 use Rattle.wire.specs.Bytes.{same_bytes}
 use Rattle.wire.specs.Header.{source_port_of, destination_port_of, sequence, data_offset_of, header_end_of, syn, ack}
 use Rattle.mac.specs.Hmac.{hmac_sha1_of, hmac_sha256_of}
@@ -21,13 +21,11 @@ use Rattle.keys.specs.Table as K
 use Rattle.tables.specs.declared.Index.{Index}
 use Rattle.tables.specs.Tables.{Tables, send_entry, recv_entry, any_entry}
 use Rattle.rules.specs.Position.{Place}
-use Rattle.std.specs.Prelude.{Some}
 use Rattle.rules.specs.declared.Outcome.{Outcome}
 use Rattle.rules.specs.declared.Outcome.TheVariants.{Good, Passed, Bad}
 use Rattle.rules.specs.declared.Verdict.TheVariants.{Accept, Pass, Drop}
 use Rattle.rules.specs.declared.Connection.{Connection}
 use Rattle.rules.specs.declared.State.{State}
-use Rattle.octets.specs.Tests.{first}
 use Rattle.checksum.specs.Checksum.{ones_sum}
 use Rattle.rules.specs.Checksum.{with_checksum_of}
 use Rattle.rules.specs.Ends.{rechecked}

@@ -4,6 +4,10 @@
 // Every value of these types is a value that a call may get: no field is an enum, and nothing is assumed of it.
 #![tactic(auto)]
 
+ghost use Rattle.std.specs.Prelude.{◌≡◌};
+ghost use Rattle.rules.specs.declared.Outcome.TheVariants.{Bad};
+ghost use Rattle.rules.specs.Calls.{index_of, verdict_of_lem};
+
 use keys::entry::Pair;
 use std::marker::Model;
 use tables::{Index, Refusal};
@@ -18,6 +22,27 @@ pub enum Outcome {
     Good(u64, u8),
     Passed,
     Bad(u8, Index),
+}
+
+impl Outcome {
+    // The entry beside 10 to 17 and 45, else none.
+    pub fn index(self) -> Index
+        ensures { result ≡ index_of self }
+    {
+        match self {
+            Outcome::Bad(_, index) => index,
+            _ => NO_INDEX,
+        }
+    }
+}
+
+// A refusal is a number that applies, with the entry beside it.
+impl From<Refusal> for Outcome {
+    ghost from_gives = { λ refusal outcome. outcome ≡ Bad refusal.number refusal.index };
+
+    fn from(refusal: Refusal) -> Outcome {
+        Outcome::Bad(refusal.number, refusal.index)
+    }
 }
 
 // Of which sides of a segment address and port count as zero under the MAC (document 02, Ticket 10).
@@ -35,9 +60,22 @@ pub enum Verdict {
     Drop(u8),
 }
 
+// The extension of a position is what stands above its low 32 bits.
+impl From<Outcome> for Verdict {
+    ghost from_gives = { λ outcome verdict. verdict ≡ verdict_of_lem outcome };
+
+    fn from(outcome: Outcome) -> Verdict {
+        match outcome {
+            Outcome::Good(position, _) => Verdict::Accept((position >> 32) as u32),
+            Outcome::Passed => Verdict::Pass,
+            Outcome::Bad(number, _) => Verdict::Drop(number),
+        }
+    }
+}
+
 // What is fixed while a connection stays open: the way it was opened, the pair as this end holds it, and both ISNs. Stage 1 is open, any
 // other opening; way 1 is TCP MD5 (RFC 2385), any other TCP-AO.
-#[derive(Clone, Copy)]
+#[derive(Clone, Copy, PartialEq, Eq, Debug)]
 pub struct Connection {
     pub stage: u8,
     pub way: u8,
@@ -52,7 +90,7 @@ pub const SLOTS: usize = 13;
 // A connection's state. `sent` is the reference of the direction that this end signs, `seen` that of the arriving one; `send_id` is the
 // outgoing key's SendID (current_key), `ask_id` the RecvID asked of the peer (rnext_key). `drops` counts the drops 20 to 29,
 // 40, 46 and 47.
-#[derive(Clone, Copy)]
+#[derive(Clone, Copy, PartialEq, Eq, Debug)]
 pub struct State {
     pub conn: Connection,
     pub sent: u64,
@@ -64,7 +102,7 @@ pub struct State {
 }
 
 // "The new state stands beside it." The index is an entry's where a table is refused (10 to 17, 45), else zeros.
-#[derive(Clone, Copy)]
+#[derive(Clone, Copy, PartialEq, Eq, Debug)]
 pub struct Judged {
     pub verdict: Verdict,
     pub index: Index,
@@ -72,14 +110,14 @@ pub struct Judged {
 }
 
 // What a bare SYN gets that is judged without a state.
-#[derive(Clone, Copy)]
+#[derive(Clone, Copy, PartialEq, Eq, Debug)]
 pub struct SynJudged {
     pub verdict: Verdict,
     pub index: Index,
 }
 
 // What signing gives: how many bytes were written, and the new state.
-#[derive(Clone, Copy)]
+#[derive(Clone, Copy, PartialEq, Eq, Debug)]
 pub struct SignedSegment {
     pub len: usize,
     pub state: State,
@@ -95,6 +133,8 @@ pub struct LentArrival<'a> {
 
 impl<'a> Model for LentArrival<'a> {
     ghost use Rattle.rules.specs.Connection.{Arrival, arrival_of};
+
     ghost Value = { Arrival };
+
     ghost view = { λ a. arrival_of a.source.now a.destination.now a.segment.now };
 }
