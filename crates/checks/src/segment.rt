@@ -22,11 +22,15 @@ pub struct SizedSegment<'a> {
 }
 
 impl<'a> Model for SizedSegment<'a> {
-    ghost use Rattle.std.specs.Prelude.{ℕ, List, ◌≡◌, true, length};
-    ghost use Rattle.wire.specs.Header.{well_sized_of, header_of_lem};
+    ghost use Rattle.std.specs.Prelude.{ℕ, List, ◌≡◌, ◌≤◌, true, length};
+    ghost use Rattle.wire.specs.Header.{header_end_of, well_sized_of, header_of_lem};
+
     ghost Value = { List ℕ };
+
     ghost view = { λ s. s.bytes.now };
-    ghost invariant = { λ s. (well_sized_of s.bytes.now ≡ true) × (s.header ≡ header_of_lem (length s.bytes.now) s.bytes.now) };
+
+    ghost invariant = { λ s. (well_sized_of s.bytes.now ≡ true) × (header_end_of s.bytes.now ≤ 60)
+        × (s.header ≡ header_of_lem (length s.bytes.now) s.bytes.now) };
 }
 
 impl<'a> SizedSegment<'a> {
