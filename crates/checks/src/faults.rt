@@ -31,13 +31,12 @@ pub fn refuse_where(applies: bool, number: u8) -> Result<(), Outcome>
 pub fn table_faults(tables: &LentTables<'_>) -> Result<(), Outcome>
     ensures { result ≡ checked (table_tests tables.now) }
 {
-    match tables.check() {
-        Ok(_) => Ok(()),
-        Err(refusal) => Err(Outcome::Bad(refusal.number, refusal.index)),
-    }
+    tables.check()?;
+    Ok(())
 }
 
 // 18: "state's family is neither IPv4 nor IPv6".
+#[tactic(auto, unfolding(keys::specs::Entry::is_family_of))]
 pub fn family_faults(conn: Connection) -> Result<(), Outcome>
     ensures { result ≡ checked (family_tests conn) }
 {
