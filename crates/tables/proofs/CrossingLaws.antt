@@ -17,7 +17,7 @@ use Rattle.std.specs.Prelude.{Ok, Err}
 use Rattle.tables.specs.Tables.{max_entries, md5_index, crossing, besides, admitted}
 use Rattle.tables.specs.Crossing.{Crossed, Alone, CrossedAt, RefusedCrossed, CrossedRefused, KeysRefused, Md5Refused, BothTaken}
 use Rattle.tables.specs.declared.Index.{Index}
-use Rattle.tables.specs.Tables.{refused_with}
+use Rattle.tables.specs.Tables.{Admitted, refused_with}
 
 -- the test by which 45 is given holds of an MD5 entry exactly if it is crossed
 
@@ -53,6 +53,14 @@ record Refusal (k m : List ℕ) (x : Index) : Type 0 where
   there : (crossing (entries k) (entries m)).there ≡ true
   index : md5_index (crossing (entries k) (entries m)).index ≡ x
 
+abbrev number_in : Admitted → ℕ
+number_in (Ok n) = 0
+number_in (Err r) = r.number
+
+abbrev index_in : Admitted → Index
+index_in (Ok n) = md5_index 0
+index_in (Err r) = r.index
+
 refusal-of : (k m : List ℕ) (x : Index) → admitted k m ≡ refused_with 45 x → Refusal k m x
 unfolding admitted besides
 refusal-of k m x e = go (loaded Keys max_entries k) (loaded Md5 max_entries m) (crossing (entries k) (entries m)).there refl refl refl
@@ -61,16 +69,16 @@ refusal-of k m x e = go (loaded Keys max_entries k) (loaded Md5 max_entries m) (
         → (crossing (entries k) (entries m)).there ≡ c → Refusal k m x
     go (Err f) b c p q r =
         let l = refused-low Keys max_entries f.number f.index k p in
-        let z : f.number ≡ 45 = cc (rw p at e) in
+        let z : f.number ≡ 45 = ap number_in (rw p at e) in
         absurd (omega arith)
     go (Ok i) (Err f) c p q r =
         let l = refused-low Md5 max_entries f.number f.index m q in
-        let z : f.number ≡ 45 = cc (rw (p, q) at e) in
+        let z : f.number ≡ 45 = ap number_in (rw (p, q) at e) in
         absurd (omega arith)
     go (Ok i) (Ok j) false p q r = let z : ◌≡◌ {A = ℕ} 0 1 = cc (rw (p, q, r) at e) in absurd (omega arith)
     go (Ok i) (Ok j) true p q r =
         let f : refused_with 45 (md5_index (crossing (entries k) (entries m)).index) ≡ refused_with 45 x = rw (p, q, r) at e in
-        record { keys = (i, p); md5s = (j, q); there = r; index = cc }
+        record { keys = (i, p); md5s = (j, q); there = r; index = ap index_in f }
 
 pub refused-crossed : RefusedCrossed
 refused-crossed k m x ok om e =

@@ -20,10 +20,20 @@ use Rattle.keys.specs.Table.{number_of, item_tests, load_tests, loaded_from, loa
 use Rattle.keys.specs.declared.entry.Entry.{Entry}
 use Rattle.keys.specs.declared.table.TableKind.{TableKind}
 use Rattle.keys.specs.declared.table.TableKind.TheVariants.{Keys, Md5}
-use Rattle.std.specs.Prelude.{Ok}
-use Rattle.keys.specs.Table.{fault}
+use Rattle.std.specs.Prelude.{Ok, Err}
+use Rattle.keys.specs.Table.{Loaded, fault}
 use Rattle.tables.specs.Limit.{LimitRefused, RefusedLimit, KeysLimit, Md5Limit}
 use Rattle.tables.proofs.CrossingLaws.{keys-refused, md5-refused}
+
+-- the two parts of a refusal
+
+abbrev number_in : Loaded → ℕ
+number_in (Ok n) = 0
+number_in (Err f) = f.number
+
+abbrev index_in : Loaded → ℕ
+index_in (Ok n) = 0
+index_in (Err f) = f.index
 
 -- An entry and what stands behind it.
 
@@ -261,7 +271,7 @@ module _ (kind : TableKind) (limit : ℕ) where
     end-twelve : (i : ℕ) (before : List Entry) (s : List ℕ) → limit ≡ i → Twelve j i before s
     end-twelve i before [] e v = none-twelve i before v
     end-twelve i before (a ∷ s) e v =
-        let z : limit ≡ j = cc (sym (full i before a s (sym e)) ∙ v) in
+        let z : limit ≡ j = ap index_in (sym (full i before a s (sym e)) ∙ v) in
         (sym z, ([], a, s, refl, empty i before ∙ ap Ok (sym e)))
 
     -- the entry's own bytes before those of what follows
@@ -282,7 +292,7 @@ module _ (kind : TableKind) (limit : ℕ) where
       where
         go : (m : ℕ) → number_of (load_tests kind limit i before (item (a ∷ s))) ≡ m → (j ≡ limit) × Reached i before (a ∷ s)
         go (suc m) q =
-            let z : suc m ≡ 12 = cc (sym (stops i m before a s q) ∙ v) in
+            let z : suc m ≡ 12 = ap number_in (sym (stops i m before a s q) ∙ v) in
             absurd (below i before (item (a ∷ s)) n (q ∙ z))
         go zero q =
             let y = passed i before (item (a ∷ s)) q in

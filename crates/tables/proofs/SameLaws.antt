@@ -125,6 +125,10 @@ unfit-of b m (inr (inr (inr h))) = rw (ne_eqb (length m) 0 (λ e. omega arith), 
 pub unfit-refused : UnfitRefused
 unfit-refused form b m z u = ap (λ (t : Tables). t.answer) (other-form form b m z) ∙ unfit-of b m u
 
+abbrev number_in : Admitted → ℕ
+number_in (Ok n) = 0
+number_in (Err r) = r.number
+
 pub bytes-not-44 : BytesNot44
 unfolding admitted besides
 bytes-not-44 k m x e = go (loaded Keys max_entries k) (loaded Md5 max_entries m) (crossing (entries k) (entries m)).there refl refl refl
@@ -133,15 +137,15 @@ bytes-not-44 k m x e = go (loaded Keys max_entries k) (loaded Md5 max_entries m)
         → (crossing (entries k) (entries m)).there ≡ c → ⊥
     go (Err f) (Ok j) c p q r =
         let l = refused-low Keys max_entries f.number f.index k p in
-        let z : f.number ≡ 44 = cc in
+        let z : f.number ≡ 44 = ap number_in (rw p at e) in
         omega arith
     go (Err f) (Err f2) c p q r =
         let l = refused-low Keys max_entries f.number f.index k p in
-        let z : f.number ≡ 44 = cc in
+        let z : f.number ≡ 44 = ap number_in (rw p at e) in
         omega arith
     go (Ok i) (Err f) c p q r =
         let l = refused-low Md5 max_entries f.number f.index m q in
-        let z : f.number ≡ 44 = cc in
+        let z : f.number ≡ 44 = ap number_in (rw (p, q) at e) in
         omega arith
     go (Ok i) (Ok j) false p q r = let z : ◌≡◌ {A = ℕ} 0 1 = cc in omega arith
-    go (Ok i) (Ok j) true p q r = let z : ◌≡◌ {A = ℕ} 44 45 = cc in omega arith
+    go (Ok i) (Ok j) true p q r = let z : ◌≡◌ {A = ℕ} 45 44 = ap number_in (rw (p, q, r) at e) in omega arith

@@ -1,4 +1,4 @@
--- Ok tables: document 01, "How much a contract must say" ("A table is valid if it gives none of 10 to 17"); document 02, Ticket 9: "the
+-- Valid tables: document 01, "How much a contract must say" ("A table is valid if it gives none of 10 to 17"); document 02, Ticket 9: "the
 -- MD5 table given beside the key table is not refused (10 to 17, 45)"; Ticket 8: "neither a clashing table nor one refused with 44".
 -- Statements; ValidLaws proves them, ApartLaws those by socket pairs.
 use Rattle.std.specs.Prelude.{ℕ, ◌<◌, ◌≤◌, true, false, ◌≡◌, List, ◌⊎◌, length}

@@ -5,12 +5,13 @@
 ghost use Rattle.std.specs.Prelude.{◌≡◌, length};
 ghost use Rattle.keys.specs.Entry.{entries};
 ghost use Rattle.keys.specs.Table.{found, found_of, answers};
-ghost use Rattle.tables.specs.Tables.{Tables, crossing, after_crossing, besides, admitted, bytes_tables, prepared_tables, tables_in, tables_of};
+ghost use Rattle.tables.specs.Tables.{Tables, crossing, after_crossing, besides, admitted, bytes_tables, prepared_answer, no_index};
+ghost use Rattle.tables.specs.Tables.{tables_in, tables_of};
 ghost use Rattle.tables.specs.Tables.{send_entry, recv_entry, any_entry, md5_entry};
 ghost use Rattle.tables.specs.Preparing.{prepare_answer, prepare_output};
 
 use keys::entry::Pair;
-use keys::table::{By, Hit, TableKind};
+use keys::table::{By, Fault, Hit, TableKind, load};
 use prepared::stored::MAX_ENTRIES;
 use std::marker::Model;
 
@@ -48,15 +49,33 @@ pub struct LentTables<'a> {
 
 impl<'a> Model for LentTables<'a> {
     ghost Value = { Tables };
+
     ghost view = { λ t. tables_in t.form t.keys.now t.md5.now };
 }
 
-fn refused(number: u8, table: u8, entry: usize) -> Refusal
-    ensures { result ≡ record { number = number; index = record { table = table; entry = entry } } }
-{
-    Refusal {
-        number,
-        index: Index { table, entry },
+impl Refusal {
+    // A number that names an entry.
+    fn at(number: u8, table: u8, entry: usize) -> Self
+        ensures { result ≡ record { number = number; index = record { table = table; entry = entry } } }
+    {
+        Refusal {
+            number,
+            index: Index { table, entry },
+        }
+    }
+
+    // What refuses a table by itself, 0 the key table and 1 the MD5 table.
+    fn in_table(table: u8, fault: Fault) -> Self
+        ensures { result ≡ record { number = fault.number; index = record { table = table; entry = fault.index } } }
+    {
+        Refusal::at(fault.number, table, fault.index)
+    }
+
+    // A number that names none.
+    pub fn of(number: u8) -> Self
+        ensures { result ≡ record { number = number; index = no_index } }
+    {
+        Refusal::at(number, 0, 0)
     }
 }
 
@@ -65,43 +84,39 @@ fn check_crossing(keys: &[u8], md5: &[u8], n: usize) -> Result<usize, Refusal>
     ensures { result ≡ after_crossing (crossing (entries keys.now) (entries md5.now)) n }
 {
     match keys::table::find_meeting(md5, keys) {
-        Some(i) => Err(refused(45, 1, i)),
+        Some(i) => Err(Refusal::at(45, 1, i)),
         None => Ok(n),
     }
 }
 
 // The MD5 table's refusals, then 45. Where it has no bytes, nothing is compared.
+#[tactic(auto, using(crate::proofs::Checked::besides_empty), unfolding(crate::specs::Tables::besides))]
 fn check_md5(keys: &[u8], md5: &[u8], n: usize) -> Result<usize, Refusal>
     ensures { result ≡ besides keys.now md5.now n }
 {
     if md5.is_empty() {
         return Ok(n);
     }
-    match keys::table::load(md5, MAX_ENTRIES, TableKind::Md5) {
-        Err(fault) => Err(refused(fault.number, 1, fault.index)),
-        Ok(_) => check_crossing(keys, md5, n),
-    }
+    load(md5, MAX_ENTRIES, TableKind::Md5).map_err(|fault| Refusal::in_table(1, fault))?;
+    check_crossing(keys, md5, n)
 }
 
 // The key table's refusals, then what stands behind them.
+#[tactic(auto, unfolding(crate::specs::Tables::admitted))]
 fn check_bytes(keys: &[u8], md5: &[u8]) -> Result<usize, Refusal>
     ensures { result ≡ admitted keys.now md5.now }
 {
-    match keys::table::load(keys, MAX_ENTRIES, TableKind::Keys) {
-        Err(fault) => Err(refused(fault.number, 0, fault.index)),
-        Ok(n) => check_md5(keys, md5, n),
-    }
+    let n = load(keys, MAX_ENTRIES, TableKind::Keys).map_err(|fault| Refusal::in_table(0, fault))?;
+    check_md5(keys, md5, n)
 }
 
 // 44, or how many key entries a prepared table has.
+#[tactic(auto, using(prepared::specs::ReadLaws::counted), unfolding(crate::specs::Tables::prepared_answer))]
 fn check_prepared(keys: &[u8], md5: &[u8]) -> Result<usize, Refusal>
-    ensures { result ≡ (prepared_tables keys.now md5.now).answer }
+    ensures { result ≡ prepared_answer keys.now md5.now }
 {
-    if md5.len() != 0 {
-        return Err(refused(44, 0, 0));
-    }
-    if !prepared::stored::fits(keys) {
-        return Err(refused(44, 0, 0));
+    if !md5.is_empty() || !prepared::stored::fits(keys) {
+        return Err(Refusal::of(44));
     }
     Ok(prepared::stored::key_count(keys))
 }
@@ -132,6 +147,7 @@ impl<'a> LentTables<'a> {
     }
 
     // What the tables answer, before a call's own numbers: how many key entries there are, or the refusal.
+    #[tactic(auto, unfolding(crate::specs::Tables::prepared_tables))]
     pub fn check(&self) -> Result<usize, Refusal>
         ensures { result ≡ self.now.answer }
     {
@@ -141,6 +157,7 @@ impl<'a> LentTables<'a> {
         }
     }
 
+    #[tactic(auto, unfolding(crate::specs::Tables::prepared_tables))]
     fn find_key(&self, pair: Pair, by: By) -> Option<Hit>
         ensures { found_of result ≡ found (answers by pair) 0 self.now.keys }
     {
@@ -165,6 +182,7 @@ impl<'a> LentTables<'a> {
     }
 
     // Whether a key entry matches the pair.
+    #[tactic(auto, using(crate::proofs::Checked::any_is))]
     pub fn any_match(&self, pair: Pair) -> bool
         ensures { result ≡ any_entry self.now pair }
     {
@@ -172,6 +190,7 @@ impl<'a> LentTables<'a> {
     }
 
     // The MD5 entry that matches the pair.
+    #[tactic(auto, unfolding(crate::specs::Tables::prepared_tables))]
     pub fn find_md5(&self, pair: Pair) -> Option<Hit>
         ensures { found_of result ≡ md5_entry self.now pair }
     {
@@ -191,7 +210,7 @@ pub fn prepare(keys: &[u8], md5: &[u8], out: &mut [u8]) -> Result<usize, Refusal
     let m = keys::table::count(md5);
     let size = 4 + 129 * (n + m);
     if out.len() < size {
-        return Err(refused(37, 0, 0));
+        return Err(Refusal::of(37));
     }
     prepared::image::put(keys, md5, n, m, out);
     Ok(size)
