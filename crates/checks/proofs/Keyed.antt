@@ -5,7 +5,7 @@ use mathlib.Core.Bool.{true}
 use mathlib.Core.List.{List}
 use native.Mathlib.Omega.{arith}
 use lib.ListN.{length}
-use Rattle.std.specs.Prelude.{Option, Some, None}
+use Rattle.std.specs.Prelude.{Option, Some, None, is_some}
 use Rattle.wire.specs.Header.{header_end_of, well_sized_of, area}
 use Rattle.wire.specs.HeaderLaws.{sized, area-length}
 use Rattle.wire.specs.Options.{options_of, ao_in, md5_in}
@@ -14,6 +14,8 @@ use Rattle.wire.specs.declared.options.Occurrence.{Occurrence}
 use Rattle.wire.specs.declared.options.Seen.{Seen}
 use Rattle.rules.specs.Segment.{ao, md5}
 use Rattle.checks.specs.Sized.{Whole, Lies}
+use Rattle.keys.specs.Table.{nobody, found_of}
+use Rattle.keys.specs.declared.table.Hit.{Hit}
 
 -- both options lie in the option area
 inside : (s : List ℕ) → ((ao s).at + (ao s).len ≤ length (area s)) × ((md5 s).at + (md5 s).len ≤ length (area s))
@@ -24,16 +26,25 @@ inside s = go (options_of (area s)) refl
     go None e = (omega arith, omega arith)
     go (Some e) q = let f = found_within (area s) e q in (f.1.inside, f.0.inside)
 
-module _ (s : List ℕ) (e : well_sized_of s ≡ true) where
-  -- the header lies in the segment, and an option in the header; that it has at most 60 bytes is what a byte's range says
-  pub whole : header_end_of s ≤ 60 → Whole s
-  whole h = let z = sized s e in record { low = omega (arith, z.offset); high = h; inside = z.inside; most = z.most }
+-- The header lies in the segment, and an option in the header; that it has at most 60 bytes is what a byte's range says.
+module _ (s : List ℕ) (e : well_sized_of s ≡ true) (h : header_end_of s ≤ 60) where
+  pub whole : Whole s
+  whole = let z = sized s e in record { low = omega (arith, z.offset); high = h; inside = z.inside; most = z.most }
 
   lies_in : (o : Occurrence) → o.at + o.len ≤ length (area s) → Lies s o
-  lies_in o h = let z = sized s e in omega (arith, h, area-length s z.inside, z.offset)
+  lies_in o k = let z = sized s e in record { header = omega (arith, k, area-length s z.inside, z.offset); whole = whole }
 
-  pub lies_ao : Lies s (ao s)
-  lies_ao = lies_in (ao s) (inside s).0
+  pub lies_ao : {o : Occurrence} → o ≡ ao s → Lies s o
+  lies_ao is = subst (λ (x : Occurrence). Lies s x) (sym is) (lies_in (ao s) (inside s).0)
 
-  pub lies_md5 : Lies s (md5 s)
-  lies_md5 = lies_in (md5 s) (inside s).1
+  pub lies_md5 : {o : Occurrence} → o ≡ md5 s → Lies s o
+  lies_md5 is = subst (λ (x : Occurrence). Lies s x) (sym is) (lies_in (md5 s) (inside s).1)
+
+-- what a search found is there
+nobody_there : nobody.there ≡ is_some (None {T = Hit})
+unfolding nobody
+nobody_there = refl
+
+pub there_is : (h : Option Hit) → (found_of h).there ≡ is_some h
+there_is None = nobody_there
+there_is (Some h) = refl

@@ -38,14 +38,14 @@ settled (Err e) d = e
 pub stop : (a : List (Test Outcome)) (o : Outcome) (w : ℕ → Expected) {e : Outcome} → each_gives is_final a ≡ true → checked a ≡ Err e → Begins (first a o) w (Err e)
 stop a o w f q = (checked-given a o q, checked-gives is_final a f q)
 
-pub pass : (a : List (Test Outcome)) (o : Outcome) (w : ℕ → Expected) {r : Result Begun Outcome} → checked a ≡ Ok tt → Begins o w r → Begins (first a o) w r
-pass a o w {r} q b = subst (λ (x : Outcome). Begins x w r) (sym (checked-passed a o q)) b
+pub pass : (a : List (Test Outcome)) (o : Outcome) (w : ℕ → Expected) (r : Result Begun Outcome) → checked a ≡ Ok tt → Begins o w r → Begins (first a o) w r
+pass a o w r q b = subst (λ (x : Outcome). Begins x w r) (sym (checked-passed a o q)) b
 
 -- the groups one by one
-pub by_groups : (g : Groups) (o : Outcome) (w : ℕ → Expected) {r : Result Begun Outcome}
+pub by_groups : (g : Groups) (o : Outcome) (w : ℕ → Expected) (r : Result Begun Outcome)
     → Begins (first g.input (first g.size (first g.sum (first g.form (first g.arrival (first g.key o)))))) w r
     → Begins (first (until_mac g) o) w r
-by_groups g o w {r} b = subst (λ (x : Outcome). Begins x w r) (sym seams) b
+by_groups g o w r b = subst (λ (x : Outcome). Begins x w r) (sym seams) b
   where
     seams : first (until_mac g) o ≡ first g.input (first g.size (first g.sum (first g.form (first g.arrival (first g.key o)))))
     seams =

@@ -35,10 +35,10 @@ refusal-final (Ok n) = refl
 refusal-final (Err r) = refl
 
 -- an answer behind tests: where it is an error, it is theirs
-pub and-err : {A : Type 0} (r : Result Unit Outcome) {x : A} {e : Outcome} → result_and r (Ok x) ≡ Err e → r ≡ Err e
-and-err (Ok u) {x} {e} q = let z : Ok x ≡ Err e = q in cc
-and-err (Err d) q = let z : d ≡ _ = cc in ap Err z
+pub and-err : {A : Type 0} (r : Result Unit Outcome) (x : A) {e : Outcome} → result_and r (Ok x) ≡ Err e → r ≡ Err e
+and-err (Ok u) x {e} q = let z : Ok x ≡ Err e = q in cc
+and-err (Err d) x {e} q = let z : d ≡ e = cc in ap Err z
 
-pub and-ok : {A : Type 0} (r : Result Unit Outcome) {x y : A} → result_and r (Ok x) ≡ Ok y → (r ≡ Ok tt) × (x ≡ y)
-and-ok (Ok u) q = (refl, cc)
-and-ok (Err d) {x} {y} q = let z : Err d ≡ Ok y = q in cc
+pub and-ok : {A : Type 0} (r : Result Unit Outcome) (x : A) {y : A} → result_and r (Ok x) ≡ Ok y → (r ≡ Ok tt) × (x ≡ y)
+and-ok (Ok u) x q = (refl, cc)
+and-ok (Err d) x {y} q = let z : Err d ≡ Ok y = q in (cc, cc)

@@ -35,9 +35,9 @@ module _ (t : Tables) (s : List ℕ) (room : ℕ) (q : State) where
     behind = checked-passed (input_tests t s q.conn) (first (lines (outgoing t q)) good) none
 
     pub at-signing : {e : Outcome} → signed room (outgoing t q) q (header_of_lem (length s) s) ≡ Err e → check_sign t s room q ≡ e
-    at-signing n = behind ∙ checked-given (lines (outgoing t q)) good (and-err (checked (lines (outgoing t q))) n)
+    at-signing n = behind ∙ checked-given (lines (outgoing t q)) good (and-err (checked (lines (outgoing t q))) _ n)
 
     pub may-sign : {g : Granted} → signed room (outgoing t q) q (header_of_lem (length s) s) ≡ Ok g → check_sign t s room q ≡ Good g.position q.ask_id
     may-sign n =
-        let k = and-ok (checked (lines (outgoing t q))) n in
+        let k = and-ok (checked (lines (outgoing t q))) _ n in
         behind ∙ checked-passed (lines (outgoing t q)) good k.0 ∙ ap (λ (g : Granted). Good g.position q.ask_id) k.1

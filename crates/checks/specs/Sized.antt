@@ -11,6 +11,7 @@ pub record Whole (s : List ℕ) : Type 0 where
   pub inside : header_end_of s ≤ length s
   pub most : length s ≤ 65535
 
--- the option lies in the header
-abbrev pub Lies : List ℕ → Occurrence → Type 0
-Lies s o = 20 + o.at + o.len ≤ header_end_of s
+-- and the option lies in the header
+pub record Lies (s : List ℕ) (o : Occurrence) : Type 0 where
+  pub header : 20 + o.at + o.len ≤ header_end_of s
+  pub whole : Whole s

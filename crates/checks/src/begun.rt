@@ -58,8 +58,10 @@ pub(crate) fn by_key(
     if option.count == 0 {
         return Err(missing);
     }
-    let entry = found.ok_or(unknown)?.entry;
-    let secret = entry.secret;
+    let Some(hit) = found else {
+        return Err(unknown);
+    };
+    let secret = hit.entry.secret;
     refuse_where(option.len != 4 + secret.mac_bytes as usize, 27)?;
     let position = place.ok_or(refuse(28))?;
     let mac = traffic::tag::begin(
@@ -74,7 +76,7 @@ pub(crate) fn by_key(
     Ok(Begun {
         position,
         rnext: segment.rnext_key_id(),
-        way: Way::Ao(entry.ids),
+        way: Way::Ao(hit.entry.ids),
         mac,
         carried: octets::padded(segment.mac()),
         mac_bytes: secret.mac_bytes,
@@ -93,7 +95,10 @@ pub(crate) fn by_md5(
     refuse_where(0 < segment.ao().count, 46)?;
     let option = segment.md5();
     refuse_where(option.count == 0, 47)?;
-    let secret = found.ok_or(refuse(26))?.entry.secret;
+    let Some(hit) = found else {
+        return Err(refuse(26));
+    };
+    let secret = hit.entry.secret;
     refuse_where(option.len != 18, 27)?;
     Ok(Begun {
         position: segment.header().sequence as u64,

@@ -22,10 +22,12 @@ use traffic::flow::Flow;
 fn arriving_flow(pair: Pair, source_isn: u32, destination_isn: u32) -> Flow
     ensures { flow_of result ≡ arriving_on pair source_isn destination_isn }
 {
+    let source = pair.remote;
+    let destination = pair.local;
     Flow {
         family: pair.family,
-        source: pair.remote,
-        destination: pair.local,
+        source,
+        destination,
         source_port: pair.remote_port,
         destination_port: pair.local_port,
         source_isn,

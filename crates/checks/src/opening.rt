@@ -6,7 +6,7 @@ ghost use Rattle.octets.specs.Tests.{test, checked};
 ghost use Rattle.keys.specs.Table.{found_of};
 ghost use Rattle.rules.specs.Calls.{refuse as refuse_of, table_tests, ask_tests};
 
-use crate::faults::{family_faults, refuse, table_faults};
+use crate::faults::{family_faults, refuse, refuse_where, table_faults};
 use keys::entry::Entry;
 use keys::table::Hit;
 use rules::{Connection, Outcome};
@@ -21,19 +21,21 @@ pub fn key_faults(tables: &LentTables<'_>, found: Option<Hit>) -> Result<Entry, 
         (Ok (found_of found).entry) }
 {
     table_faults(tables)?;
-    let hit = found.ok_or(refuse(35))?;
-    Ok(hit.entry)
+    match found {
+        Some(hit) => Ok(hit.entry),
+        None => Err(refuse(35)),
+    }
 }
 
 // Which number: 18, 10 to 17 and 45, then 35, "no entry matching the pair has .. the RecvID to ask"; Ticket 9: by MD5 "always 35".
+#[tactic(auto, using(crate::proofs::Keyed::there_is))]
 pub fn ask_faults(tables: &LentTables<'_>, recv_id: u8, conn: Connection) -> Result<(), Outcome>
     ensures { result ≡ checked (ask_tests tables.now recv_id conn) }
 {
     family_faults(conn)?;
-    if is_md5(conn) {
-        key_faults(tables, None)?;
-    } else {
-        key_faults(tables, tables.find_recv(conn.pair, recv_id))?;
-    }
-    Ok(())
+    table_faults(tables)?;
+    refuse_where(
+        is_md5(conn) || tables.find_recv(conn.pair, recv_id).is_none(),
+        35,
+    )
 }

@@ -113,7 +113,10 @@ pub fn sign_faults(
     let conn = state.conn;
     fresh_faults(header.options)?;
     segment_faults(conn, header)?;
-    let secret = found.ok_or(refuse(35))?.entry.secret;
+    let Some(hit) = found else {
+        return Err(refuse(35));
+    };
+    let secret = hit.entry.secret;
     let added = added_on(conn, secret.mac_bytes);
     growth_faults(added, header.end, header.len)?;
     let place = place_on(conn, state.sent, header.sequence);
