@@ -1,7 +1,7 @@
 -- One option at a place of the area: what the private functions of `options` promise each other.
 -- A reader need not believe these: the contract of `read` cites `Options` alone.
 use Rattle.std.specs.Prelude.{ℕ, ◌+◌, ◌-◌, List, cond, Option, Some, None, length, get_or, ltb, leb, eqb}
-use Rattle.core.specs.Option.{option_map}
+use Rattle.std.specs.Option.{option_map}
 use Rattle.wire.specs.declared.options.Step.{Step}
 use Rattle.wire.specs.declared.options.Step.TheVariants as S
 use Rattle.wire.specs.declared.options.Occurrence.{Occurrence}

@@ -84,6 +84,7 @@ pub fn read(area: &[u8]) -> Option<Seen>
 {
     let mut seen = Seen::default();
     let mut at = 0;
+    // Kept (no plainer): each turn goes on by the length of its option, which only that turn reads, so there is nothing to count.
     while at < area.len() {
         match step_at(area, at)? {
             Step::End => return Some(seen),
