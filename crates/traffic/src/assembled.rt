@@ -1,7 +1,7 @@
 // Bytes put one part behind another before they go into a MAC or a sum, in an array that has room for N. What follows are leaves: each
 // asks for the room that it needs.
 ghost use Rattle.std.specs.Prelude.{◌≡◌, [], ◌++◌, ◌+◌, ◌≤◌, length};
-ghost use Rattle.rules.specs.Mac.{blank as blank_of};
+ghost use Rattle.rules.specs.Mac.{blank as blank_of, blank_if_of};
 
 use std::marker::Model;
 
@@ -32,31 +32,36 @@ impl<const N: usize> Assembled<N> {
         }
     }
 
-    pub fn push(self, part: &[u8]) -> Self
+    pub fn push(mut self, part: &[u8]) -> Self
         requires { length self + length part.now ≤ N }
         ensures { result ≡ self.entry ++ part.now }
     {
         let start = self.len;
         let end = start + part.len();
-        let mut bytes = self.bytes;
-        let all = &mut bytes[..];
-        all[start..end].copy_from_slice(part);
-        Assembled { bytes, len: end }
+        let bytes = &mut self.bytes[..];
+        bytes[start..end].copy_from_slice(part);
+        self.len = end;
+        self
     }
 
     // n bytes from i on made zero.
-    pub fn blank(self, i: usize, n: usize) -> Self
+    pub fn blank(mut self, i: usize, n: usize) -> Self
         requires { i + n ≤ length self }
         ensures value { result ≡ blank_of i n self.entry }
         ensures len { length result ≡ length self.entry }
     {
-        let mut bytes = self.bytes;
-        let all = &mut bytes[..];
-        all[i..i + n].fill(0);
-        Assembled {
-            bytes,
-            len: self.len,
-        }
+        let bytes = &mut self.bytes[..];
+        bytes[i..i + n].fill(0);
+        self
+    }
+
+    // So of a side that is hidden, and nothing of another.
+    pub fn blank_if(self, hidden: bool, i: usize, n: usize) -> Self
+        requires { i + n ≤ length self }
+        ensures value { result ≡ blank_if_of hidden i n self.entry }
+        ensures len { length result ≡ length self.entry }
+    {
+        if hidden { self.blank(i, n) } else { self }
     }
 
     pub fn as_slice(&self) -> &[u8]

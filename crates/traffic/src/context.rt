@@ -40,6 +40,7 @@ pub fn unused() -> MacContext {
 
 impl MacContext {
     // Of 19 too AES-CMAC is begun, as of every other number.
+    // Kept (may not change): `mac_start` and `applied` give each number a meaning; from here on it is a variant.
     #[tactic(auto, unfolding(crate::specs::MacContext::mac_start))]
     pub fn new(algorithm: u8, key: [u8; DIGEST_ROOM]) -> Self
         ensures { mac_view result ≡ mac_start algorithm key }
@@ -49,8 +50,8 @@ impl MacContext {
                 MacContext::Hmac(hash, HmacContext::new(hash, &key[..hash.digest_bytes()]))
             }
             None => {
-                let cmac_key = octets::padded(&key[..Aes128Cmac96::TRAFFIC_KEY_BYTES]);
-                MacContext::Cmac(CmacContext::new(cmac_key))
+                let key = <[u8; 16]>::try_from(&key[..Aes128Cmac96::TRAFFIC_KEY_BYTES]).unwrap();
+                MacContext::Cmac(CmacContext::new(key))
             }
         }
     }

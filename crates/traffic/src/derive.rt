@@ -2,7 +2,7 @@
 // Every secret and every flow has one.
 ghost use Rattle.std.specs.Prelude.{◌≡◌, ◌≤◌, length};
 ghost use Rattle.keys.specs.Entry.{key_of};
-ghost use Rattle.rules.specs.Mac.{context as context_of, derivation_input_of, aes_key_of, derivation_key, applied, traffic_key_of};
+ghost use Rattle.rules.specs.Mac.{context as context_of, derivation_input_of, aes_key_of, traffic_key_of};
 ghost use Rattle.traffic.specs.Padded.{padded, digest_room};
 ghost use Rattle.traffic.specs.Flow.{flow_of};
 
@@ -52,17 +52,6 @@ fn aes_key(key: &[u8]) -> [u8; 16]
     }
 }
 
-// The algorithm's MAC under the master key.
-#[tactic(auto, unfolding(rules::specs::Mac::applied, mac::specs::Hmac::filled))]
-fn derived(algorithm: u8, key: &[u8], input: &[u8]) -> [u8; DIGEST_ROOM]
-    ensures { result ≡ padded digest_room (applied algorithm (derivation_key algorithm key.now) input.now) }
-{
-    match hmac_hash(algorithm) {
-        Some(hash) => mac::hmac::hmac(hash, key, input),
-        None => octets::padded(&mac::cmac::cmac(aes_key(key), input)),
-    }
-}
-
 // The master key: as many bytes as its length says, but never more than there are.
 pub(crate) fn master_key(secret: &Secret) -> &[u8]
     ensures { result.now ≡ key_of secret.now }
@@ -70,11 +59,15 @@ pub(crate) fn master_key(secret: &Secret) -> &[u8]
     &secret.key[..(secret.key_len as usize).min(80)]
 }
 
-// The traffic key; zeros stand behind one that is shorter than its room.
-#[tactic(auto, unfolding(rules::specs::Mac::traffic_key_of))]
+// The traffic key, the algorithm's MAC under the master key; zeros stand behind one that is shorter than its room.
+#[tactic(auto, unfolding(rules::specs::Mac::traffic_key_of, rules::specs::Mac::applied, mac::specs::Hmac::filled))]
 pub fn traffic_key(secret: Secret, flow: Flow) -> [u8; DIGEST_ROOM]
     ensures { result ≡ padded digest_room (traffic_key_of secret (flow_of flow)) }
 {
     let input = derivation_input(output_bits(secret.algorithm), &flow);
-    derived(secret.algorithm, master_key(&secret), input.as_slice())
+    let key = master_key(&secret);
+    match hmac_hash(secret.algorithm) {
+        Some(hash) => mac::hmac::hmac(hash, key, input.as_slice()),
+        None => octets::padded(&mac::cmac::cmac(aes_key(key), input.as_slice())),
+    }
 }

@@ -10,6 +10,7 @@ use keys::entry::{Secret, width_of};
 use rules::Hidden;
 
 // IPv4 uses the first four bytes of an address field; what stands behind them means nothing.
+// Kept (may not change): `flow_of` gives each number a meaning as the family, all but 4 that of IPv6, and a pair's number is handed on.
 #[derive(Clone, Copy)]
 pub struct Flow {
     pub family: u8,
@@ -87,18 +88,17 @@ impl Flow {
     }
 
     // The flow as the traffic key's context and the MAC's pseudo-header have it: the ISNs stay.
-    pub(crate) fn blanked(self, hidden: Hidden) -> Flow
+    pub(crate) fn blanked(mut self, hidden: Hidden) -> Self
         ensures { flow_of result ≡ blanked_of hidden (flow_of self) }
     {
-        let mut seen = self;
         if hidden.source {
-            seen.source = [0; 16];
-            seen.source_port = 0;
+            self.source = [0; 16];
+            self.source_port = 0;
         }
         if hidden.destination {
-            seen.destination = [0; 16];
-            seen.destination_port = 0;
+            self.destination = [0; 16];
+            self.destination_port = 0;
         }
-        seen
+        self
     }
 }

@@ -2,7 +2,7 @@
 // Any length is taken as the segment's.
 ghost use Rattle.std.specs.Prelude.{◌≡◌, ◌+◌, ◌≤◌, length};
 ghost use Rattle.keys.specs.Entry.{all_options};
-ghost use Rattle.rules.specs.Mac.{blank_if_of, ports_blanked_of, covered_header as covered_header_of, front as front_of_lem};
+ghost use Rattle.rules.specs.Mac.{ports_blanked_of, covered_header as covered_header_of, front as front_of_lem};
 ghost use Rattle.traffic.specs.Flow.{flow_of};
 
 use crate::assembled::Assembled;
@@ -24,27 +24,8 @@ pub struct Covered<'a> {
     ghost placed: { (20 ≤ at) × (at + 4 + secret.mac_bytes ≤ length header.now) × (length header.now ≤ 60) },
 }
 
-// The port of a hidden side.
-fn blank_if(hidden: bool, h: Assembled<60>, i: usize) -> Assembled<60>
-    requires { i + 2 ≤ length h }
-    ensures value { result ≡ blank_if_of hidden i 2 h }
-    ensures len { length result ≡ length h }
-{
-    if hidden { h.blank(i, 2) } else { h }
-}
-
-// A header with the ports of hidden sides zero.
-fn ports_blanked(hidden: Hidden, header: &[u8]) -> Assembled<60>
-    requires { (4 ≤ length header.now) × (length header.now ≤ 60) }
-    ensures value { result ≡ ports_blanked_of hidden header.now }
-    ensures len { length result ≡ length header.now }
-{
-    let h = Assembled::new().push(header);
-    blank_if(hidden.destination, blank_if(hidden.source, h, 0), 2)
-}
-
 impl Covered<'_> {
-    // "the TCP header with checksum and MAC bytes zero"; "With flag 0 only the header's first 20 bytes, data offset as sent, and TCP-AO
+    // "the TCP header with checksum and MAC bytes zero", and the ports of hidden sides; "With flag 0 only the header's first 20 bytes, data offset as sent, and TCP-AO
     // remain."
     #[tactic(auto, unfolding(rules::specs::Mac::covered_header))]
     fn covered_header(&self) -> Assembled<60>
@@ -53,7 +34,10 @@ impl Covered<'_> {
             (ports_blanked_of self.now.hidden self.now.header.now) }
     {
         let mac_bytes = self.secret.mac_bytes as usize;
-        let zeroed = ports_blanked(self.hidden, self.header)
+        let zeroed = Assembled::<60>::new()
+            .push(self.header)
+            .blank_if(self.hidden.source, 0, 2)
+            .blank_if(self.hidden.destination, 2, 2)
             .blank(16, 2)
             .blank(self.at + 4, mac_bytes);
         if self.secret.flags % 2 == 1 {

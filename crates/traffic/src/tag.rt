@@ -13,6 +13,7 @@ use crate::front::Covered;
 use keys::entry::Secret;
 use rules::Hidden;
 
+// Kept (no plainer): its two callers have the seven as values of their own; from here on they travel as one `Covered`.
 pub fn begin(
     secret: Secret,
     hidden: Hidden,
