@@ -1,7 +1,7 @@
 -- Where a segment's options lie. Assumes nothing.
 use Prim.Native.Nat.{ℕ, ◌+◌, ◌≤◌}
 use mathlib.Core.Path.{◌≡◌, refl, sym, subst}
-use mathlib.Core.Bool.{true}
+use mathlib.Core.Bool.{true, false}
 use mathlib.Core.List.{List}
 use native.Mathlib.Omega.{arith}
 use lib.ListN.{length}
@@ -41,7 +41,7 @@ module _ (s : List ℕ) (e : well_sized_of s ≡ true) (h : header_end_of s ≤ 
   lies_md5 is = subst (λ (x : Occurrence). Lies s x) (sym is) (lies_in (md5 s) (inside s).1)
 
 -- what a search found is there
-nobody_there : nobody.there ≡ is_some (None {T = Hit})
+nobody_there : nobody.there ≡ false
 unfolding nobody
 nobody_there = refl
 

@@ -65,7 +65,8 @@ numbers_of (open_actively_md5 b local remote local_port remote_port isn) = open_
 -- the tables' counts and indices stay at or below the limit, the tables are two, and their numbers are these, 44 "without an index"
 abbrev pub Bounded : ℕ → Admitted → Type 0
 Bounded limit (Ok n) = n ≤ limit
-Bounded limit (Err r) = (among r.number table_numbers ≡ true) × (r.index.table ≤ 1) × (r.index.entry ≤ limit) × (r.number ≡ 44 → r.index ≡ no_index)
+Bounded limit (Err r) =
+    (among r.number table_numbers ≡ true) × (r.index.table ≤ 1) × (r.index.entry ≤ limit) × (r.number ≡ 44 → r.index ≡ no_index)
 
 abbrev pub is_pass : Verdict → Bool
 is_pass (Accept e) = false

@@ -1,6 +1,7 @@
 -- Document 02, Ticket 9, said of the definitions once more and apart from them, as Sentences.antt does for TCP-AO: the numbers of the MD5
 -- way row by row, the MD5 table's bytes, what RFC 2385's digest is of, and what is signed, as numerals. Md5SentenceLaws proves each.
-use Rattle.std.specs.Prelude.{ℕ, ◌-◌, ◌≡◌, Bool, true, false, not, ◌&&◌, List, [], ◌∷◌, ◌++◌, map, length, take, drop, replicate, eqb, ltb, Some}
+use Rattle.std.specs.Prelude.{ℕ, ◌-◌, ◌≡◌, Bool, true, false, not, ◌&&◌, List, [], ◌∷◌, ◌++◌, map, length, take, drop, replicate, eqb, ltb}
+use Rattle.std.specs.Prelude.{Some}
 use Rattle.octets.specs.Tests.{Test}
 use Rattle.mac.specs.Md5.{md5 as hash}
 use Rattle.wire.specs.Bytes.{same_bytes}

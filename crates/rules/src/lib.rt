@@ -1,7 +1,7 @@
 // The rules of a connection, by TCP-AO or by MD5: the types that the calls take and give. What the calls do with them is defined in specs/;
 // the code is in `states`, `checks` and `tcpao`. Document 01, "Positions", "A connection's life", "Numbers given back"; document 02,
 // Ticket 9.
-// Every value of these types is a value that a call may get: no field is an enum, and nothing is assumed of it.
+// Nothing is assumed of a value of these types: each is a value that a call may get.
 #![tactic(auto)]
 
 ghost use Rattle.std.specs.Prelude.{◌≡◌};
@@ -17,6 +17,7 @@ pub const NO_INDEX: Index = Index { table: 0, entry: 0 };
 
 // What the tests of an arriving or outgoing segment come to: its position and RNextKeyID; pass; or document 01's or 02's number, with the
 // entry's table and index beside 10 to 17 and 45, and zeros beside every other number.
+// Kept (may not change): a refusal is a number in `RefusedAmong`, `RefusedBounds` (specs/GivenNumbers) and the rows of specs/Sentences.
 #[derive(Clone, Copy, PartialEq, Eq, Debug)]
 pub enum Outcome {
     Good(u64, u8),
@@ -75,6 +76,7 @@ impl From<Outcome> for Verdict {
 
 // What is fixed while a connection stays open: the way it was opened, the pair as this end holds it, and both ISNs. Stage 1 is open, any
 // other opening; way 1 is TCP MD5 (RFC 2385), any other TCP-AO.
+// Kept (may not change): `states::state::decode` takes any byte as stage and way, and its contract has `encode` give it back.
 #[derive(Clone, Copy, PartialEq, Eq, Debug)]
 pub struct Connection {
     pub stage: u8,
