@@ -1,4 +1,3 @@
 -- Laws that the functions' proofs share.
-pub mod Fields
 pub mod Parts
 pub mod Places

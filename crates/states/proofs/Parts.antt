@@ -1,14 +1,13 @@
 -- What the loops over numbers of eight bytes need, and the parts of a state put together.
 use Rattle.std.proofs.Common.{◌≡◌, ℕ, zero, suc, ◌+◌, ◌-◌, ◌*◌, ◌<◌, ◌≤◌, List, [], ◌∷◌, ◌++◌, length, get_or, take, drop, set, replicate, sym, refl, ap, ◌∙◌, append_assoc, append-nil, add-one, arith, length-append, length-drop, length-take, take_all, drop-drop, take-suc-set, take_at, take-add, drop_at}
 use lib.Seq.{paste, take-paste, drop-paste, take-length, set_at}
-use Rattle.octets.specs.Octets.{get16, bytes16, bytes32, bytes64}
+use Rattle.octets.specs.Octets.{get16, bytes64}
 use Rattle.keys.specs.Entry.{padded}
 use Rattle.octets.specs.Each.{Octets}
 use Rattle.rules.specs.Connection.{slots}
 use Rattle.rules.specs.declared.Connection.{Connection}
-use Rattle.rules.specs.declared.State.{State}
 use Rattle.states.specs.Layout.{family_at, send_id_at, ask_id_at, local_port_at, remote_port_at, local_at, remote_at_lem, sent_at, seen_at, accepted_at, drops_at, way_at, state_bytes, get64, words_at_lem, word_bytes, decode_pair, decode_connection, decode_of, encode_of}
-use Rattle.states.specs.LayoutLaws.{head_of, encode-decode}
+use Rattle.states.specs.LayoutLaws.{encode-decode}
 use Rattle.states.specs.WordLaws.{length-words}
 
 -- Reading.
@@ -61,13 +60,6 @@ one_written o w x y v at i h k p q r =
     ∙ ap (paste o at (word_bytes w)) e
 
 -- The parts of a state.
-
-pub head-is : (s : State) (a b c d : List ℕ) → a ≡ bytes16 s.conn.pair.local_port → b ≡ bytes16 s.conn.pair.remote_port → c ≡ bytes32 s.conn.isn → d ≡ bytes32 s.conn.peer_isn
-    → s.conn.pair.family ∷ s.conn.stage ∷ s.send_id ∷ s.ask_id ∷ get_or a 0 0 ∷ get_or a 1 0 ∷ get_or b 0 0 ∷ get_or b 1 0
-    ∷ get_or c 0 0 ∷ get_or c 1 0 ∷ get_or c 2 0 ∷ get_or c 3 0 ∷ get_or d 0 0 ∷ get_or d 1 0 ∷ get_or d 2 0 ∷ get_or d 3 0 ∷ [] ≡ head_of s
-head-is s a b c d p q r t i =
-    s.conn.pair.family ∷ s.conn.stage ∷ s.send_id ∷ s.ask_id ∷ get_or (p i) 0 0 ∷ get_or (p i) 1 0 ∷ get_or (q i) 0 0 ∷ get_or (q i) 1 0
-    ∷ get_or (r i) 0 0 ∷ get_or (r i) 1 0 ∷ get_or (r i) 2 0 ∷ get_or (r i) 3 0 ∷ get_or (t i) 0 0 ∷ get_or (t i) 1 0 ∷ get_or (t i) 2 0 ∷ get_or (t i) 3 0 ∷ []
 
 -- a part of n bytes put right behind what stands there already
 put : (p v z o q : List ℕ) (at n m : ℕ) → o ≡ p ++ z → length p ≡ at → length v ≡ n → m ≡ length v → q ≡ paste o at v m → (q ≡ (p ++ v) ++ drop n z) × (length (p ++ v) ≡ at + n)

@@ -1,7 +1,8 @@
 -- A connection's state as bytes: docs/BOUNDARY.md, "The state". Integers are big-endian. Every string of so many bytes is a state.
 -- Fields that later requests add come behind these: what stands here keeps its place.
-use Rattle.std.specs.Prelude.{ℕ, zero, suc, ◌+◌, ◌*◌, ◌^◌, Bool, List, [], ◌∷◌, ◌++◌, length, take, drop, ◌==◌, slice_index}
+use Rattle.std.specs.Prelude.{ℕ, zero, suc, ◌+◌, Bool, List, [], ◌∷◌, ◌++◌, length, take, drop, ◌==◌, slice_index}
 use Rattle.octets.specs.Octets.{get16, get32, bytes16, bytes32, bytes64}
+pub use Rattle.octets.specs.Octets.{get64}
 use Rattle.keys.specs.declared.entry.Pair.{Pair}
 use Rattle.rules.specs.declared.Connection.{Connection}
 use Rattle.rules.specs.declared.State.{State}
@@ -62,10 +63,6 @@ abbrev pub is_state_of : List ℕ → Bool
 is_state_of b = length b == state_bytes
 
 -- Numbers of eight bytes.
-
--- the number in the eight bytes of b from `at` on; a byte that is not there counts as 0
-abbrev pub get64 : List ℕ → ℕ → ℕ
-get64 b at = get32 b at * 2 ^ 32 + get32 b (at + 4)
 
 -- n numbers, one behind the other from `at` on, and numbers as bytes
 unfoldable pub words_at_lem : ℕ → List ℕ → ℕ → List ℕ

@@ -1,5 +1,5 @@
 // A state in the bytes that are lent for it: docs/BOUNDARY.md, "The state". Writing assumes of the bytes that they have a state's length.
-ghost use Rattle.std.specs.Prelude.{◌≡◌, length, if◌then◌else◌};
+ghost use Rattle.std.specs.Prelude.{◌≡◌, length};
 ghost use Rattle.states.specs.Layout.{is_state_of, state_bytes, encode_of};
 
 use crate::state::{STATE_BYTES, encode};
@@ -17,17 +17,5 @@ pub fn put(bytes: &mut [u8], q: State)
     requires { length bytes.old ≡ state_bytes }
     ensures { bytes.new ≡ encode_of q }
 {
-    let encoded = encode(q);
-    octets::copy_at(bytes, 0, &encoded);
-}
-
-// The same where an opening is not refused; else the bytes stay.
-pub fn put_where(bytes: &mut [u8], written: bool, q: State)
-    requires { length bytes.old ≡ state_bytes }
-    ensures { bytes.new ≡ (if written then encode_of q else bytes.old) }
-{
-    if !written {
-        return;
-    }
-    put(bytes, q);
+    bytes.copy_from_slice(&encode(q));
 }

@@ -14,23 +14,15 @@ pub fn locate(reference: u64, s: u32) -> Option<u64>
     ensures place { result ≡ position reference s }
     ensures number { (n : ℕ) → place_answer n result ≡ position_number n reference s }
 {
-    let low = (reference % 4294967296) as u32;
-    let difference = std::num::wrapping_sub_u32(s, low);
-    let wide = difference as u64;
-    if difference < 2147483648 {
-        if wide <= 18446744073709551615 - reference {
-            return Some(reference + wide);
-        }
+    let low = (reference % (1 << 32)) as u32;
+    let difference = s.wrapping_sub(low) as u64;
+    if difference < 1 << 31 {
+        return reference.checked_add(difference);
+    }
+    if difference == 1 << 31 {
         return None;
     }
-    if 2147483648 < difference {
-        let back = 4294967296 - wide;
-        if back <= reference {
-            return Some(reference - back);
-        }
-        return None;
-    }
-    None
+    reference.checked_sub((1 << 32) - difference)
 }
 
 // "A bare SYN and the SYN+ACK that opens have .. their own number as position; once open, every segment goes by its position." Document 02,
@@ -38,18 +30,15 @@ pub fn locate(reference: u64, s: u32) -> Option<u64>
 pub fn place_on(conn: Connection, reference: u64, number: u32) -> Option<u64>
     ensures { result ≡ place_on_lem conn reference number }
 {
-    if !is_open(conn) {
-        return Some(number as u64);
+    if is_open(conn) && !is_md5(conn) {
+        return locate(reference, number);
     }
-    if is_md5(conn) {
-        return Some(number as u64);
-    }
-    locate(reference, number)
+    Some(number as u64)
 }
 
 // "The extension is X divided by 2^32, rounded down."
 pub fn extension_of(x: u64) -> u32
     ensures { result ≡ extension_of_lem x }
 {
-    (x / 4294967296) as u32
+    (x >> 32) as u32
 }

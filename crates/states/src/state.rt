@@ -4,11 +4,11 @@ ghost use Rattle.std.specs.Prelude.{◌≡◌, ◌+◌, ◌*◌, ◌≤◌, [], 
 ghost use Rattle.std.proofs.Math.Seq.{paste};
 ghost use Rattle.rules.specs.Connection.{slots};
 ghost use Rattle.states.specs.LayoutLaws.{head_of};
-ghost use Rattle.states.specs.Layout.{drops_at, state_bytes, get64, words_at_lem, word_bytes, decode_pair, decode_connection, decode_of};
+ghost use Rattle.states.specs.Layout.{drops_at, state_bytes, words_at_lem, word_bytes, decode_pair, decode_connection, decode_of};
 ghost use Rattle.states.specs.Layout.{encode_of};
 
-use crate::writers::field_of;
 use keys::entry::Pair;
+use octets::{load64, padded};
 use rules::{Connection, SLOTS, State};
 
 // Where each field stands.
@@ -50,11 +50,10 @@ fn words_at(out: &mut [u8], at: usize, words: &[u64])
     requires { at + 8 * length words.now ≤ length out.old }
     ensures { out.new ≡ paste out.old at (word_bytes words.now) (8 * length words.now) }
 {
-    let mut i: usize = 0;
-    while i < words.len() {
-        let bytes = octets::bytes64(words[i]);
-        octets::copy_at(out, at + 8 * i, &bytes);
-        i += 1;
+    let mut place = at;
+    for word in words {
+        octets::copy_at(out, place, &octets::bytes64(*word));
+        place += 8;
     }
 }
 
@@ -113,47 +112,39 @@ pub fn encode(s: State) -> [u8; STATE_BYTES]
     ensures bytes { result ≡ encode_of s }
     ensures back { decode_of result ≡ s }
 {
-    let conn = s.conn;
-    let pair = conn.pair;
-    let local = pair.local;
-    let remote = pair.remote;
-    let numbers = [s.sent, s.seen, s.accepted];
-    let drops = s.drops;
-    join(head(s), local, remote, numbers, drops, conn.way)
-}
-
-// The number in the eight bytes from `at` on.
-fn load64(bytes: &[u8], at: usize) -> u64
-    requires { at + 8 ≤ length bytes.now }
-    ensures { result ≡ get64 bytes.now at }
-{
-    octets::load32(bytes, at) as u64 * 4294967296 + octets::load32(bytes, at + 4) as u64
+    let pair = s.conn.pair;
+    join(
+        head(s),
+        pair.local,
+        pair.remote,
+        [s.sent, s.seen, s.accepted],
+        s.drops,
+        s.conn.way,
+    )
 }
 
 fn pair_from(bytes: &[u8]) -> Pair
     requires { length bytes.now ≡ state_bytes }
     ensures { result ≡ decode_pair bytes.now }
 {
-    let local = field_of(&bytes[LOCAL..LOCAL + 16]);
-    let remote = field_of(&bytes[REMOTE..REMOTE + 16]);
     Pair {
         family: bytes[FAMILY],
         local_port: octets::load16(bytes, LOCAL_PORT),
         remote_port: octets::load16(bytes, REMOTE_PORT),
-        local,
-        remote,
+        local: padded(&bytes[LOCAL..REMOTE]),
+        remote: padded(&bytes[REMOTE..SENT]),
     }
 }
 
+#[tactic(auto, unfolding(crate::specs::Layout::decode_connection))]
 fn conn_from(bytes: &[u8]) -> Connection
     requires { length bytes.now ≡ state_bytes }
     ensures { result ≡ decode_connection bytes.now }
 {
-    let pair = pair_from(bytes);
     Connection {
         stage: bytes[STAGE],
         way: bytes[WAY],
-        pair,
+        pair: pair_from(bytes),
         isn: octets::load32(bytes, ISN),
         peer_isn: octets::load32(bytes, PEER_ISN),
     }
@@ -163,11 +154,11 @@ fn drops_from(bytes: &[u8]) -> [u64; SLOTS]
     requires { length bytes.now ≡ state_bytes }
     ensures { result ≡ words_at_lem slots bytes.now drops_at }
 {
-    let mut drops = [0u64; SLOTS];
-    let mut i: usize = 0;
-    while i < SLOTS {
-        drops[i] = load64(bytes, DROPS + 8 * i);
-        i += 1;
+    let mut drops = [0; SLOTS];
+    let mut place = DROPS;
+    for count in &mut drops {
+        *count = load64(bytes, place);
+        place += 8;
     }
     drops
 }
@@ -177,15 +168,13 @@ pub fn decode(bytes: &[u8]) -> State
     ensures state { result ≡ decode_of bytes.now }
     ensures back { encode_of result ≡ bytes.now }
 {
-    let conn = conn_from(bytes);
-    let drops = drops_from(bytes);
     State {
-        conn,
+        conn: conn_from(bytes),
         sent: load64(bytes, SENT),
         seen: load64(bytes, SEEN),
         send_id: bytes[SEND_ID],
         ask_id: bytes[ASK_ID],
         accepted: load64(bytes, ACCEPTED),
-        drops,
+        drops: drops_from(bytes),
     }
 }

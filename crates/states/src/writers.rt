@@ -3,47 +3,27 @@
 // the callers have tested 19.
 ghost use Rattle.std.specs.Prelude.{◌≡◌, ◌≤◌, length, take};
 ghost use Rattle.wire.specs.Bytes.{same_bytes};
-ghost use Rattle.keys.specs.Entry.{width, padded};
+ghost use Rattle.keys.specs.Entry.{width};
 ghost use Rattle.rules.specs.Connection.{pair_of_lem, is_open_of, is_md5_of, opened as opened_of, opening as opening_of};
 ghost use Rattle.rules.specs.Connection.{empty as empty_state};
 ghost use Rattle.rules.specs.Connection.{with_accepted_of, with_counted_of, with_drop_of, with_sent_of, with_asked_of};
 
-use crate::counts::{bump, count_drop, larger};
+use crate::counts::count_drop;
 use keys::entry::Pair;
+use octets::padded;
 use rules::{Connection, SLOTS, State};
-
-// An address in its field of sixteen bytes: IPv4 uses the first four.
-pub(crate) fn field_of(address: &[u8]) -> [u8; 16]
-    requires { length address.now ≤ 16 }
-    ensures { result ≡ padded address.now }
-{
-    let mut field = [0u8; 16];
-    octets::copy_at(&mut field, 0, address);
-    field
-}
 
 // The pair of two addresses of one size.
 pub fn pair_of(local: &[u8], remote: &[u8], local_port: u16, remote_port: u16) -> Pair
     requires { (length local.now ≤ 16) × (length remote.now ≤ 16) }
     ensures { result ≡ pair_of_lem local.now remote.now local_port remote_port }
 {
-    let l = field_of(local);
-    let r = field_of(remote);
-    if local.len() == 4 {
-        return Pair {
-            family: 4,
-            local_port,
-            remote_port,
-            local: l,
-            remote: r,
-        };
-    }
     Pair {
-        family: 6,
+        family: if local.len() == 4 { 4 } else { 6 },
         local_port,
         remote_port,
-        local: l,
-        remote: r,
+        local: padded(local),
+        remote: padded(remote),
     }
 }
 
@@ -56,6 +36,7 @@ pub fn is_address(address: &[u8], family: u8, field: [u8; 16]) -> bool
 }
 
 // Stage 1 is open, every other value opening.
+// Kept (may not change): a byte and no enum, since all its 256 values are states: the clauses `back` of state::encode and state::decode.
 pub fn is_open(conn: Connection) -> bool
     ensures { result ≡ is_open_of conn }
 {
@@ -63,6 +44,7 @@ pub fn is_open(conn: Connection) -> bool
 }
 
 // "A connection goes by the way it was opened": way 1 is MD5, every other value TCP-AO.
+// Kept (may not change): a byte and no enum, as the stage: the clauses `back` of state::encode and state::decode.
 pub fn is_md5(conn: Connection) -> bool
     ensures { result ≡ is_md5_of conn }
 {
@@ -95,9 +77,11 @@ pub fn opened(way: u8, pair: Pair, isn: u32, peer_isn: u32, send_id: u8, ask_id:
 pub fn opening(way: u8, pair: Pair, isn: u32, send_id: u8, ask_id: u8) -> State
     ensures { result ≡ opening_of way pair isn send_id ask_id }
 {
-    let mut q = opened(way, pair, isn, 0, send_id, ask_id);
-    q.conn.stage = 0;
-    q
+    let q = opened(way, pair, isn, 0, send_id, ask_id);
+    State {
+        conn: Connection { stage: 0, ..q.conn },
+        ..q
+    }
 }
 
 // "the empty state, family 0"
@@ -114,51 +98,52 @@ pub fn empty() -> State
     opening(0, pair, 0, 0, 0)
 }
 
-// An accepted segment at position x, once open: "sets its direction's reference to the larger of the old one and X".
+// An accepted segment at position x, once open: "sets its direction's reference to the larger of the old one and X". "Counts of acceptances
+// and of each drop stop at 2^64-1."
 pub fn with_accepted(x: u64, send_id: u8, q: State) -> State
     ensures { result ≡ with_accepted_of x send_id q }
 {
-    let mut next = q;
-    next.seen = larger(q.seen, x);
-    next.send_id = send_id;
-    next.accepted = bump(q.accepted);
-    next
+    State {
+        seen: q.seen.max(x),
+        send_id,
+        accepted: q.accepted.saturating_add(1),
+        ..q
+    }
 }
 
 // Document 02, Ticket 9, an accepted MD5 segment, once open: "neither it nor signing moves a reference".
 pub fn with_counted(q: State) -> State
     ensures { result ≡ with_counted_of q }
 {
-    let mut next = q;
-    next.accepted = bump(q.accepted);
-    next
+    State {
+        accepted: q.accepted.saturating_add(1),
+        ..q
+    }
 }
 
 // A drop, once open.
 pub fn with_drop(n: u8, q: State) -> State
     ensures { result ≡ with_drop_of n q }
 {
-    let drops = q.drops;
-    let counted = count_drop(n, drops);
-    let mut next = q;
-    next.drops = counted;
-    next
+    State {
+        drops: count_drop(n, q.drops),
+        ..q
+    }
 }
 
 // A signed segment at position x.
 pub fn with_sent(x: u64, q: State) -> State
     ensures { result ≡ with_sent_of x q }
 {
-    let mut next = q;
-    next.sent = larger(q.sent, x);
-    next
+    State {
+        sent: q.sent.max(x),
+        ..q
+    }
 }
 
 // "An operator call sets the RecvID asked of the peer; nothing else does."
 pub fn with_asked(id: u8, q: State) -> State
     ensures { result ≡ with_asked_of id q }
 {
-    let mut next = q;
-    next.ask_id = id;
-    next
+    State { ask_id: id, ..q }
 }

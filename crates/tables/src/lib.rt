@@ -18,6 +18,9 @@ use std::marker::Model;
 // The form of two buffers that are the tables' own bytes.
 const BYTES: u8 = 0;
 
+// One form of all the others, which are a prepared table's.
+const PREPARED: u8 = 1;
+
 // Which entry a number of the tables names: table 0 is the key table, table 1 the MD5 table; entries are counted from 0.
 #[derive(Clone, Copy, PartialEq, Eq, Debug)]
 pub struct Index {
@@ -144,6 +147,18 @@ impl<'a> LentTables<'a> {
             keys,
             md5,
         }
+    }
+
+    // What was lent, as `new` takes it. A caller of another crate sees of the tables what they mean alone; that they are those of some
+    // bytes, which bounds every index that they answer with, it has from here.
+    pub fn parts(&self) -> (u8, &'a [u8], &'a [u8])
+        ensures { self.now ≡ tables_of result.0 result.1.now result.2.now }
+    {
+        let form = match self.form {
+            Form::Bytes => BYTES,
+            Form::Prepared => PREPARED,
+        };
+        (form, self.keys, self.md5)
     }
 
     // What the tables answer, before a call's own numbers: how many key entries there are, or the refusal.
