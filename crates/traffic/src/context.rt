@@ -33,11 +33,6 @@ pub(crate) fn hmac_hash(algorithm: u8) -> Option<HashAlgorithm>
     }
 }
 
-// A context that stands where none is asked for: nothing is made of it.
-pub fn unused() -> MacContext {
-    MacContext::Cmac(CmacContext::new([0; 16]))
-}
-
 impl MacContext {
     // Of 19 too AES-CMAC is begun, as of every other number.
     // Kept (may not change): `mac_start` and `applied` give each number a meaning; from here on it is a variant.
