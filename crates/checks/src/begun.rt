@@ -41,6 +41,7 @@ pub struct Begun {
 
 // 25 and 26, or what a bare SYN gets there; 27; 28. `found` is the entry for the segment's KeyID.
 // Kept (no plainer): beside by_md5, as the two ways ask other things in another order, and begin other MACs.
+#[tactic(auto, unfolding(keys::specs::Table::nobody))]
 pub(crate) fn by_key(
     missing: Outcome,
     unknown: Outcome,
@@ -84,6 +85,7 @@ pub(crate) fn by_key(
 }
 
 // Ticket 9, the MD5 way: 46, 47, 26, 27. `found` is the MD5 entry that matches the pair.
+#[tactic(auto, unfolding(keys::specs::Table::nobody))]
 pub(crate) fn by_md5(
     found: Option<Hit>,
     flow: Flow,

@@ -1,8 +1,10 @@
 // Which number an arriving segment gets, or its position: document 01, "Numbers given back", with a state and without one. Nothing here
 // writes a state. The two checks assume nothing. What a step assumes is what the tests before it left.
-ghost use Rattle.std.specs.Prelude.{◌≡◌, true, cond, ◌||◌};
+ghost use Rattle.std.specs.Prelude.{◌≡◌, ◌≤◌, true, false, cond, ◌||◌};
+ghost use Rattle.keys.specs.Table.{found_of};
+ghost use Rattle.tables.specs.Tables.{recv_entry};
 ghost use Rattle.rules.specs.Connection.{sized, arrival_pair_of, is_open_of};
-ghost use Rattle.rules.specs.Calls.{refuse as refuse_of, check as check_of, check_syn_of};
+ghost use Rattle.rules.specs.Calls.{is_refused, refuse as refuse_of, check as check_of, check_syn_of};
 ghost use Rattle.rules.specs.declared.Outcome.TheVariants.{Passed};
 ghost use Rattle.traffic.specs.Flow.{flow_of};
 ghost use Rattle.checks.specs.Groups.{arriving_on};
@@ -12,6 +14,7 @@ use crate::begun::{Begun, by_key, by_md5, finished};
 use crate::faults::{arrival_faults, form_faults, input_faults, refuse, state_faults, sum_faults, syn_faults};
 use crate::segment::SizedSegment;
 use keys::entry::Pair;
+use keys::table::Hit;
 use rules::{Connection, LentArrival, Outcome};
 use states::position::place_on;
 use states::writers::{is_md5, is_open, pair_of};
@@ -42,6 +45,16 @@ fn peer_isn(conn: Connection, number: u32) -> u32
     if is_open(conn) { conn.peer_isn } else { number }
 }
 
+// The entry that matches the pair and has the KeyID as its RecvID. In tables that are not refused its MAC has at most 16 bytes: that they are
+// those of some bytes is what `parts` says.
+fn entry_for(tables: &LentTables<'_>, pair: Pair, id: u8) -> Option<Hit>
+    ensures entry { found_of result ≡ recv_entry tables.now pair id }
+    ensures short { is_refused tables.now.answer ≡ false → (found_of result).entry.secret.mac_bytes ≤ 16 }
+{
+    let _ = tables.parts();
+    tables.find_recv(pair, id)
+}
+
 // With a state, opening or open: every test but 29. "A connection goes by the way it was opened and never accepts the other".
 pub fn begin(
     tables: &LentTables<'_>,
@@ -64,7 +77,7 @@ pub fn begin(
     by_key(
         refuse(25),
         refuse(26),
-        tables.find_recv(conn.pair, segment.key_id()),
+        entry_for(tables, conn.pair, segment.key_id()),
         flow,
         place_on(conn, reference, header.sequence),
         &segment,
@@ -138,7 +151,7 @@ pub fn begin_syn(
     by_key(
         syn_missing(matched),
         syn_unknown(matched, strict),
-        tables.find_recv(pair, segment.key_id()),
+        entry_for(tables, pair, segment.key_id()),
         flow,
         Some(header.sequence as u64),
         &segment,

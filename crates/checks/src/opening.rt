@@ -14,6 +14,7 @@ use states::writers::is_md5;
 use tables::LentTables;
 
 // 10 to 17 and 45, then 35, where no entry answers; else the entry.
+#[tactic(auto, unfolding(keys::specs::Table::nobody))]
 pub fn key_faults(tables: &LentTables<'_>, found: Option<Hit>) -> Result<Entry, Outcome>
     ensures { result
         ≡ result_and

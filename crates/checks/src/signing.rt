@@ -102,6 +102,7 @@ fn room_faults(room: usize, added: u16, len: usize) -> Result<(), Outcome>
 }
 
 // 31, 33 to 35, 32, 36 and 37, behind the input's: `found` is the outgoing key's entry, `room` the output's length.
+#[tactic(auto, unfolding(keys::specs::Table::nobody))]
 pub fn sign_faults(
     room: usize,
     found: Option<Hit>,
