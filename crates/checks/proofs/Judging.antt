@@ -11,7 +11,7 @@ use lib.Seq.{take_at}
 use lib.Dec.{eqb}
 use borrow.Author.Tests.{eqb-true, not-false}
 use Rattle.std.specs.Prelude.{Some, Result, Ok, Err}
-use Rattle.core.specs.Result.{result_and}
+use Rattle.core.specs.Result.{result_and, IsErr, IsErrAnd}
 use Rattle.wire.specs.Header.{source_port_of, destination_port_of, sequence, header_of_lem}
 use Rattle.wire.specs.declared.header.Header.{Header}
 use Rattle.keys.specs.Entry.{width}
@@ -37,6 +37,11 @@ use Rattle.checks.specs.GroupLaws.{is_final, and-ok}
 use Rattle.checks.specs.Begin.{Expected, Begins, by_ao, by_md5_of, expected, Judges, expected_syn, JudgesSyn}
 use Rattle.checks.specs.BeginLaws.{stop, pass, by_groups}
 use Rattle.checks.specs.declared.begun.Begun.{Begun}
+
+-- what `?` hands on of an error
+pub err-is : {A : Type 0} (r : Result A Outcome) (x : Outcome) → IsErr r × IsErrAnd r (λ e. e ≡ x) → r ≡ Err x
+err-is (Ok a) x h = absurd h.1
+err-is (Err e) x h = ap Err h.1
 
 -- of tables that are not refused a found entry's MAC has at most 16 bytes, and where none is found, 0
 pub entry-short : (form : ℕ) (k m : List ℕ) (p : Pair) (id : ℕ) → is_refused (tables_of form k m).answer ≡ false

@@ -1,10 +1,12 @@
 -- Where a segment's options lie. Assumes nothing.
-use Prim.Native.Nat.{ℕ, ◌+◌, ◌≤◌}
+use Prim.Native.Nat.{ℕ, ◌+◌, ◌-◌, ◌≤◌}
 use mathlib.Core.Path.{◌≡◌, refl, sym, subst}
 use mathlib.Core.Bool.{true, false}
 use mathlib.Core.List.{List}
 use native.Mathlib.Omega.{arith}
-use lib.ListN.{length}
+use lib.ListN.{length, take, replicate}
+use lib.Seq.{take_at}
+use Rattle.octets.specs.Octets.{padded_of}
 use Rattle.std.specs.Prelude.{Option, Some, None, is_some}
 use Rattle.wire.specs.Header.{header_end_of, well_sized_of, area}
 use Rattle.wire.specs.HeaderLaws.{sized, area-length}
@@ -48,3 +50,7 @@ nobody_there = refl
 pub there_is : (h : Option Hit) → (found_of h).there ≡ is_some h
 there_is None = nobody_there
 there_is (Some h) = refl
+
+-- bytes at the front of zeros
+pub padded_front : (n : ℕ) (x : List ℕ) → length x ≡ n → take n (padded_of 16 x) ≡ x
+padded_front n x e = take_at x (replicate (16 - length x) 0) n e

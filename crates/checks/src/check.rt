@@ -11,7 +11,9 @@ ghost use Rattle.checks.specs.Groups.{arriving_on};
 ghost use Rattle.checks.specs.Begin.{Judges, JudgesSyn};
 
 use crate::begun::{Begun, by_key, by_md5, finished};
-use crate::faults::{arrival_faults, form_faults, input_faults, refuse, state_faults, sum_faults, syn_faults};
+use crate::faults::{
+    arrival_faults, form_faults, input_faults, refuse, state_faults, sum_faults, syn_faults,
+};
 use crate::segment::SizedSegment;
 use keys::entry::Pair;
 use keys::table::Hit;
@@ -110,7 +112,11 @@ fn syn_missing(matched: bool) -> Outcome
 fn syn_unknown(matched: bool, strict: bool) -> Outcome
     ensures { result ≡ cond (matched || strict) (refuse_of 26) Passed }
 {
-    if matched || strict { refuse(26) } else { Outcome::Passed }
+    if matched || strict {
+        refuse(26)
+    } else {
+        Outcome::Passed
+    }
 }
 
 // The pair of what arrives, as this end holds it.

@@ -52,7 +52,10 @@ pub fn address_faults(a: &[u8], b: &[u8]) -> Result<(), Outcome>
 }
 
 // Without a state: 19, then the table's number.
-pub(crate) fn input_faults(tables: &LentTables<'_>, arrival: &LentArrival<'_>) -> Result<(), Outcome>
+pub(crate) fn input_faults(
+    tables: &LentTables<'_>,
+    arrival: &LentArrival<'_>,
+) -> Result<(), Outcome>
     ensures { result ≡ checked (input_tests tables.now arrival.now.source arrival.now.destination) }
 {
     address_faults(arrival.source, arrival.destination)?;
@@ -91,7 +94,12 @@ pub(crate) fn form_faults(options: Option<Seen>) -> Result<(), Outcome>
 }
 
 // 23, or 33 when signing: ports that are not the state's.
-pub(crate) fn port_faults(number: u8, header: Header, source: u16, destination: u16) -> Result<(), Outcome>
+pub(crate) fn port_faults(
+    number: u8,
+    header: Header,
+    source: u16,
+    destination: u16,
+) -> Result<(), Outcome>
     ensures { result
         ≡ checked
         (tests (refuse_of number)
@@ -119,7 +127,12 @@ pub(crate) fn bare_syn(header: Header) -> bool
 }
 
 // 24, or 34 when signing: "wrong segment for the stage". Open: a bare SYN; opening: any but a segment that opens.
-pub(crate) fn stage_faults(number: u8, conn: Connection, header: Header, opens: bool) -> Result<(), Outcome>
+pub(crate) fn stage_faults(
+    number: u8,
+    conn: Connection,
+    header: Header,
+    opens: bool,
+) -> Result<(), Outcome>
     ensures { result
         ≡ checked (test (refuse_of number) (cond (is_open_of conn) (header.syn && not header.ack) (not opens)) ∷ []) }
 {
@@ -139,7 +152,11 @@ pub(crate) fn syn_faults(header: Header) -> Result<(), Outcome>
 }
 
 // 23, then 24. What opens an opening connection is a SYN with ACK.
-pub(crate) fn arrival_faults(conn: Connection, arrival: &LentArrival<'_>, header: Header) -> Result<(), Outcome>
+pub(crate) fn arrival_faults(
+    conn: Connection,
+    arrival: &LentArrival<'_>,
+    header: Header,
+) -> Result<(), Outcome>
     ensures { result ≡ checked (header_arrival_tests conn arrival.now.source arrival.now.destination header) }
 {
     pair_faults(conn.pair, arrival.source, arrival.destination, header)?;
