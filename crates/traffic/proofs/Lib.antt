@@ -1,9 +1,4 @@
 -- Laws that the functions' proofs share.
-pub mod Assembly
+pub mod Pieces
 pub mod Blanked
-pub mod Cases
-pub mod Covered
-pub mod HeaderOnly
-pub mod Sizes
 pub mod SumPieces
-pub mod Zeros

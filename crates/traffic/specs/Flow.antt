@@ -1,5 +1,6 @@
 -- What a value of the code's Flow means: a flow of the crate `rules`. Every value means one.
-use Rattle.std.specs.Prelude.{ℕ, Bool, cond, List, take, replicate}
+use Rattle.std.specs.Prelude.{ℕ, cond, List, [], ◌∷◌, ◌++◌, take, eqb}
+use Rattle.octets.specs.Octets.{bytes16, bytes32}
 use Rattle.keys.specs.Entry.{width}
 use Rattle.rules.specs.Mac as rules
 use Rattle.traffic.specs.declared.flow.Flow.{Flow}
@@ -15,6 +16,6 @@ flow_of w =
       destination_isn = w.destination_isn;
     }
 
--- an address field of a side that is hidden or not
-abbrev pub field_under_lem : Bool → List ℕ → List ℕ
-field_under_lem hidden l = cond hidden (replicate 16 0) l
+-- what `pseudo_header` of the crate `rules` has behind the addresses, by the source's length
+abbrev pub pseudo_end_of : ℕ → ℕ → List ℕ
+pseudo_end_of bytes n = cond (eqb bytes 4) ((0 ∷ 6 ∷ []) ++ bytes16 n) (bytes32 n ++ (0 ∷ 0 ∷ 0 ∷ 6 ∷ []))

@@ -1,5 +1,4 @@
 pub mod Padded
-pub mod Assembled
 pub mod Flow
 pub mod MacContext
 pub mod MacContextLaws

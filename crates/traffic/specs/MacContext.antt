@@ -1,6 +1,6 @@
 -- The MAC of an algorithm (`applied` of the crate `rules`), and RFC 2385's digest (`segment_digest`), of a message that comes in pieces,
 -- and what a value of the code's MacContext means. Every value means something. Assumes nothing.
-use Rattle.std.specs.Prelude.{ℕ, Bool, cond, ◌||◌, List, take, eqb}
+use Rattle.std.specs.Prelude.{ℕ, cond, List, take, eqb}
 use Rattle.mac.specs.Blocks as hash
 use Rattle.mac.specs.Hmac.{Keyed, hmac_start, hmac_absorb, hmac_finished}
 use Rattle.mac.specs.HashContexts.{parts_of, digest_bytes_of, hash_view, hmac_view}
@@ -8,7 +8,6 @@ use Rattle.mac.specs.declared.hash_algorithm.HashAlgorithm.{HashAlgorithm}
 use Rattle.mac.specs.declared.hash_algorithm.HashAlgorithm.TheVariants.{Sha1, Sha256, Md5}
 use Rattle.mac.specs.Cmac.{View, start, absorb, finished}
 use Rattle.mac.specs.CmacContext.{view}
-use Rattle.mac.specs.declared.hmac.HmacContext.{HmacContext}
 use Rattle.keys.specs.declared.entry.Secret.{Secret}
 use Rattle.keys.specs.Entry.{key_of}
 use Rattle.rules.specs.declared.Hidden.{Hidden}
@@ -16,6 +15,7 @@ use Rattle.rules.specs.Mac.{Flow, blanked, is_hmac_of, traffic_key_of, front}
 use Rattle.rules.specs.Digest.{digest_front}
 use Rattle.traffic.specs.Padded.{padded, digest_room}
 use Rattle.traffic.specs.declared.context.MacContext.{MacContext}
+use Rattle.traffic.specs.declared.context.MacContext.TheVariants as held
 
 -- what is held: an HMAC's view, with its hash, or AES-CMAC's; of the digest MD5's view, and the key, which comes last
 pub data MacView : Type 0 where
@@ -31,24 +31,11 @@ hash_for_lem algorithm = cond (eqb algorithm 1) Sha1 Sha256
 abbrev pub by_algorithm : ℕ → Keyed → View → MacView
 by_algorithm algorithm h c = cond (is_hmac_of algorithm) (Hmac (hash_for_lem algorithm) h) (Cmac c)
 
--- 19, the kind of RFC 2385's option, stands for the digest in a context: it is no algorithm of the key table
-abbrev pub is_digest : ℕ → Bool
-is_digest algorithm = eqb algorithm 19
-
--- a context that holds a hash, and which
-abbrev pub is_hashed_of : ℕ → Bool
-is_hashed_of algorithm = is_digest algorithm || is_hmac_of algorithm
-
-abbrev pub held_hash_of : ℕ → HashAlgorithm
-held_hash_of algorithm = cond (is_digest algorithm) Md5 (hash_for_lem algorithm)
-
--- the digest's hash is the inner one of the HMAC
-abbrev pub view_by : ℕ → HmacContext → View → List ℕ → MacView
-view_by algorithm h c key =
-    cond (is_digest algorithm) (Digest (hash_view Md5 h.inner) key) (by_algorithm algorithm (hmac_view (hash_for_lem algorithm) h) c)
-
+-- what a context holds: each variant as its view; of the digest's secret only the key counts
 abbrev pub mac_view : MacContext → MacView
-mac_view c = view_by c.algorithm c.hmac (view c.cmac) (take c.key_len c.key)
+mac_view (held.Hmac a c) = Hmac a (hmac_view a c)
+mac_view (held.Cmac c) = Cmac (view c)
+mac_view (held.Digest c s) = Digest (hash_view Md5 c) (key_of s)
 
 -- the algorithm's key in the room that a traffic key has
 abbrev pub key_for : ℕ → List ℕ → List ℕ

@@ -1,52 +1,73 @@
-// Bytes put one part behind another before they go into a MAC. There is room for the longest front of a segment: the extension (4),
-// the pseudo-header (40) and the header (60). What follows are leaves: each asks for the room that it needs.
-ghost use Rattle.std.specs.Prelude.{◌≡◌, ◌+◌, ◌≤◌, length};
-ghost use Rattle.octets.specs.Octets.{bytes16, bytes32};
-ghost use Rattle.traffic.specs.Assembled.{Pushed, none};
+// Bytes put one part behind another before they go into a MAC or a sum, in an array that has room for N. What follows are leaves: each
+// asks for the room that it needs.
+ghost use Rattle.std.specs.Prelude.{◌≡◌, [], ◌++◌, ◌+◌, ◌≤◌, length};
+ghost use Rattle.rules.specs.Mac.{blank as blank_of, blank_if_of};
 
-// The parts are the first `len` bytes; behind them are zeros.
-#[derive(Clone, Copy)]
-pub struct Assembled {
-    pub bytes: [u8; 104],
-    pub len: usize,
+use std::marker::Model;
+
+// The parts are the first `len` bytes; what stands behind them means nothing.
+#[derive(Drop)]
+pub struct Assembled<const N: usize> {
+    bytes: [u8; N],
+    len: usize,
 }
 
-impl Assembled {
+impl<const N: usize> Model for Assembled<N> {
+    ghost use Rattle.std.specs.Prelude.{ℕ, List, take, ◌≤◌};
+
+    ghost Value = { List ℕ };
+
+    ghost view = { λ a. take a.len a.bytes };
+
+    ghost invariant = { λ a. a.len ≤ N };
+}
+
+impl<const N: usize> Assembled<N> {
     pub fn new() -> Self
-        ensures { result ≡ none }
+        ensures { result ≡ [] }
     {
         Assembled {
-            bytes: [0u8; 104],
+            bytes: [0; N],
             len: 0,
         }
     }
 
-    pub fn push(self, part: &[u8]) -> Self
-        requires { self.len + length part.now ≤ 104 }
-        ensures { Pushed self part.now result }
+    pub fn push(mut self, part: &[u8]) -> Self
+        requires { length self + length part.now ≤ N }
+        ensures { result ≡ self.entry ++ part.now }
     {
-        let len = self.len;
-        let mut bytes = self.bytes;
-        octets::copy_at(&mut bytes, len, part);
-        Assembled {
-            bytes,
-            len: len + part.len(),
-        }
+        let start = self.len;
+        let end = start + part.len();
+        let bytes = &mut self.bytes[..];
+        bytes[start..end].copy_from_slice(part);
+        self.len = end;
+        self
     }
 
-    pub fn push16(self, x: u16) -> Self
-        requires { self.len + 2 ≤ 104 }
-        ensures { Pushed self (bytes16 x) result }
+    // n bytes from i on made zero.
+    pub fn blank(mut self, i: usize, n: usize) -> Self
+        requires { i + n ≤ length self }
+        ensures value { result ≡ blank_of i n self.entry }
+        ensures len { length result ≡ length self.entry }
     {
-        let b = octets::bytes16(x);
-        self.push(&b)
+        let bytes = &mut self.bytes[..];
+        bytes[i..i + n].fill(0);
+        self
     }
 
-    pub fn push32(self, x: u32) -> Self
-        requires { self.len + 4 ≤ 104 }
-        ensures { Pushed self (bytes32 x) result }
+    // So of a side that is hidden, and nothing of another.
+    pub fn blank_if(self, hidden: bool, i: usize, n: usize) -> Self
+        requires { i + n ≤ length self }
+        ensures value { result ≡ blank_if_of hidden i n self.entry }
+        ensures len { length result ≡ length self.entry }
     {
-        let b = octets::bytes32(x);
-        self.push(&b)
+        if hidden { self.blank(i, n) } else { self }
+    }
+
+    pub fn as_slice(&self) -> &[u8]
+        ensures value { result.now ≡ self.now }
+        ensures room { length result.now ≤ N }
+    {
+        &self.bytes[..self.len]
     }
 }

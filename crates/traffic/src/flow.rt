@@ -1,17 +1,16 @@
 // Who sends a segment to whom: document 01, "Traffic keys", "'source' is whoever sent the segment".
 // Traffic keys and pseudo-headers are made from it; document 02, Ticket 10, says what of it counts as zero there. Every value is a flow;
 // where the family is not 4, addresses have sixteen bytes.
-ghost use Rattle.std.specs.Prelude.{◌≡◌, ◌++◌, ◌+◌, ◌≤◌};
-ghost use Rattle.keys.specs.Entry.{width};
-ghost use Rattle.rules.specs.Mac.{leaving_hidden_of, arriving_hidden_of, port_under_lem, blanked as blanked_of};
-ghost use Rattle.traffic.specs.Assembled.{Pushed};
-ghost use Rattle.traffic.specs.Flow.{flow_of, field_under_lem};
+ghost use Rattle.std.specs.Prelude.{◌≡◌, ◌≤◌, length, eqb};
+ghost use Rattle.rules.specs.Mac.{leaving_hidden_of, arriving_hidden_of, pseudo_header as pseudo_header_of, blanked as blanked_of};
+ghost use Rattle.traffic.specs.Flow.{flow_of, pseudo_end_of};
 
 use crate::assembled::Assembled;
-use keys::entry::Secret;
+use keys::entry::{Secret, width_of};
 use rules::Hidden;
 
 // IPv4 uses the first four bytes of an address field; what stands behind them means nothing.
+// Kept (may not change): `flow_of` gives each number a meaning as the family, all but 4 that of IPv6, and a pair's number is handed on.
 #[derive(Clone, Copy)]
 pub struct Flow {
     pub family: u8,
@@ -21,17 +20,6 @@ pub struct Flow {
     pub destination_port: u16,
     pub source_isn: u32,
     pub destination_isn: u32,
-}
-
-// Both addresses, with which the context and the pseudo-header begin.
-pub(crate) fn push_addresses(a: Assembled, flow: Flow) -> Assembled
-    requires { a.len + 32 ≤ 104 }
-    ensures { Pushed a ((flow_of flow).source ++ (flow_of flow).destination) result }
-{
-    let w = keys::entry::width_of(flow.family);
-    let source = flow.source;
-    let destination = flow.destination;
-    a.push(&source[..w]).push(&destination[..w])
 }
 
 // "flags 2 for the local and 4 for the remote side": of a segment that we sign our side is the source,
@@ -48,41 +36,69 @@ pub fn leaving_hidden(secret: Secret) -> Hidden
 pub fn arriving_hidden(secret: Secret) -> Hidden
     ensures { result ≡ arriving_hidden_of secret }
 {
+    let leaving = leaving_hidden(secret);
     Hidden {
-        source: secret.flags / 4 % 2 == 1,
-        destination: secret.flags / 2 % 2 == 1,
+        source: leaving.destination,
+        destination: leaving.source,
     }
 }
 
-// An address field, and a port, of a side that is hidden or not.
-fn field_under(hidden: bool, field: [u8; 16]) -> [u8; 16]
-    ensures { result ≡ field_under_lem hidden field }
+// What a pseudo-header of a segment of len bytes has behind its addresses, by their width.
+pub(crate) fn pseudo_end(width: usize, len: usize) -> Assembled<8>
+    ensures { result ≡ pseudo_end_of width len }
 {
-    if hidden {
-        return [0u8; 16];
+    let bytes = octets::bytes64(len as u64);
+    if width == 4 {
+        // RFC 9293 §3.1: zero, protocol 6, length
+        return Assembled::new().push(&[0, 6]).push(&bytes[6..]);
     }
-    field
+    // RFC 8200 §8.1: length, zero, next header 6
+    Assembled::new().push(&bytes[4..]).push(&[0, 0, 0, 6])
 }
 
-fn port_under(hidden: bool, port: u16) -> u16
-    ensures { result ≡ port_under_lem hidden port }
-{
-    if hidden { 0 } else { port }
-}
+impl Flow {
+    // The addresses: the bytes of their fields that the family uses.
+    #[tactic(auto, unfolding(keys::specs::Entry::width))]
+    pub(crate) fn source_bytes(&self) -> &[u8]
+        ensures value { result.now ≡ (flow_of self.now).source }
+        ensures room { length result.now ≤ 16 }
+    {
+        &self.source[..width_of(self.family)]
+    }
 
-// A flow as the traffic key's context and the MAC's pseudo-header have it: the ISNs stay.
-pub(crate) fn blanked(hidden: Hidden, flow: Flow) -> Flow
-    ensures { flow_of result ≡ blanked_of hidden (flow_of flow) }
-{
-    let source = flow.source;
-    let destination = flow.destination;
-    Flow {
-        family: flow.family,
-        source: field_under(hidden.source, source),
-        destination: field_under(hidden.destination, destination),
-        source_port: port_under(hidden.source, flow.source_port),
-        destination_port: port_under(hidden.destination, flow.destination_port),
-        source_isn: flow.source_isn,
-        destination_isn: flow.destination_isn,
+    #[tactic(auto, unfolding(keys::specs::Entry::width))]
+    pub(crate) fn destination_bytes(&self) -> &[u8]
+        ensures value { result.now ≡ (flow_of self.now).destination }
+        ensures room { length result.now ≤ 16 }
+    {
+        &self.destination[..width_of(self.family)]
+    }
+
+    // "the IP pseudo-header as for the checksum", of a segment of len bytes
+    #[tactic(auto, unfolding(rules::specs::Mac::pseudo_header))]
+    pub(crate) fn pseudo_header(&self, len: usize) -> Assembled<40>
+        ensures { result ≡ pseudo_header_of (flow_of self.now).source (flow_of self.now).destination len }
+    {
+        let source = self.source_bytes();
+        let end = pseudo_end(source.len(), len);
+        Assembled::new()
+            .push(source)
+            .push(self.destination_bytes())
+            .push(end.as_slice())
+    }
+
+    // The flow as the traffic key's context and the MAC's pseudo-header have it: the ISNs stay.
+    pub(crate) fn blanked(mut self, hidden: Hidden) -> Self
+        ensures { flow_of result ≡ blanked_of hidden (flow_of self) }
+    {
+        if hidden.source {
+            self.source = [0; 16];
+            self.source_port = 0;
+        }
+        if hidden.destination {
+            self.destination = [0; 16];
+            self.destination_port = 0;
+        }
+        self
     }
 }

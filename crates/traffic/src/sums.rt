@@ -5,22 +5,23 @@ ghost use Rattle.checksum.specs.Running.{begun, added};
 ghost use Rattle.rules.specs.Mac.{pseudo_header};
 ghost use Rattle.rules.specs.Checksum.{segment_sum_of};
 
+use crate::flow::pseudo_end;
 use checksum::Sum;
 
 // The sum of a pseudo-header, with which that of a segment of len bytes begins.
+#[tactic(auto, using(crate::proofs::SumPieces::pseudo_added))]
 pub fn pseudo_sum(source: &[u8], destination: &[u8], len: usize) -> Sum
     ensures { result ≡ added begun (pseudo_header source.now destination.now len) }
 {
-    let addresses = Sum::start().add(source).add(destination);
-    if source.len() == 4 {
-        let n = crate::front::protocol_and_length(len);
-        return addresses.add(&n);
-    }
-    let n = crate::front::length_and_next_header(len);
-    addresses.add(&n)
+    let end = pseudo_end(source.len(), len);
+    Sum::start()
+        .add(source)
+        .add(destination)
+        .add(end.as_slice())
 }
 
 // A segment's "one's complement sum, pseudo-header and checksum included".
+#[tactic(auto, using(crate::proofs::SumPieces::segment_added))]
 pub fn segment_sum(source: &[u8], destination: &[u8], segment: &[u8]) -> u16
     ensures { result ≡ segment_sum_of source.now destination.now segment.now }
 {

@@ -7,10 +7,13 @@ ghost use Rattle.traffic.specs.MacContext.{mac_view, fronted_by};
 ghost use Rattle.traffic.specs.Flow.{flow_of};
 
 use crate::context::MacContext;
+use crate::derive::traffic_key;
 use crate::flow::Flow;
+use crate::front::Covered;
 use keys::entry::Secret;
 use rules::Hidden;
 
+// Kept (no plainer): its two callers have the seven as values of their own; from here on they travel as one `Covered`.
 pub fn begin(
     secret: Secret,
     hidden: Hidden,
@@ -23,10 +26,16 @@ pub fn begin(
     requires { (20 ≤ at) × (at + 4 + secret.mac_bytes ≤ length header.now) × (length header.now ≤ 60) }
     ensures { mac_view result ≡ fronted_by secret hidden (flow_of flow) extension at len header.now }
 {
-    let seen = crate::flow::blanked(hidden, flow);
-    let key = crate::derive::traffic_key(secret, seen);
-    let a = crate::front::front(secret, hidden, seen, extension, at, len, header);
-    let bytes = a.bytes;
-    let end = a.len;
-    MacContext::new(secret.algorithm, key).update(&bytes[..end])
+    let flow = flow.blanked(hidden);
+    let covered = Covered {
+        secret,
+        hidden,
+        flow,
+        extension,
+        at,
+        len,
+        header,
+    };
+    let front = covered.front();
+    MacContext::new(secret.algorithm, traffic_key(secret, flow)).update(front.as_slice())
 }
