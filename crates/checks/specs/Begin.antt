@@ -1,31 +1,30 @@
 -- Judging that has begun (src/begun.rt): what a value of the code's Begun stands for, once every test but 29 is made. A reader need
 -- not believe these: the calls cite the crate `rules` alone.
-use Rattle.std.specs.Prelude.{ℕ, ◌≤◌, min, ◌≡◌, Bool, false, cond, List, length, take}
+use Rattle.std.specs.Prelude.{ℕ, ◌≤◌, min, ◌≡◌, Bool, true, cond, Some, Result, Ok, Err, List, length, take}
 use Rattle.wire.specs.Bytes.{same_bytes}
 use Rattle.wire.specs.Header.{sequence, header_end_of}
 use Rattle.keys.specs.declared.entry.Entry.{Entry}
-use Rattle.keys.specs.declared.entry.Ids.{Ids}
 use Rattle.keys.specs.declared.entry.Pair.{Pair}
 use Rattle.tables.specs.Tables.{Tables, recv_entry, md5_entry}
 use Rattle.rules.specs.declared.Connection.{Connection}
-use Rattle.std.specs.Prelude.{Some}
 use Rattle.rules.specs.declared.Outcome.{Outcome}
-use Rattle.rules.specs.declared.Outcome.TheVariants.{Good, Passed, Bad}
+use Rattle.rules.specs.declared.Outcome.TheVariants.{Good}
 use Rattle.octets.specs.Tests.{first}
 use Rattle.rules.specs.Mac.{Flow, arriving_hidden_of}
 use Rattle.rules.specs.Segment.{ao_at, key_id_of, mac_in, digest_in}
-use Rattle.rules.specs.Connection.{Arrival, arrival_pair_of, arriving, arriving_syn, place_on_lem, extension_of_lem, is_md5_of, ao_way}
-use Rattle.rules.specs.Connection.{md5_way}
-use Rattle.rules.specs.Calls.{refuse, key_tests, md5_tests, good_by, judge_groups, syn_missing_of, syn_unknown_of, syn_is_md5, syn_groups}
+use Rattle.rules.specs.Connection.{Arrival, arrival_pair_of, arriving, arriving_syn, place_on_lem, extension_of_lem, is_md5_of}
+use Rattle.rules.specs.Calls.{refuse, good_by, judge_groups, syn_is_md5, syn_groups}
 use Rattle.traffic.specs.MacContext.{MacView, mac_view, mac_absorb, mac_finished, fronted_by, digested_by}
 use Rattle.checks.specs.Groups.{until_mac}
+use Rattle.checks.specs.GroupLaws.{is_final}
 use Rattle.checks.specs.declared.begun.Begun.{Begun}
+use Rattle.checks.specs.declared.begun.Way.{Way}
+use Rattle.checks.specs.declared.begun.Way.TheVariants.{Ao, Md5}
 
 -- what a segment is compared with once its data are in: so many bytes that it carries, and the MAC that the front leaves; which way that
--- is, and the IDs of the entry found
+-- is, with the IDs of the entry found by TCP-AO
 pub record Expected : Type 0 where
-  pub way : ℕ
-  pub ids : Ids
+  pub way : Way
   pub bytes : ℕ
   pub carried : List ℕ
   pub mac : MacView
@@ -34,8 +33,7 @@ pub record Expected : Type 0 where
 abbrev pub by_ao : Entry → Flow → List ℕ → ℕ → Expected
 by_ao e f s x =
     record {
-      way = ao_way;
-      ids = e.ids;
+      way = Ao e.ids;
       bytes = e.secret.mac_bytes;
       carried = mac_in s;
       mac = fronted_by e.secret (arriving_hidden_of e.secret) f (extension_of_lem x) (ao_at s) (length s) (take (header_end_of s) s);
@@ -45,8 +43,7 @@ by_ao e f s x =
 abbrev pub by_md5_of : Entry → Flow → List ℕ → ℕ → Expected
 by_md5_of e f s x =
     record {
-      way = md5_way;
-      ids = record { send = 0; recv = 0 };
+      way = Md5;
       bytes = 16;
       carried = digest_in s;
       mac = digested_by e.secret f (length s) (take (header_end_of s) s);
@@ -55,16 +52,16 @@ by_md5_of e f s x =
 -- what waits for the data
 pub record Ready (w : Expected) (b : Begun) : Type 0 where
   pub way : b.way ≡ w.way
-  pub ids : b.ids ≡ w.ids
   pub bytes : b.mac_bytes ≡ w.bytes
   pub short : b.mac_bytes ≤ 16
   pub carried : take b.mac_bytes b.carried ≡ w.carried
   pub mac : mac_view b.mac ≡ w.mac
 
--- o is the outcome of every test but 29; only where it is Good, at a position, does the rest mean something
-pub record Begins (o : Outcome) (w : ℕ → Expected) (b : Begun) : Type 0 where
-  pub outcome : b.outcome ≡ o
-  pub ready : (x r : ℕ) → o ≡ Good x r → Ready (w x) b
+-- o is the outcome of every test but 29: Good, at a position and with an RNextKeyID, and what is expected there waits; or another, which is
+-- given as it is
+abbrev pub Begins : Outcome → (ℕ → Expected) → Result Begun Outcome → Type 0
+Begins o w (Ok b) = (o ≡ Good b.position b.rnext) × Ready (w b.position) b
+Begins o w (Err e) = (o ≡ e) × (is_final e ≡ true)
 
 -- with a state: by the way of the connection
 abbrev pub expected : Tables → Connection → List ℕ → ℕ → Expected
@@ -72,61 +69,27 @@ expected t l s =
     cond (is_md5_of l) (by_md5_of (md5_entry t l.pair).entry (arriving l s) s)
     (by_ao (recv_entry t l.pair (key_id_of s)).entry (arriving l s) s)
 
-abbrev pub Judges : Tables → Connection → ℕ → Arrival → Begun → Type 0
-Judges t l reference a b =
+abbrev pub Judges : Tables → Connection → ℕ → Arrival → Result Begun Outcome → Type 0
+Judges t l reference a r =
     Begins (first (until_mac (judge_groups t l reference a))
     (good_by (is_md5_of l) (place_on_lem l reference (sequence a.segment)) a.segment))
-    (expected t l a.segment) b
+    (expected t l a.segment) r
 
 -- of a bare SYN without one: by the table that matches
 abbrev pub expected_syn : Tables → Pair → Flow → List ℕ → ℕ → Expected
 expected_syn t p f s = cond (syn_is_md5 t p) (by_md5_of (md5_entry t p).entry f s) (by_ao (recv_entry t p (key_id_of s)).entry f s)
 
-abbrev pub JudgesSyn : Tables → Arrival → Bool → Begun → Type 0
-JudgesSyn t a strict b =
+abbrev pub JudgesSyn : Tables → Arrival → Bool → Result Begun Outcome → Type 0
+JudgesSyn t a strict r =
     Begins
     (first (until_mac (syn_groups t a strict)) (good_by (syn_is_md5 t (arrival_pair_of a)) (Some (sequence a.segment)) a.segment))
-    (expected_syn t (arrival_pair_of a) (arriving_syn a) a.segment) b
-
--- their tests by key, by TCP-AO
-abbrev pub Keyed : Tables → Connection → ℕ → List ℕ → Begun → Type 0
-Keyed t l reference s b =
-    Begins
-    (first (key_tests (refuse 25) (refuse 26) (recv_entry t l.pair (key_id_of s)) (place_on_lem l reference (sequence s)) s)
-    (good_by false (place_on_lem l reference (sequence s)) s))
-    (by_ao (recv_entry t l.pair (key_id_of s)).entry (arriving l s) s) b
-
-abbrev pub KeyedSyn : Tables → Pair → Bool → Flow → List ℕ → Begun → Type 0
-KeyedSyn t p strict f s b =
-    Begins
-    (first (key_tests (syn_missing_of t p) (syn_unknown_of t p strict) (recv_entry t p (key_id_of s)) (Some (sequence s)) s)
-    (good_by false (Some (sequence s)) s))
-    (by_ao (recv_entry t p (key_id_of s)).entry f s) b
-
--- by either way
-abbrev pub KeyedByWay : Tables → Connection → ℕ → List ℕ → Begun → Type 0
-KeyedByWay t l reference s b =
-    Begins
-    (first
-    (cond (is_md5_of l) (md5_tests (md5_entry t l.pair) s)
-    (key_tests (refuse 25) (refuse 26) (recv_entry t l.pair (key_id_of s)) (place_on_lem l reference (sequence s)) s))
-    (good_by (is_md5_of l) (place_on_lem l reference (sequence s)) s))
-    (expected t l s) b
-
-abbrev pub KeyedSynByWay : Tables → Pair → Bool → Flow → List ℕ → Begun → Type 0
-KeyedSynByWay t p strict f s b =
-    Begins
-    (first
-    (cond (syn_is_md5 t p) (md5_tests (md5_entry t p) s)
-    (key_tests (syn_missing_of t p) (syn_unknown_of t p strict) (recv_entry t p (key_id_of s)) (Some (sequence s)) s))
-    (good_by (syn_is_md5 t p) (Some (sequence s)) s))
-    (expected_syn t p f s) b
+    (expected_syn t (arrival_pair_of a) (arriving_syn a) a.segment) r
 
 -- data go into the MAC, and nothing else changes
 pub record Fed (b : Begun) (d : List ℕ) (c : Begun) : Type 0 where
-  pub outcome : c.outcome ≡ b.outcome
+  pub position : c.position ≡ b.position
+  pub rnext : c.rnext ≡ b.rnext
   pub way : c.way ≡ b.way
-  pub ids : c.ids ≡ b.ids
   pub bytes : c.mac_bytes ≡ b.mac_bytes
   pub carried : c.carried ≡ b.carried
   pub mac : mac_view c.mac ≡ mac_absorb (mac_view b.mac) d
@@ -139,7 +102,5 @@ mac_length_of n = min n 16
 abbrev pub agrees : Begun → MacView → Bool
 agrees b v = same_bytes (take (mac_length_of b.mac_bytes) b.carried) (take (mac_length_of b.mac_bytes) (mac_finished v))
 
-abbrev pub ended : Outcome → Bool → Outcome
-ended (Good x r) same = cond same (Good x r) (refuse 29)
-ended Passed same = Passed
-ended (Bad n i) same = Bad n i
+abbrev pub ended : Begun → Bool → Outcome
+ended b same = cond same (Good b.position b.rnext) (refuse 29)

@@ -1,6 +1,6 @@
 -- Begin, data and end are the whole: what they come to is the first of all tests that applies. Assumes nothing.
-use Rattle.std.specs.Prelude.{ℕ, ◌≤◌, ◌≡◌, refl, Bool, true, false, cond, not, List, [], ◌∷◌, length, take, drop, eqb}
-use Rattle.std.proofs.Common.{sym, ap, ap₂, ◌∙◌, arith}
+use Rattle.std.specs.Prelude.{ℕ, ◌≤◌, ◌≡◌, refl, Bool, true, false, cond, not, List, [], ◌∷◌, length, take, drop, Result, Ok, Err}
+use Rattle.std.proofs.Common.{sym, ap, ap₂, subst, ◌∙◌, arith}
 use Rattle.wire.specs.Bytes.{same_bytes}
 use Rattle.wire.specs.Header.{sequence, header_end_of}
 use Rattle.keys.specs.declared.entry.Entry.{Entry}
@@ -12,8 +12,8 @@ use Rattle.rules.specs.Position.{Place}
 use Rattle.rules.specs.declared.Outcome.{Outcome}
 use Rattle.std.specs.Prelude.{Some}
 use Rattle.rules.specs.declared.Outcome.TheVariants.{Good, Passed, Bad}
-use Rattle.octets.specs.Tests.{Test, test, first}
-use Rattle.octets.specs.TestLaws.{first-none, first-append, first-joined, each_gives, none-applied}
+use Rattle.octets.specs.Tests.{Test, test, first, checked}
+use Rattle.octets.specs.TestLaws.{first-none, first-append, first-joined, each_gives, none-applied, checked-passed, checked-given, checked-gives}
 use Rattle.rules.specs.Mac.{Flow, arriving_hidden_of, blanked, front, segment_mac}
 use Rattle.rules.specs.Digest.{segment_digest}
 use Rattle.rules.specs.Segment.{ao_at, key_id_of}
@@ -27,14 +27,33 @@ use Rattle.checks.specs.Groups.{until_mac}
 use Rattle.checks.specs.GroupLaws.{is_final, final-kept, refusal-final}
 use Rattle.checks.specs.Begin.{Expected, by_ao, by_md5_of, Ready, Begins, Judges, JudgesSyn, mac_length_of, agrees, ended}
 use Rattle.checks.specs.declared.begun.Begun.{Begun}
+use Rattle.checks.specs.declared.begun.Way.TheVariants.{Ao, Md5}
 
--- a number that was given begins nothing
-pub nothing-begins : {x o : Outcome} (w : ℕ → Expected) {b : Begun} → b.outcome ≡ x → x ≡ o → is_final x ≡ true → Begins o w b
-nothing-begins w n q h =
-    record {
-      outcome = n ∙ q;
-      ready = λ y r g. let z : ◌≡◌ {A = ℕ} 0 1 = cc (ap is_final (q ∙ g)) in absurd (omega arith);
-    }
+-- data and end, of a segment that is there whole; or the number that was given at once
+abbrev pub settled : Result Begun Outcome → List ℕ → Outcome
+settled (Ok b) d = ended b (agrees b (mac_absorb (mac_view b.mac) d))
+settled (Err e) d = e
+
+-- one group: its error is given, and without one what stands behind it decides
+pub stop : (a : List (Test Outcome)) (o : Outcome) (w : ℕ → Expected) {e : Outcome} → each_gives is_final a ≡ true → checked a ≡ Err e → Begins (first a o) w (Err e)
+stop a o w f q = (checked-given a o q, checked-gives is_final a f q)
+
+pub pass : (a : List (Test Outcome)) (o : Outcome) (w : ℕ → Expected) (r : Result Begun Outcome) → checked a ≡ Ok tt → Begins o w r → Begins (first a o) w r
+pass a o w r q b = subst (λ (x : Outcome). Begins x w r) (sym (checked-passed a o q)) b
+
+-- the groups one by one
+pub by_groups : (g : Groups) (o : Outcome) (w : ℕ → Expected) (r : Result Begun Outcome)
+    → Begins (first g.input (first g.size (first g.sum (first g.form (first g.arrival (first g.key o)))))) w r
+    → Begins (first (until_mac g) o) w r
+by_groups g o w r b = subst (λ (x : Outcome). Begins x w r) (sym seams) b
+  where
+    seams : first (until_mac g) o ≡ first g.input (first g.size (first g.sum (first g.form (first g.arrival (first g.key o)))))
+    seams =
+        first-append g.input _ o
+        ∙ ap (first g.input) (first-append g.size _ o
+        ∙ ap (first g.size) (first-append g.sum _ o
+        ∙ ap (first g.sum) (first-append g.form _ o
+        ∙ ap (first g.form) (first-append g.arrival _ o ∙ ap (first g.arrival) (first-append g.key [] o)))))
 
 flip : {A : Type 0} (b : Bool) (x y : A) → cond b x y ≡ cond (not b) y x
 flip true x y = refl
@@ -83,36 +102,26 @@ compares-is true n e f p s short =
 compares-is false n e f p s short =
     ap (λ (m : List ℕ). test (refuse 29) (not (same_bytes (by_ao e f s (value p)).carried m)) ∷ []) (sym (ao-mac e f s (value p) short))
 
--- what was accepted was ready
-pub ended-good : (o : Outcome) (same : Bool) {x r : ℕ} → ended o same ≡ Good x r → o ≡ Good x r
-ended-good (Good y u) true e = e
-ended-good (Good y u) false e = let z : ◌≡◌ {A = ℕ} 0 1 = cc in absurd (omega arith)
-ended-good Passed same e = e
-ended-good (Bad n i) same e = e
-
 -- 29 behind all others, at the position y
-module _ (g : Groups) (y u : ℕ) (w : ℕ → Expected) (s : List ℕ) (mac : (w y).bytes ≤ 16 → g.mac ≡ compares (w y) s) (final : each_gives is_final (until_mac g) ≡ true)
-    (b : Begun) (begins : Begins (first (until_mac g) (Good y u)) w b) {o : Outcome} (gave : o ≡ ended b.outcome (agrees b (mac_absorb (mac_view b.mac) (drop (header_end_of s) s)))) where
+module _ (g : Groups) (y u : ℕ) (w : ℕ → Expected) (s : List ℕ) (mac : (w y).bytes ≤ 16 → g.mac ≡ compares (w y) s)
+    (final : each_gives is_final (until_mac g) ≡ true) where
   abbrev good : Outcome
   good = Good y u
 
-  ends : o ≡ first (in_order g) good
-  ends = go (first (until_mac g) good) refl
-    where
-      kept : is_final (first (until_mac g) good) ≡ true → first (until_mac g) good ≡ first (in_order g) good
-      kept h = final-kept (until_mac g) good (first g.mac good) h refl ∙ sym (whole g good)
-
-      go : (v : Outcome) → first (until_mac g) good ≡ v → o ≡ first (in_order g) good
-      go (Good x r) h =
-          let none = none-applied is_final (until_mac g) good final (ap is_final h) in
-          let k : first (until_mac g) good ≡ Good y u = first-none (until_mac g) good none in
-          let ready = begins.ready y u k in
-          gave ∙ ap₂ ended (begins.outcome ∙ k) (agreed (w y) s b ready)
-          ∙ flip (same (w y) s) good (refuse 29)
-          ∙ sym (whole g good ∙ first-none (until_mac g) (first g.mac good) none
-          ∙ ap (λ (l : List (Test Outcome)). first l good) (mac (omega (arith, ready.bytes, ready.short))))
-      go Passed h = gave ∙ ap (λ (v : Outcome). ended v (agrees b (mac_absorb (mac_view b.mac) (drop (header_end_of s) s)))) (begins.outcome ∙ h) ∙ sym h ∙ kept (ap is_final h)
-      go (Bad n i) h = gave ∙ ap (λ (v : Outcome). ended v (agrees b (mac_absorb (mac_view b.mac) (drop (header_end_of s) s)))) (begins.outcome ∙ h) ∙ sym h ∙ kept (ap is_final h)
+  ends : (r : Result Begun Outcome) → Begins (first (until_mac g) good) w r → settled r (drop (header_end_of s) s) ≡ first (in_order g) good
+  ends (Err e) b =
+      sym b.0
+      ∙ final-kept (until_mac g) good (first g.mac good) (ap is_final b.0 ∙ b.1) refl
+      ∙ sym (whole g good)
+  ends (Ok d) b =
+      let none = none-applied is_final (until_mac g) good final (ap is_final b.0) in
+      let k : good ≡ Good d.position d.rnext = sym (first-none (until_mac g) good none) ∙ b.0 in
+      let here : y ≡ d.position = cc in
+      let ready : Ready (w y) d = subst (λ (x : ℕ). Ready (w x) d) (sym here) b.1 in
+      ap₂ (λ (same : Bool) (o : Outcome). cond same o (refuse 29)) (agreed (w y) s d ready) (sym k)
+      ∙ flip (same (w y) s) good (refuse 29)
+      ∙ sym (whole g good ∙ first-none (until_mac g) (first g.mac good) none
+      ∙ ap (λ (l : List (Test Outcome)). first l good) (mac (omega (arith, ready.bytes, ready.short))))
 
 -- with a state
 module _ (t : Tables) (l : Connection) (reference : ℕ) (a : Arrival) where
@@ -123,14 +132,13 @@ module _ (t : Tables) (l : Connection) (reference : ℕ) (a : Arrival) where
       go true p = rw (p, refusal-final t.answer)
       go false p = rw (p, refusal-final t.answer)
 
-  pub judge-ends : (b : Begun) → Judges t l reference a b → {o : Outcome}
-      → o ≡ ended b.outcome (agrees b (mac_absorb (mac_view b.mac) (drop (header_end_of a.segment) a.segment))) → o ≡ check t l reference a
+  pub judge-ends : (r : Result Begun Outcome) → Judges t l reference a r → settled r (drop (header_end_of a.segment) a.segment) ≡ check t l reference a
   unfolding check
-  judge-ends b begins gave =
+  judge-ends r begins =
       ends (judge_groups t l reference a) _ _ _ a.segment
       (compares-is (is_md5_of l) (md5_entry t l.pair).entry (recv_entry t l.pair (key_id_of a.segment)).entry (arriving l a.segment)
       (place_on_lem l reference (sequence a.segment)) a.segment)
-      judge-final b begins gave
+      judge-final r begins
 
 -- without one
 pub missing-final : (b : Bool) → is_final (cond b (refuse 25) Passed) ≡ true
@@ -142,12 +150,11 @@ unknown-final t p strict = unknown-passes is_final t p strict refl refl
 
 -- which way a bare SYN went, and by TCP-AO under which entry
 way-is : (way : Bool) (n e : Entry) (f : Flow) (s : List ℕ) (x : ℕ) {b : Begun} → Ready (cond way (by_md5_of n f s) (by_ao e f s) x) b
-    → (eqb b.way 1 ≡ way) × (way ≡ false → b.ids ≡ e.ids)
-way-is true n e f s x ready = (ap (λ (k : ℕ). eqb k 1) ready.way, λ q. let z : ◌≡◌ {A = ℕ} 0 1 = cc in absurd (omega arith))
-way-is false n e f s x ready = (ap (λ (k : ℕ). eqb k 1) ready.way, λ q. ready.ids)
+    → b.way ≡ cond way Md5 (Ao e.ids)
+way-is true n e f s x ready = ready.way
+way-is false n e f s x ready = ready.way
 
-module _ (t : Tables) (a : Arrival) (strict : Bool) (b : Begun) (begins : JudgesSyn t a strict b) {o : Outcome}
-    (gave : o ≡ ended b.outcome (agrees b (mac_absorb (mac_view b.mac) (drop (header_end_of a.segment) a.segment)))) where
+module _ (t : Tables) (a : Arrival) (strict : Bool) where
   syn-final : each_gives is_final (until_mac (syn_groups t a strict)) ≡ true
   syn-final = go (syn_is_md5 t (arrival_pair_of a)) refl
     where
@@ -156,18 +163,17 @@ module _ (t : Tables) (a : Arrival) (strict : Bool) (b : Begun) (begins : Judges
       go false p =
           rw (p, refusal-final t.answer, missing-final (any_entry t (arrival_pair_of a)), unknown-final t (arrival_pair_of a) strict)
 
-  pub syn-ends : o ≡ check_syn_of t a strict
+  pub syn-ends : (r : Result Begun Outcome) → JudgesSyn t a strict r → settled r (drop (header_end_of a.segment) a.segment) ≡ check_syn_of t a strict
   unfolding check_syn_of
-  syn-ends =
+  syn-ends r begins =
       ends (syn_groups t a strict) _ _ _ a.segment
       (compares-is (syn_is_md5 t (arrival_pair_of a)) (md5_entry t (arrival_pair_of a)).entry (recv_entry t (arrival_pair_of a) (key_id_of a.segment)).entry
       (arriving_syn a) (Some (sequence a.segment)) a.segment)
-      syn-final b begins gave
+      syn-final r begins
 
-  -- the way that it goes by, and by TCP-AO the entry found, are those that open
-  pub syn-by : {x r : ℕ} → o ≡ Good x r
-      → (eqb b.way 1 ≡ syn_is_md5 t (arrival_pair_of a))
-      × (syn_is_md5 t (arrival_pair_of a) ≡ false → b.ids ≡ (recv_entry t (arrival_pair_of a) (key_id_of a.segment)).entry.ids)
-  syn-by {x} g =
+  -- the way that it goes by, and by TCP-AO the IDs of the entry found, are those that open
+  pub syn-by : (b : Begun) → JudgesSyn t a strict (Ok b)
+      → b.way ≡ cond (syn_is_md5 t (arrival_pair_of a)) Md5 (Ao (recv_entry t (arrival_pair_of a) (key_id_of a.segment)).entry.ids)
+  syn-by b begins =
       way-is (syn_is_md5 t (arrival_pair_of a)) (md5_entry t (arrival_pair_of a)).entry (recv_entry t (arrival_pair_of a) (key_id_of a.segment)).entry
-      (arriving_syn a) a.segment x (begins.ready _ _ (sym begins.outcome ∙ ended-good b.outcome _ (sym gave ∙ g)))
+      (arriving_syn a) a.segment b.position begins.1

@@ -11,16 +11,7 @@ use Rattle.rules.specs.declared.Connection.{Connection}
 use Rattle.octets.specs.Tests.{Test, test, tests, joined}
 use Rattle.rules.specs.Mac.{Flow}
 use Rattle.rules.specs.Connection.{Arrival, local_address, remote_address, is_open_of}
-use Rattle.rules.specs.Calls.{refuse, length_tests, sum_tests, Groups}
-
--- 20, then 40: whether the segment came whole
-abbrev pub intact_tests : Arrival → List (Test Outcome)
-intact_tests a = length_tests 20 a.segment ++ sum_tests a
-
--- 22 by its two numbers: so many TCP-AO, so many MD5
-abbrev pub count_tests : ℕ → ℕ → List (Test Outcome)
-count_tests ao md5 =
-    test (refuse 22) (ltb 1 ao) ∷ test (refuse 22) (ltb 0 ao && ltb 0 md5) ∷ test (refuse 22) (ltb 1 md5) ∷ []
+use Rattle.rules.specs.Calls.{refuse, Groups}
 
 -- The tests by a header that was read: of `header_of_lem n s` they are the crate `rules`' tests of s, by computation.
 abbrev pub option_tests : Option Seen → List (Test Outcome)
@@ -46,13 +37,6 @@ header_syn_tests h = test (refuse 24) (not (h.syn && not h.ack)) ∷ []
 
 abbrev pub header_arrival_tests : Connection → List ℕ → List ℕ → Header → List (Test Outcome)
 header_arrival_tests l source destination h = header_pair_tests l.pair source destination h ++ header_stage_tests l h
-
--- The seams at which the code cuts: what the input, the size and the sum decide; what the header's form, pair and stage decide; key; MAC.
-abbrev pub early : Groups → List (Test Outcome)
-early g = joined (g.input ∷ g.size ∷ g.sum ∷ [])
-
-abbrev pub formed : Groups → List (Test Outcome)
-formed g = joined (g.form ∷ g.arrival ∷ [])
 
 -- every test but 29, which alone needs the MAC
 abbrev pub until_mac : Groups → List (Test Outcome)

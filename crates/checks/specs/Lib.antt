@@ -1,3 +1,4 @@
+pub mod Sized
 pub mod Groups
 pub mod SignGroups
 pub mod SignLaws

@@ -1,20 +1,22 @@
 -- The tests of signing in the parts that the code goes through (src/signing.rt): what was given; then, by the header that was read, the
 -- segment and the output. Joined in this order they are `sign_tests` of the crate `rules` (SignLaws). A reader need not believe these: the
 -- calls cite the crate `rules` alone.
-use Rattle.std.specs.Prelude.{ℕ, ◌+◌, Bool, cond, not, ◌&&◌, List, [], ◌∷◌, ◌++◌, ltb, eqb, Option}
+use Rattle.std.specs.Prelude.{ℕ, ◌+◌, Bool, cond, not, ◌&&◌, List, [], ◌∷◌, ◌++◌, ltb, eqb, Result, Ok, Option}
+use Rattle.core.specs.Result.{result_and}
 use Rattle.wire.specs.Options.{is_malformed, ao_in, md5_in}
 use Rattle.wire.specs.declared.options.Seen.{Seen}
 use Rattle.wire.specs.declared.header.Header.{Header}
 use Rattle.keys.specs.declared.entry.Pair.{Pair}
+use Rattle.keys.specs.Table.{Found}
 use Rattle.tables.specs.Tables.{Tables}
 use Rattle.rules.specs.declared.Outcome.{Outcome}
-use Rattle.rules.specs.declared.Outcome.TheVariants.{Good}
 use Rattle.rules.specs.Position.{Place}
 use Rattle.rules.specs.declared.Connection.{Connection}
 use Rattle.rules.specs.declared.State.{State}
-use Rattle.octets.specs.Tests.{Test, test, tests, first}
+use Rattle.octets.specs.Tests.{Test, test, tests, checked}
 use Rattle.rules.specs.Connection.{is_open_of, place_on_lem, located, value}
-use Rattle.rules.specs.Calls.{refuse, family_tests, table_tests, length_tests}
+use Rattle.rules.specs.Calls.{refuse, family_tests, table_tests, length_tests, added_on_lem}
+use Rattle.checks.specs.declared.signing.Granted.{Granted}
 
 -- 18, 10 to 17 and 30
 abbrev pub input_tests : Tables → List ℕ → Connection → List (Test Outcome)
@@ -59,7 +61,12 @@ sign_lines room added there q h =
     fresh_lines h.options
     ++ (segment_lines q.conn h ++ output_lines room added there q.conn (place_on_lem q.conn q.sent h.sequence) h)
 
--- what they come to, with the position where none applies
-abbrev pub signed : ℕ → ℕ → Bool → State → Header → Outcome
-signed room added there q h =
-    first (sign_lines room added there q h) (Good (value (place_on_lem q.conn q.sent h.sequence)) q.ask_id)
+-- what they come to: what the segment is signed by where none applies, under the entry found
+abbrev pub signed : ℕ → Found → State → Header → Result Granted Outcome
+signed room f q h =
+    result_and (checked (sign_lines room (added_on_lem q.conn f.entry) f.there q h))
+    (Ok (record {
+      position = value (place_on_lem q.conn q.sent h.sequence);
+      added = added_on_lem q.conn f.entry;
+      secret = f.entry.secret;
+    }))

@@ -1,295 +1,164 @@
 // The tests that come before a key is looked at: document 01, "Numbers given back", 10 to 24, with 40 behind 20. One function for each
-// group of the crate `rules`; where none of its tests applies, it gives Good(0, 0), of which nothing is made. Assumes nothing.
-ghost use Rattle.std.specs.Prelude.{◌≡◌, not, ◌&&◌, ◌++◌};
-ghost use Rattle.octets.specs.Tests.{first};
-ghost use Rattle.tables.specs.Tables.{tables_of};
-ghost use Rattle.rules.specs.Connection.{arrival_of};
-ghost use Rattle.rules.specs.Calls.{unrefused, family_tests, address_tests, table_tests, input_tests, state_tests, length_tests, sum_tests};
-ghost use Rattle.checks.specs.Groups.{intact_tests, count_tests, option_tests, header_pair_tests, header_stage_tests, header_syn_tests};
-ghost use Rattle.checks.specs.Groups.{header_arrival_tests};
+// group of the crate `rules`: the first of its tests that applies is the error. Assumes nothing.
+ghost use Rattle.std.specs.Prelude.{◌≡◌, cond, not, ◌&&◌, ◌||◌, [], ◌∷◌, eqb};
+ghost use Rattle.octets.specs.Tests.{test, tests, checked};
+ghost use Rattle.rules.specs.Connection.{is_open_of};
+ghost use Rattle.rules.specs.Calls.{refuse as refuse_of, family_tests, address_tests, table_tests, input_tests, state_tests, sum_tests};
+ghost use Rattle.checks.specs.Groups.{option_tests, header_pair_tests, header_syn_tests, header_arrival_tests};
 
 use keys::entry::Pair;
-use rules::{Connection, NO_INDEX, Outcome};
+use rules::{Connection, LentArrival, NO_INDEX, Outcome};
 use states::writers::{is_address, is_open};
-use tables::Admitted;
+use tables::LentTables;
 use wire::header::Header;
-use wire::options::Options;
+use wire::options::Seen;
+
+// A number that names no entry.
+pub fn refuse(number: u8) -> Outcome
+    ensures { result ≡ refuse_of number }
+{
+    Outcome::Bad(number, NO_INDEX)
+}
+
+// One test: its number, where it applies.
+pub fn refuse_where(applies: bool, number: u8) -> Result<(), Outcome>
+    ensures { result ≡ checked (test (refuse_of number) applies ∷ []) }
+{
+    if applies { Err(refuse(number)) } else { Ok(()) }
+}
 
 // 10 to 17 and 45, with the entry's table and index.
-pub fn table_faults(form: u8, keys: &[u8], md5: &[u8]) -> Outcome
-    ensures { result ≡ first (table_tests (tables_of form keys.now md5.now)) unrefused }
+pub fn table_faults(tables: &LentTables<'_>) -> Result<(), Outcome>
+    ensures { result ≡ checked (table_tests tables.now) }
 {
-    match tables::check(form, keys, md5) {
-        Admitted::Valid(_) => Outcome::Good(0, 0),
-        Admitted::Refused(n, i) => Outcome::Bad(n, i),
-    }
+    tables.check()?;
+    Ok(())
 }
 
 // 18: "state's family is neither IPv4 nor IPv6".
-pub fn family_faults(conn: Connection) -> Outcome
-    ensures { result ≡ first (family_tests conn) unrefused }
+#[tactic(auto, unfolding(keys::specs::Entry::is_family_of))]
+pub fn family_faults(conn: Connection) -> Result<(), Outcome>
+    ensures { result ≡ checked (family_tests conn) }
 {
-    let pair = conn.pair;
-    if pair.family == 4 {
-        return Outcome::Good(0, 0);
-    }
-    if pair.family == 6 {
-        return Outcome::Good(0, 0);
-    }
-    Outcome::Bad(18, NO_INDEX)
+    refuse_where(conn.pair.family != 4 && conn.pair.family != 6, 18)
 }
 
 // 19: "addresses not both 4 or both 16 bytes".
-pub fn address_faults(a: &[u8], b: &[u8]) -> Outcome
-    ensures { result ≡ first (address_tests a.now b.now) unrefused }
+pub fn address_faults(a: &[u8], b: &[u8]) -> Result<(), Outcome>
+    ensures { result ≡ checked (address_tests a.now b.now) }
 {
-    if a.len() == 4 {
-        if b.len() == 4 {
-            return Outcome::Good(0, 0);
-        }
-        return Outcome::Bad(19, NO_INDEX);
-    }
-    if a.len() == 16 {
-        if b.len() == 16 {
-            return Outcome::Good(0, 0);
-        }
-        return Outcome::Bad(19, NO_INDEX);
-    }
-    Outcome::Bad(19, NO_INDEX)
+    let sized = a.len() == 4 && b.len() == 4 || a.len() == 16 && b.len() == 16;
+    refuse_where(!sized, 19)
 }
 
 // Without a state: 19, then the table's number.
-fn input_faults(form: u8, keys: &[u8], md5: &[u8], a: &[u8], b: &[u8]) -> Outcome
-    ensures { result ≡ first (input_tests (tables_of form keys.now md5.now)
-        a.now b.now) unrefused }
+pub(crate) fn input_faults(
+    tables: &LentTables<'_>,
+    arrival: &LentArrival<'_>,
+) -> Result<(), Outcome>
+    ensures { result ≡ checked (input_tests tables.now arrival.now.source arrival.now.destination) }
 {
-    let sizes = address_faults(a, b);
-    let loaded = table_faults(form, keys, md5);
-    let Outcome::Good(_, _) = sizes else {
-        return sizes;
-    };
-    loaded
+    address_faults(arrival.source, arrival.destination)?;
+    table_faults(tables)
 }
 
 // With a state: 18 before 19.
-fn state_faults(
-    form: u8,
-    keys: &[u8],
-    md5: &[u8],
-    source: &[u8],
-    destination: &[u8],
+pub(crate) fn state_faults(
+    tables: &LentTables<'_>,
+    arrival: &LentArrival<'_>,
     conn: Connection,
-) -> Outcome
-    ensures { result ≡ first (state_tests (tables_of form keys.now md5.now)
-        source.now destination.now conn) unrefused }
+) -> Result<(), Outcome>
+    ensures { result ≡ checked (state_tests tables.now arrival.now.source arrival.now.destination conn) }
 {
-    let family = family_faults(conn);
-    let Outcome::Good(_, _) = family else {
-        return family;
-    };
-    input_faults(form, keys, md5, source, destination)
+    family_faults(conn)?;
+    input_faults(tables, arrival)
 }
 
-// 22: "two TCP-AO, or TCP-AO and MD5 together"; Ticket 9: "Two kind 19 give 22".
-fn option_faults(ao: usize, md5: usize) -> Outcome
-    ensures { result ≡ first (count_tests ao md5) unrefused }
+// 40: "one's complement sum, pseudo-header and checksum included, is not FFFF", between the addresses that came. The sum is of at most
+// 65,535 bytes: 20 stands before it.
+pub(crate) fn sum_faults(arrival: &LentArrival<'_>) -> Result<(), Outcome>
+    ensures { result ≡ checked (sum_tests arrival.now) }
 {
-    if 1 < ao {
-        return Outcome::Bad(22, NO_INDEX);
-    }
-    if ao == 0 {
-        if 1 < md5 {
-            return Outcome::Bad(22, NO_INDEX);
-        }
-        return Outcome::Good(0, 0);
-    }
-    if md5 == 0 {
-        return Outcome::Good(0, 0);
-    }
-    Outcome::Bad(22, NO_INDEX)
+    let sum = traffic::sums::segment_sum(arrival.source, arrival.destination, arrival.segment);
+    refuse_where(sum != 65535, 40)
 }
 
-// 20: "bad length or offset".
-fn length_faults(segment: &[u8]) -> Outcome
-    ensures { result ≡ first (length_tests 20 segment.now) unrefused }
+// 21: "malformed options"; 22: "two TCP-AO, or TCP-AO and MD5 together"; Ticket 9: "Two kind 19 give 22".
+pub(crate) fn form_faults(options: Option<Seen>) -> Result<(), Outcome>
+    ensures { result ≡ checked (option_tests options) }
 {
-    if !wire::header::well_sized(segment) {
-        return Outcome::Bad(20, NO_INDEX);
-    }
-    Outcome::Good(0, 0)
+    let seen = options.ok_or(refuse(21))?;
+    let ao = seen.ao.count;
+    let md5 = seen.md5.count;
+    refuse_where(1 < ao || 0 < ao && 0 < md5 || 1 < md5, 22)
 }
 
-// 40: "one's complement sum, pseudo-header and checksum included, is not FFFF", between the addresses that came.
-fn sum_faults(source: &[u8], destination: &[u8], segment: &[u8]) -> Outcome
+// 23, or 33 when signing: ports that are not the state's.
+pub(crate) fn port_faults(
+    number: u8,
+    header: Header,
+    source: u16,
+    destination: u16,
+) -> Result<(), Outcome>
     ensures { result
-        ≡ first (sum_tests (arrival_of source.now destination.now segment.now)) unrefused }
+        ≡ checked
+        (tests (refuse_of number)
+        (not (eqb header.source_port source) ∷ not (eqb header.destination_port destination) ∷ [])) }
 {
-    if traffic::sums::segment_sum(source, destination, segment) != 65535 {
-        return Outcome::Bad(40, NO_INDEX);
-    }
-    Outcome::Good(0, 0)
-}
-
-// 20, then 40: the sum is of at most 65,535 bytes.
-fn intact_faults(source: &[u8], destination: &[u8], segment: &[u8]) -> Outcome
-    ensures { result
-        ≡ first (intact_tests (arrival_of source.now destination.now segment.now)) unrefused }
-{
-    let size = length_faults(segment);
-    let Outcome::Good(_, _) = size else {
-        return size;
-    };
-    sum_faults(source, destination, segment)
-}
-
-// 21: "malformed options"; 22.
-fn form_faults(options: Options) -> Outcome
-    ensures { result ≡ first (option_tests options) unrefused }
-{
-    match options {
-        Options::Malformed => Outcome::Bad(21, NO_INDEX),
-        Options::Found(seen) => option_faults(seen.ao.count, seen.md5.count),
-    }
+    let same = header.source_port == source && header.destination_port == destination;
+    refuse_where(!same, number)
 }
 
 // 23: "pair is not the state's". The source of what arrives is our remote side.
-fn pair_faults(pair: Pair, source: &[u8], destination: &[u8], header: Header) -> Outcome
-    ensures { result ≡ first (header_pair_tests pair source.now destination.now header) unrefused }
+fn pair_faults(pair: Pair, source: &[u8], destination: &[u8], header: Header) -> Result<(), Outcome>
+    ensures { result ≡ checked (header_pair_tests pair source.now destination.now header) }
 {
-    let remote = pair.remote;
-    let local = pair.local;
-    if !is_address(source, pair.family, remote) {
-        return Outcome::Bad(23, NO_INDEX);
-    }
-    if !is_address(destination, pair.family, local) {
-        return Outcome::Bad(23, NO_INDEX);
-    }
-    if header.source_port != pair.remote_port {
-        return Outcome::Bad(23, NO_INDEX);
-    }
-    if header.destination_port != pair.local_port {
-        return Outcome::Bad(23, NO_INDEX);
-    }
-    Outcome::Good(0, 0)
+    let same = is_address(source, pair.family, pair.remote)
+        && is_address(destination, pair.family, pair.local);
+    refuse_where(!same, 23)?;
+    port_faults(23, header, pair.remote_port, pair.local_port)
 }
 
 // "a bare SYN (SYN set, ACK clear)"
 pub(crate) fn bare_syn(header: Header) -> bool
     ensures { result ≡ (header.syn && not header.ack) }
 {
-    if header.syn {
-        return !header.ack;
-    }
-    false
+    header.syn && !header.ack
 }
 
-fn syn_ack(header: Header) -> bool
-    ensures { result ≡ (header.syn && header.ack) }
+// 24, or 34 when signing: "wrong segment for the stage". Open: a bare SYN; opening: any but a segment that opens.
+pub(crate) fn stage_faults(
+    number: u8,
+    conn: Connection,
+    header: Header,
+    opens: bool,
+) -> Result<(), Outcome>
+    ensures { result
+        ≡ checked (test (refuse_of number) (cond (is_open_of conn) (header.syn && not header.ack) (not opens)) ∷ []) }
 {
-    if header.syn {
-        return header.ack;
-    }
-    false
-}
-
-// 24: "wrong segment for the stage". Open: a bare SYN; opening: anything but SYN with ACK.
-fn stage_faults(conn: Connection, header: Header) -> Outcome
-    ensures { result ≡ first (header_stage_tests conn header) unrefused }
-{
-    if is_open(conn) {
-        if bare_syn(header) {
-            return Outcome::Bad(24, NO_INDEX);
-        }
-        return Outcome::Good(0, 0);
-    }
-    if syn_ack(header) {
-        return Outcome::Good(0, 0);
-    }
-    Outcome::Bad(24, NO_INDEX)
+    let wrong = if is_open(conn) {
+        bare_syn(header)
+    } else {
+        !opens
+    };
+    refuse_where(wrong, number)
 }
 
 // 24 without a state: anything but a bare SYN.
-fn syn_faults(header: Header) -> Outcome
-    ensures { result ≡ first (header_syn_tests header) unrefused }
+pub(crate) fn syn_faults(header: Header) -> Result<(), Outcome>
+    ensures { result ≡ checked (header_syn_tests header) }
 {
-    if bare_syn(header) {
-        return Outcome::Good(0, 0);
-    }
-    Outcome::Bad(24, NO_INDEX)
+    refuse_where(!bare_syn(header), 24)
 }
 
-// 23, then 24.
-fn arrival_faults(conn: Connection, source: &[u8], destination: &[u8], header: Header) -> Outcome
-    ensures { result ≡ first (header_arrival_tests conn source.now destination.now header) unrefused }
-{
-    let pair = pair_faults(conn.pair, source, destination, header);
-    let Outcome::Good(_, _) = pair else {
-        return pair;
-    };
-    stage_faults(conn, header)
-}
-
-// With a state, up to 40: the input, and the segment's size and sum.
-pub fn early_faults(
-    form: u8,
-    keys: &[u8],
-    md5: &[u8],
-    source: &[u8],
-    destination: &[u8],
-    segment: &[u8],
+// 23, then 24. What opens an opening connection is a SYN with ACK.
+pub(crate) fn arrival_faults(
     conn: Connection,
-) -> Outcome
-    ensures { result
-        ≡ first (state_tests (tables_of form keys.now md5.now) source.now destination.now conn
-        ++ intact_tests (arrival_of source.now destination.now segment.now)) unrefused }
+    arrival: &LentArrival<'_>,
+    header: Header,
+) -> Result<(), Outcome>
+    ensures { result ≡ checked (header_arrival_tests conn arrival.now.source arrival.now.destination header) }
 {
-    let state = state_faults(form, keys, md5, source, destination, conn);
-    let Outcome::Good(_, _) = state else {
-        return state;
-    };
-    intact_faults(source, destination, segment)
-}
-
-// 21 to 24: form, pair and stage.
-pub fn formed_faults(conn: Connection, source: &[u8], destination: &[u8], header: Header) -> Outcome
-    ensures { result ≡ first (option_tests header.options
-        ++ header_arrival_tests conn source.now destination.now header) unrefused }
-{
-    let options = header.options;
-    let form = form_faults(options);
-    let Outcome::Good(_, _) = form else {
-        return form;
-    };
-    arrival_faults(conn, source, destination, header)
-}
-
-// The same without a state.
-pub fn early_syn_faults(
-    form: u8,
-    keys: &[u8],
-    md5: &[u8],
-    source: &[u8],
-    destination: &[u8],
-    segment: &[u8],
-) -> Outcome
-    ensures { result
-        ≡ first (input_tests (tables_of form keys.now md5.now) source.now destination.now
-        ++ intact_tests (arrival_of source.now destination.now segment.now)) unrefused }
-{
-    let input = input_faults(form, keys, md5, source, destination);
-    let Outcome::Good(_, _) = input else {
-        return input;
-    };
-    intact_faults(source, destination, segment)
-}
-
-pub fn formed_syn_faults(header: Header) -> Outcome
-    ensures { result ≡ first (option_tests header.options ++ header_syn_tests header) unrefused }
-{
-    let options = header.options;
-    let form = form_faults(options);
-    let Outcome::Good(_, _) = form else {
-        return form;
-    };
-    syn_faults(header)
+    pair_faults(conn.pair, arrival.source, arrival.destination, header)?;
+    stage_faults(24, conn, header, header.syn && header.ack)
 }

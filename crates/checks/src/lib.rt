@@ -6,5 +6,5 @@ pub mod begun;
 pub mod check;
 pub mod faults;
 pub mod opening;
+pub mod segment;
 pub mod signing;
-mod verify;

@@ -1,40 +1,42 @@
 // Which number an active opening or the operator's call gives: document 01, "Numbers given back", 10 to 18 and 35; an active
 // opening tests 19 before (`tcpao::open`). Assumes nothing.
-ghost use Rattle.std.specs.Prelude.{◌≡◌, not, [], ◌∷◌, ◌++◌};
-ghost use Rattle.octets.specs.Tests.{test, first};
-ghost use Rattle.tables.specs.Tables.{tables_of};
-ghost use Rattle.rules.specs.Calls.{refuse, table_tests, ask_tests, unrefused};
+ghost use Rattle.std.specs.Prelude.{◌≡◌, not, [], ◌∷◌, ◌++◌, Ok};
+ghost use Rattle.core.specs.Result.{result_and};
+ghost use Rattle.octets.specs.Tests.{test, checked};
+ghost use Rattle.keys.specs.Table.{found_of};
+ghost use Rattle.rules.specs.Calls.{refuse as refuse_of, table_tests, ask_tests};
 
-use crate::faults::{family_faults, table_faults};
-use rules::{Connection, NO_INDEX, Outcome};
+use crate::faults::{family_faults, refuse, refuse_where, table_faults};
+use keys::entry::Entry;
+use keys::table::Hit;
+use rules::{Connection, Outcome};
 use states::writers::is_md5;
+use tables::LentTables;
 
-// 10 to 17 and 45, then 35, where no entry answers.
-pub fn key_faults(form: u8, keys: &[u8], md5: &[u8], there: bool) -> Outcome
-    ensures { result ≡ first (table_tests (tables_of form keys.now md5.now) ++ (test (refuse 35)
-        (not there) ∷ [])) unrefused }
+// 10 to 17 and 45, then 35, where no entry answers; else the entry.
+#[tactic(auto, unfolding(keys::specs::Table::nobody))]
+pub fn key_faults(tables: &LentTables<'_>, found: Option<Hit>) -> Result<Entry, Outcome>
+    ensures { result
+        ≡ result_and
+        (checked (table_tests tables.now ++ (test (refuse_of 35) (not (found_of found).there) ∷ [])))
+        (Ok (found_of found).entry) }
 {
-    let loaded = table_faults(form, keys, md5);
-    let Outcome::Good(_, _) = loaded else {
-        return loaded;
-    };
-    if there {
-        return Outcome::Good(0, 0);
+    table_faults(tables)?;
+    match found {
+        Some(hit) => Ok(hit.entry),
+        None => Err(refuse(35)),
     }
-    Outcome::Bad(35, NO_INDEX)
 }
 
 // Which number: 18, 10 to 17 and 45, then 35, "no entry matching the pair has .. the RecvID to ask"; Ticket 9: by MD5 "always 35".
-pub fn ask_faults(form: u8, keys: &[u8], md5: &[u8], recv_id: u8, conn: Connection) -> Outcome
-    ensures { result ≡ first (ask_tests (tables_of form keys.now md5.now) recv_id conn) unrefused }
+#[tactic(auto, using(crate::proofs::Keyed::there_is))]
+pub fn ask_faults(tables: &LentTables<'_>, recv_id: u8, conn: Connection) -> Result<(), Outcome>
+    ensures { result ≡ checked (ask_tests tables.now recv_id conn) }
 {
-    let family = family_faults(conn);
-    let Outcome::Good(_, _) = family else {
-        return family;
-    };
-    if is_md5(conn) {
-        return key_faults(form, keys, md5, false);
-    }
-    let found = tables::find_recv(form, keys, md5, conn.pair, recv_id);
-    key_faults(form, keys, md5, found.there)
+    family_faults(conn)?;
+    table_faults(tables)?;
+    refuse_where(
+        is_md5(conn) || tables.find_recv(conn.pair, recv_id).is_none(),
+        35,
+    )
 }

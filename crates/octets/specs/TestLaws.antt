@@ -1,8 +1,9 @@
--- Laws of `first`: which tests failed where an outcome was given, and what holds of every outcome.
+-- Laws of `first` and `checked`: which tests failed where an outcome was given, and what holds of every outcome.
 -- Assumes nothing.
-use Rattle.std.specs.Prelude.{ℕ, ◌≡◌, refl, Bool, true, false, ◌&&◌, List, [], ◌∷◌, ◌++◌}
+use Rattle.std.specs.Prelude.{ℕ, ◌≡◌, refl, Bool, true, false, cond, ◌&&◌, List, [], ◌∷◌, ◌++◌, Result, Ok, Err}
+use Rattle.core.specs.Result.{result_and}
 use Rattle.std.proofs.Common.{ap, sym, ◌∙◌, arith}
-use Rattle.octets.specs.Tests.{any, Test, tests, joined, first}
+use Rattle.octets.specs.Tests.{any, Test, tests, joined, first, checked}
 
 module _ {O : Type 0} where
   -- no test of the list applies
@@ -79,3 +80,50 @@ module _ {O : Type 0} where
   -- behind a group of which no test applies
   pub first_past : (a b : List (Test O)) (o : O) → NoneApplies a → first (a ++ b) o ≡ first b o
   first_past a b o n = first-append a b o ∙ first-none a (first b o) n
+
+  -- `first` by `checked`: o where no test is the error
+  abbrev pub error_or : Result Unit O → O → O
+  error_or (Ok x) o = o
+  error_or (Err e) o = e
+
+  pub first-checked : (l : List (Test O)) (o : O) → first l o ≡ error_or (checked l) o
+  first-checked [] o = refl
+  first-checked (t ∷ l) o = go t.applies (first-checked l o)
+    where
+      go : (b : Bool) → first l o ≡ error_or (checked l) o → cond b t.gives (first l o) ≡ error_or (cond b (Err t.gives) (checked l)) o
+      go true ih = refl
+      go false ih = ih
+
+  pub checked-append : (a b : List (Test O)) → checked (a ++ b) ≡ result_and (checked a) (checked b)
+  checked-append [] b = refl
+  checked-append (t ∷ a) b = go t.applies (checked-append a b)
+    where
+      go : (c : Bool) → checked (a ++ b) ≡ result_and (checked a) (checked b)
+          → cond c (Err t.gives) (checked (a ++ b)) ≡ result_and (cond c (Err t.gives) (checked a)) (checked b)
+      go true ih = refl
+      go false ih = ih
+
+  -- where there is no error no test applies, and where there is one it is what is given
+  pub checked-none : (l : List (Test O)) → checked l ≡ Ok tt → NoneApplies l
+  checked-none [] e = tt
+  checked-none (t ∷ l) e = go t.applies refl (checked-none l)
+    where
+      go : (b : Bool) → t.applies ≡ b → (checked l ≡ Ok tt → NoneApplies l) → NoneApplies (t ∷ l)
+      go true q ih = let z : Err t.gives ≡ Ok tt = rw q at e in cc
+      go false q ih = (q, ih (rw q at e))
+
+  pub checked-passed : (l : List (Test O)) (o : O) → checked l ≡ Ok tt → first l o ≡ o
+  checked-passed l o e = first-checked l o ∙ ap (λ (r : Result Unit O). error_or r o) e
+
+  pub checked-given : (l : List (Test O)) (o : O) {x : O} → checked l ≡ Err x → first l o ≡ x
+  checked-given l o e = first-checked l o ∙ ap (λ (r : Result Unit O). error_or r o) e
+
+  -- an error passes f, if every outcome of the list does
+  pub checked-gives : (f : O → Bool) (l : List (Test O)) {x : O} → each_gives f l ≡ true → checked l ≡ Err x → f x ≡ true
+  checked-gives f [] p e = let z : Ok tt ≡ Err _ = e in cc
+  checked-gives f (t ∷ l) {x} p e = go (f t.gives) t.applies refl refl (checked-gives f l {x = x})
+    where
+      go : (b c : Bool) → f t.gives ≡ b → t.applies ≡ c → (each_gives f l ≡ true → checked l ≡ Err x → f x ≡ true) → f x ≡ true
+      go false c q r ih = let z : ◌≡◌ {A = ℕ} 0 1 = cc (rw q at p) in absurd (omega arith)
+      go true true q r ih = let z : Err t.gives ≡ Err x = rw r at e in let same : t.gives ≡ x = cc in rw (← same) q
+      go true false q r ih = ih (rw q at p) (rw r at e)

@@ -1,3 +1,4 @@
 pub mod Arriving
+pub mod Refusals
 pub mod SignedBytes
 pub mod SignBegin

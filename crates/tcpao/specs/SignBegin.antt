@@ -1,6 +1,6 @@
 -- Signing that has begun (src/sign_begun.rt): what a value of the code's SignBegun stands for, once every number is tested. A reader need
 -- not believe these: the calls cite the crate `rules` alone.
-use Rattle.std.specs.Prelude.{ℕ, ◌+◌, ◌≤◌, ◌≡◌, cond, List, ◌++◌, length, take, drop, replicate, eqb}
+use Rattle.std.specs.Prelude.{ℕ, ◌+◌, ◌≤◌, ◌≡◌, true, cond, Result, Ok, Err, List, ◌++◌, length, take, drop, replicate}
 use Rattle.std.proofs.Math.Seq.{paste}
 use Rattle.octets.specs.Octets.{bytes16}
 use Rattle.checksum.specs.declared.Sum.{Sum}
@@ -9,6 +9,7 @@ use Rattle.checksum.specs.Running.{begun, added as added_to, padded as padded_su
 use Rattle.wire.specs.Header.{header_end_of}
 use Rattle.keys.specs.declared.entry.Secret.{Secret}
 use Rattle.tables.specs.Tables.{Tables}
+use Rattle.rules.specs.declared.Outcome.{Outcome}
 use Rattle.rules.specs.declared.Outcome.TheVariants.{Good}
 use Rattle.rules.specs.declared.State.{State}
 use Rattle.rules.specs.Mac.{leaving_hidden_of, pseudo_header}
@@ -18,8 +19,11 @@ use Rattle.rules.specs.Calls.{outgoing, check_sign}
 use Rattle.traffic.specs.Padded.{padded}
 use Rattle.traffic.specs.MacContext.{MacView, mac_view, mac_absorb, mac_finished, fronted_by, digested_by}
 use Rattle.checks.specs.Begin.{mac_length_of}
+use Rattle.checks.specs.GroupLaws.{is_final}
 use Rattle.tcpao.specs.SignedBytes.{Form, ao_form, md5_form, form_of, option_with, added_by}
 use Rattle.tcpao.specs.declared.sign_begun.SignBegun.{SignBegun}
+use Rattle.tcpao.specs.declared.sign_begun.Carrier.{Carrier}
+use Rattle.tcpao.specs.declared.sign_begun.Carrier.TheVariants.{Ao, Md5}
 
 -- the signed header with zeros for MAC and checksum
 abbrev pub blank_header_of : Form → List ℕ → List ℕ
@@ -42,12 +46,13 @@ abbrev pub leaving_sum_of : State → ℕ → Sum
 leaving_sum_of q len = added_to begun (pseudo_header (local_address q.conn.pair) (remote_address q.conn.pair) len)
 
 -- where the MAC stands: behind the four bytes of TCP-AO, or the two of the MD5 option
-abbrev pub mac_place_of : ℕ → ℕ
-mac_place_of way = cond (eqb way 1) 22 24
+abbrev pub mac_place_of : Carrier → ℕ
+mac_place_of Ao = 24
+mac_place_of Md5 = 22
 
 -- what waits for the data: an option of the form f, and the MAC that the front leaves
 pub record Ready (f : Form) (v : MacView) (q : State) (s : List ℕ) (b : SignBegun) : Type 0 where
-  pub place : mac_place_of b.way ≡ 20 + length f.head
+  pub place : mac_place_of b.carrier ≡ 20 + length f.head
   pub bytes : b.mac_bytes ≡ f.bytes
   pub added : b.added ≡ added_by f
   pub header : b.header ≡ padded 60 (blank_header_of f s)
@@ -55,19 +60,20 @@ pub record Ready (f : Form) (v : MacView) (q : State) (s : List ℕ) (b : SignBe
   pub sum : b.sum ≡ leaving_sum_of q (length s + added_by f)
 
 pub record Starts (x : ℕ) (f : Form) (v : MacView) (q : State) (s : List ℕ) (b : SignBegun) : Type 0 where
-  pub outcome : b.outcome ≡ Good x q.ask_id
+  pub position : b.position ≡ x
   pub ready : Ready f v q s b
 
--- only where the outcome is Good does the rest mean something
-pub record SignBegins (t : Tables) (s : List ℕ) (room : ℕ) (q : State) (b : SignBegun) : Type 0 where
-  pub outcome : b.outcome ≡ check_sign t s room q
-  pub ready : (x r : ℕ) → check_sign t s room q ≡ Good x r
-      → Ready (form_of (outgoing t q).entry.secret q) (front_of_lem x (outgoing t q).entry.secret q s) q s b
+-- Good at a position, and the rest waits there; or a number, which is given as it is
+abbrev pub SignBegins : Tables → List ℕ → ℕ → State → Result SignBegun Outcome → Type 0
+SignBegins t s room q (Ok b) =
+    (check_sign t s room q ≡ Good b.position q.ask_id)
+    × Ready (form_of (outgoing t q).entry.secret q) (front_of_lem b.position (outgoing t q).entry.secret q s) q s b
+SignBegins t s room q (Err e) = (check_sign t s room q ≡ e) × (is_final e ≡ true)
 
 -- data go into the MAC and the sum, and nothing else changes
 pub record Fed (b : SignBegun) (d : List ℕ) (c : SignBegun) : Type 0 where
-  pub outcome : c.outcome ≡ b.outcome
-  pub way : c.way ≡ b.way
+  pub position : c.position ≡ b.position
+  pub carrier : c.carrier ≡ b.carrier
   pub added : c.added ≡ b.added
   pub header : c.header ≡ b.header
   pub bytes : c.mac_bytes ≡ b.mac_bytes
@@ -77,7 +83,7 @@ pub record Fed (b : SignBegun) (d : List ℕ) (c : SignBegun) : Type 0 where
 -- the MAC goes where its zeros stood
 abbrev pub with_mac : SignBegun → MacView → List ℕ
 with_mac b v =
-    paste b.header (mac_place_of b.way) (take (mac_length_of b.mac_bytes) (mac_finished v))
+    paste b.header (mac_place_of b.carrier) (take (mac_length_of b.mac_bytes) (mac_finished v))
     (length (take (mac_length_of b.mac_bytes) (mac_finished v)))
 
 -- and so does the checksum, of a sum that the header ends

@@ -2,60 +2,46 @@
 // byte of the output written, and only the signed length's. The whole call is one begin, one piece of data and one end. Assumes nothing at
 // the call; the functions below it say what the tests left.
 ghost use Rattle.std.specs.Prelude.{◌≡◌, ◌++◌, ◌+◌, ◌≤◌, length};
-ghost use Rattle.tables.specs.Tables.{tables_of};
+ghost use Rattle.keys.specs.Table.{found_of};
 ghost use Rattle.rules.specs.Answers.{signing_answer, signed_number};
 ghost use Rattle.rules.specs.Calls.{outgoing as outgoing_of, after_signing_of, written, signed, output};
-ghost use Rattle.rules.specs.declared.Signing.TheVariants as S;
+ghost use Rattle.rules.specs.Results.{signed_as};
 ghost use Rattle.tcpao.specs.SignBegin.{SignBegins, Writable, finished};
 
-use crate::sign_begun::{SignBegun, nothing, ready, ready_md5};
-use checks::signing::{added_on, input_faults, sign_faults};
-use keys::table::Found;
-use rules::{NO_INDEX, Outcome, Signed, Signing, State};
+use crate::open::refusal;
+use crate::sign_begun::{SignBegun, ready, ready_md5};
+use checks::signing::{input_faults, sign_faults};
+use keys::table::Hit;
+use rules::{Outcome, SignedSegment, State};
 use states::writers::{is_md5, is_open, with_sent};
-use tables::Index;
-use wire::header::header_of;
+use tables::{LentTables, Refusal};
 
-// The entry signed under: the outgoing key's; by MD5 the one that matches the pair.
-fn outgoing(form: u8, keys: &[u8], md5: &[u8], state: State) -> Found
-    ensures { result ≡ outgoing_of (tables_of form keys.now md5.now) state }
+// The entry signed under: the outgoing key's; on the MD5 way the one that matches the pair.
+fn outgoing(tables: &LentTables<'_>, state: State) -> Option<Hit>
+    ensures { found_of result ≡ outgoing_of tables.now state }
 {
-    let conn = state.conn;
-    if is_md5(conn) {
-        return tables::find_md5(form, keys, md5, conn.pair);
+    if is_md5(state.conn) {
+        tables.find_md5(state.conn.pair)
+    } else {
+        tables.find_send(state.conn.pair, state.send_id)
     }
-    tables::find_send(form, keys, md5, conn.pair, state.send_id)
 }
 
 // All that needs no data: every number, and what waits for the data. `room` is the output's length.
 pub fn begin(
-    form: u8,
-    keys: &[u8],
-    md5: &[u8],
+    tables: &LentTables<'_>,
     segment: &[u8],
     room: usize,
     state: State,
-) -> SignBegun
-    ensures { SignBegins (tables_of form keys.now md5.now) segment.now room state result }
+) -> Result<SignBegun, Outcome>
+    ensures { SignBegins tables.now segment.now room state result }
 {
-    let conn = state.conn;
-    let input = input_faults(form, keys, md5, segment, conn);
-    let Outcome::Good(_, _) = input else {
-        return nothing(input);
-    };
-    let header = header_of(segment, segment.len());
-    let found = outgoing(form, keys, md5, state);
-    let entry = found.entry;
-    let secret = entry.secret;
-    let added = added_on(conn, secret.mac_bytes);
-    let outcome = sign_faults(room, added, found.there, state, header);
-    let Outcome::Good(x, _) = outcome else {
-        return nothing(outcome);
-    };
-    if is_md5(conn) {
-        return ready_md5(x, secret, state, header.end, segment);
+    let sized = input_faults(tables, segment, state.conn)?;
+    let granted = sign_faults(room, outgoing(tables, state), state, sized.header())?;
+    if is_md5(state.conn) {
+        return Ok(ready_md5(granted, state, &sized));
     }
-    ready(x, added, secret, state, header.end, segment)
+    Ok(ready(granted, state, &sized))
 }
 
 // The signed header, then the data: only these bytes of the output change.
@@ -82,53 +68,29 @@ fn finish(begun: SignBegun, segment: &[u8], out: &mut [u8])
 fn after_signing(x: u64, state: State) -> State
     ensures { result ≡ after_signing_of x state }
 {
-    let conn = state.conn;
-    if is_open(conn) && is_md5(conn) {
-        return state;
-    }
-    with_sent(x, state)
-}
-
-// "A refusal leaves outputs and state alike".
-fn refused(n: u8, i: Index, state: State) -> Signed
-    ensures { result ≡ record { answer = S.Refused n; index = i; state = state } }
-{
-    Signed {
-        answer: Signing::Refused(n),
-        index: i,
-        state: state,
+    if is_open(state.conn) && is_md5(state.conn) {
+        state
+    } else {
+        with_sent(x, state)
     }
 }
 
-// The answer with the new state, and every byte of the output.
+// The answer with the new state, and every byte of the output. "A refusal leaves outputs and state alike".
 pub fn sign(
-    form: u8,
-    keys: &[u8],
-    md5: &[u8],
+    tables: &LentTables<'_>,
     segment: &[u8],
     out: &mut [u8],
     state: State,
-) -> Signed
-    ensures answer { result
-        ≡ signed (tables_of form keys.now md5.now) segment.now out.old state }
-    ensures storage { out.new ≡ output (tables_of form keys.now md5.now)
-        segment.now out.old state }
-    ensures number { signing_answer result.answer result.index
-        ≡ signed_number (tables_of form keys.now md5.now) segment.now out.old state }
+) -> Result<SignedSegment, Refusal>
+    ensures answer { signed_as state result ≡ signed tables.now segment.now out.old state }
+    ensures storage { out.new ≡ output tables.now segment.now out.old state }
+    ensures number { signing_answer (signed_as state result).answer (signed_as state result).index
+        ≡ signed_number tables.now segment.now out.old state }
 {
-    let begun = begin(form, keys, md5, segment, out.len(), state);
-    let outcome = begun.outcome;
-    let added = begun.added;
-    match outcome {
-        Outcome::Good(x, _) => {
-            finish(begun, segment, out);
-            Signed {
-                answer: Signing::Signed(segment.len() + added),
-                index: NO_INDEX,
-                state: after_signing(x, state),
-            }
-        }
-        Outcome::Passed => refused(0, NO_INDEX, state),
-        Outcome::Bad(n, i) => refused(n, i, state),
-    }
+    let begun = begin(tables, segment, out.len(), state).map_err(refusal)?;
+    finish(begun, segment, out);
+    Ok(SignedSegment {
+        len: segment.len() + begun.added,
+        state: after_signing(begun.position, state),
+    })
 }

@@ -3,8 +3,7 @@
 // lie, in as many pieces as they come; end puts the MAC into the header, and then the checksum. Between them a value holds all that is
 // needed, and no reference.
 ghost use Rattle.std.specs.Prelude.{◌≡◌, cond, ◌+◌, ◌*◌, ◌/◌, ◌≤◌, ◌<◌, length, get_or, replicate};
-ghost use Rattle.wire.specs.Header.{header_end_of};
-ghost use Rattle.rules.specs.Segment.{inserted, option_bytes};
+ghost use Rattle.rules.specs.Segment.{inserted, option_bytes, md5_option_bytes};
 ghost use Rattle.rules.specs.Mac.{pseudo_header};
 ghost use Rattle.rules.specs.Connection.{is_open_of, leaving, local_address, remote_address};
 ghost use Rattle.checksum.specs.Running.{begun, added as added_to};
@@ -15,41 +14,35 @@ ghost use Rattle.tcpao.specs.SignedBytes.{ao_form, md5_form, head_bytes, blank_o
 ghost use Rattle.tcpao.specs.SignBegin.{ao_front, md5_front, mac_place_of, Starts, Fed, checked_header, ended};
 
 use checks::begun::mac_length;
+use checks::segment::SizedSegment;
+use checks::signing::Granted;
 use checksum::Sum;
 use keys::entry::{Pair, Secret};
-use rules::{Connection, Outcome, State};
+use rules::{Connection, State};
 use states::position::extension_of;
 use states::writers::is_open;
-use traffic::context::{MacContext, unused};
-use traffic::flow::Flow;
+use traffic::context::MacContext;
+use traffic::flow::{Flow, leaving_hidden};
 
-// The outcome: a number, or the position with the asked RecvID. Where it is Good: the way (1 is MD5); how many bytes signing adds; the
-// signed header with zeros for MAC and checksum, in an array that has room for the longest; the MAC after its front, to be cut to so many
-// bytes; and the checksum's sum after the pseudo-header. Else these mean nothing.
+// Which option carries the MAC.
+#[derive(Clone, Copy)]
+pub enum Carrier {
+    Ao,
+    Md5,
+}
+
+// What every test let through: its position; the option that carries the MAC; how many bytes signing adds; the signed header with zeros for
+// MAC and checksum, in an array that has room for the longest; the MAC after its front, to be cut to so many bytes; and the checksum's sum
+// after the pseudo-header.
 #[derive(Clone, Copy)]
 pub struct SignBegun {
-    pub outcome: Outcome,
-    pub way: u8,
+    pub position: u64,
+    pub carrier: Carrier,
     pub added: usize,
     pub header: [u8; 60],
     pub mac: MacContext,
     pub mac_bytes: u8,
     pub sum: Sum,
-}
-
-// A number that was given.
-pub(crate) fn nothing(outcome: Outcome) -> SignBegun
-    ensures { result.outcome ≡ outcome }
-{
-    SignBegun {
-        outcome,
-        way: 0,
-        added: 0,
-        header: [0u8; 60],
-        mac: unused(),
-        mac_bytes: 0,
-        sum: Sum::start(),
-    }
 }
 
 // "For a bare SYN (SYN set, ACK clear) the destination ISN is zero", and while opening nothing else is signed.
@@ -92,33 +85,12 @@ fn head_of(header: &[u8], words: u8, kind: u8, len: u8, third: u8, fourth: u8) -
     requires { (20 ≤ length header.now) × (get_or header.now 12 0 + 16 * words < 256) }
     ensures { result ≡ head_bytes words kind len third fourth header.now }
 {
-    let checksum: u8 = 0;
-    [
-        header[0],
-        header[1],
-        header[2],
-        header[3],
-        header[4],
-        header[5],
-        header[6],
-        header[7],
-        header[8],
-        header[9],
-        header[10],
-        header[11],
-        header[12] + 16 * words,
-        header[13],
-        header[14],
-        header[15],
-        checksum,
-        checksum,
-        header[18],
-        header[19],
-        kind,
-        len,
-        third,
-        fourth,
-    ]
+    let mut head = [0u8; 24];
+    head[..20].copy_from_slice(&header[..20]);
+    head[12] += 16 * words;
+    head[16..18].fill(0);
+    head[20..].copy_from_slice(&[kind, len, third, fourth]);
+    head
 }
 
 // The signed header with zeros behind the option's first four bytes and for the checksum: the option of `len` bytes stands behind byte 20,
@@ -138,75 +110,60 @@ fn blank_header(header: &[u8], added: usize, kind: u8, len: u8, third: u8, fourt
     h
 }
 
-// Behind 37, by MD5, at its number x, under the entry's secret.
-pub(crate) fn ready_md5(
-    x: u64,
-    secret: Secret,
-    state: State,
-    end: usize,
-    segment: &[u8],
-) -> SignBegun
-    requires { Signable segment.now md5_form × (end ≡ header_end_of segment.now) }
-    ensures { Starts x md5_form (md5_front secret state segment.now) state segment.now result }
+// Behind 37, by MD5, at its number, under the entry's secret.
+// Kept (no plainer): beside ready, as the two options and the two MACs have other parts.
+pub(crate) fn ready_md5(granted: Granted, state: State, segment: &SizedSegment<'_>) -> SignBegun
+    requires { Signable segment.now md5_form × (granted.added ≡ md5_option_bytes) }
+    ensures { Starts granted.position md5_form (md5_front granted.secret state segment.now) state segment.now result }
 {
-    let header = blank_header(&segment[..end], 20, 19, 18, 0, 0);
-    let whole = end + 20;
-    let len = segment.len() + 20;
-    let conn = state.conn;
-    let flow = leaving_flow(conn);
-    let mac = traffic::digest::begin(secret, flow, len, &header[..whole]);
-    let sum = leaving_sum(conn.pair, len);
+    let old = segment.header_bytes();
+    let added = granted.added as usize;
+    let header = blank_header(old, added, 19, 18, 0, 0);
+    let whole = old.len() + added;
+    let len = segment.len() + added;
+    let flow = leaving_flow(state.conn);
+    let mac = traffic::digest::begin(granted.secret, flow, len, &header[..whole]);
     SignBegun {
-        outcome: Outcome::Good(x, state.ask_id),
-        way: 1,
-        added: 20,
+        position: granted.position,
+        carrier: Carrier::Md5,
+        added,
         header,
         mac,
         mac_bytes: 16,
-        sum,
+        sum: leaving_sum(state.conn.pair, len),
     }
 }
 
-// Behind 37, at position x, under the outgoing key's secret; the old header ends at `end`. "KeyID is the outgoing SendID, RNextKeyID the
-// asked RecvID."
-pub(crate) fn ready(
-    x: u64,
-    added: u16,
-    secret: Secret,
-    state: State,
-    end: usize,
-    segment: &[u8],
-) -> SignBegun
-    requires { Signable segment.now (ao_form secret state) × (end ≡ header_end_of segment.now) × (added ≡ option_bytes
-        secret.mac_bytes) }
-    ensures { Starts x (ao_form secret state) (ao_front x secret state segment.now) state segment.now result }
+// Behind 37, at the position granted, under the outgoing key's secret. "KeyID is the outgoing SendID, RNextKeyID the asked RecvID."
+pub(crate) fn ready(granted: Granted, state: State, segment: &SizedSegment<'_>) -> SignBegun
+    requires { Signable segment.now (ao_form granted.secret state) × (granted.added ≡ option_bytes granted.secret.mac_bytes) }
+    ensures { Starts granted.position (ao_form granted.secret state)
+        (ao_front granted.position granted.secret state segment.now) state segment.now result }
 {
+    let secret = granted.secret;
+    let old = segment.header_bytes();
+    let added = granted.added as usize;
     let n = secret.mac_bytes;
-    let more = added as usize;
-    let header = blank_header(
-        &segment[..end],
-        more,
-        29,
-        4 + n,
-        state.send_id,
-        state.ask_id,
+    let header = blank_header(old, added, 29, 4 + n, state.send_id, state.ask_id);
+    let whole = old.len() + added;
+    let len = segment.len() + added;
+    let mac = traffic::tag::begin(
+        secret,
+        leaving_hidden(secret),
+        leaving_flow(state.conn),
+        extension_of(granted.position),
+        20,
+        len,
+        &header[..whole],
     );
-    let whole = end + more;
-    let len = segment.len() + more;
-    let conn = state.conn;
-    let flow = leaving_flow(conn);
-    let extension = extension_of(x);
-    let hidden = traffic::flow::leaving_hidden(secret);
-    let mac = traffic::tag::begin(secret, hidden, flow, extension, 20, len, &header[..whole]);
-    let sum = leaving_sum(conn.pair, len);
     SignBegun {
-        outcome: Outcome::Good(x, state.ask_id),
-        way: 0,
-        added: more,
+        position: granted.position,
+        carrier: Carrier::Ao,
+        added,
         header,
         mac,
         mac_bytes: n,
-        sum,
+        sum: leaving_sum(state.conn.pair, len),
     }
 }
 
@@ -221,14 +178,16 @@ fn with_checksum(header: [u8; 60], sum: Sum) -> [u8; 60]
     h
 }
 
-// Where the MAC stands: behind the four bytes of TCP-AO, or the two of the MD5 option.
-fn mac_place(way: u8) -> usize
-    ensures { result ≡ mac_place_of way }
-{
-    if way == 1 {
-        return 22;
+impl Carrier {
+    // Where the MAC stands: behind the four bytes of TCP-AO, or the two of the MD5 option.
+    fn mac_place(self) -> usize
+        ensures { result ≡ mac_place_of self }
+    {
+        match self {
+            Carrier::Ao => 24,
+            Carrier::Md5 => 22,
+        }
     }
-    24
 }
 
 impl SignBegun {
@@ -236,17 +195,10 @@ impl SignBegun {
     pub fn data(self, data: &[u8]) -> Self
         ensures { Fed self «data».now result }
     {
-        let outcome = self.outcome;
-        let header = self.header;
-        let mac = self.mac;
         SignBegun {
-            outcome,
-            way: self.way,
-            added: self.added,
-            header,
-            mac: mac.update(data),
-            mac_bytes: self.mac_bytes,
+            mac: self.mac.update(data),
             sum: self.sum.add(data),
+            ..self
         }
     }
 
@@ -255,10 +207,9 @@ impl SignBegun {
         ensures { result ≡ ended self (mac_view self.mac) self.sum }
     {
         let mut header = self.header;
-        let mac = self.mac;
         let n = mac_length(self.mac_bytes);
-        let tag = mac.finish();
-        octets::copy_at(&mut header, mac_place(self.way), &tag[..n]);
+        let tag = self.mac.finish();
+        octets::copy_at(&mut header, self.carrier.mac_place(), &tag[..n]);
         with_checksum(header, self.sum)
     }
 }

@@ -1,11 +1,20 @@
 -- Begin, data and end are the whole.
-use Rattle.tables.specs.Tables.{tables_of}
-use Rattle.rules.specs.Connection.{arrival_of}
-use Rattle.checks.specs.BeginLaws.{syn-ends}
+use Rattle.std.proofs.Common.{◌≡◌, ℕ, List, drop, Ok, Err, sym, ap, ◌∙◌}
+use Rattle.wire.specs.Header.{header_end_of}
+use Rattle.rules.specs.Connection.{Arrival}
+use Rattle.checks.specs.BeginLaws.{settled, syn-ends}
 use Rattle.checks.proofs.check.check_syn.Goals as goal
 
-pub returns : goal.returns
-returns c =
+pub returns-in-Ok : goal.returns-in-Ok
+returns-in-Ok c =
     let a = c.args in
-    syn-ends (tables_of a.form a.keys.now a.md5.now) (arrival_of a.source.now a.destination.now a.segment.now) a.strict
-    c.begin_syn-begun.result c.begin_syn-begun.ensures c.finished.ensures
+    let b = c.in-Ok.begun in
+    let segment = ap (λ (a : Arrival). a.segment) c.arrival.view_is in
+    c.finished.ensures
+    ∙ ap (λ (s : List ℕ). settled (Ok b) (drop (header_end_of s) s)) segment
+    ∙ syn-ends a.tables.now a.arrival.now a.strict (Ok b) c.in-Ok.ensures
+
+pub returns-in-Err : goal.returns-in-Err
+returns-in-Err c =
+    let a = c.args in
+    syn-ends a.tables.now a.arrival.now a.strict (Err c.in-Err.outcome) c.in-Err.ensures

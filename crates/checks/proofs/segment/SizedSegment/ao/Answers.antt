@@ -1,0 +1,15 @@
+-- The option lies in the header: the law of Keyed.
+use Rattle.std.proofs.Common.{◌≡◌, ◌≤◌, true, rules}
+use mathlib.Core.Path.{subst}
+use Rattle.wire.specs.Header.{header_end_of, well_sized_of}
+use Rattle.rules.specs.Segment.{ao}
+use Rattle.checks.proofs.Keyed.{lies_ao}
+use Rattle.checks.proofs.segment.SizedSegment.ao.Goals as goal
+
+pub returns-clause-place : goal.returns-clause-place
+returns-clause-place c =
+    let here : c.unwrap_or_default.result.ao ≡ ao c.args.self.now = search rules in
+    lies_ao c.args.self.now
+    (subst (λ s. well_sized_of s ≡ true) c.self.view_is c.self.invariant.0)
+    (subst (λ s. header_end_of s ≤ 60) c.self.view_is c.self.invariant.1)
+    here
