@@ -29,6 +29,10 @@ bytes [] = []
 bytes (a ∷ []) = []
 bytes (a ∷ (b ∷ t)) = (digit a * 16 + digit b) ∷ bytes t
 
+-- digits alone, an even number of them, that are at most n bytes
+unfoldable pub paired : List ℕ → ℕ → Bool
+paired t n = (length t % 2 == 0 && all_digits_of t) && nat_le (length t / 2) n
+
 -- A column spells bytes if it is "-", which stands for none, or digits, an even number of them and not none.
 unfoldable pub spells : List ℕ → Bool
 spells t = cond (length t == 1) (slice_index t 0 == 45) (cond (length t == 0) false (cond (length t % 2 == 0) (all_digits_of t) false))
