@@ -9,6 +9,7 @@ use arrayvec::ArrayVec;
 use std::fmt;
 
 // The value of a digit.
+#[tactic(auto, unfolding(crate::specs::Hex::digit))]
 fn digit(c: u8) -> Option<u8>
     ensures value { result ≡ (if is_digit_of c then Some (digit_of c) else None) }
     ensures upper_bound { IfSome result (λ d. d < 16) }
@@ -79,6 +80,7 @@ pub fn sixteen(text: &[u8]) -> [u8; 16]
 }
 
 // One digit's value; 0 for any other column.
+#[tactic(auto, unfolding(crate::specs::Hex::digit))]
 pub fn figure(text: &[u8]) -> u8
     ensures { result ≡ figure_of text.now }
 {

@@ -1,18 +1,26 @@
 // A text in lines, and a line in columns with one space between: what the vector files are made of. Assumes nothing.
 // A text is bytes and no `&str`: a line that cannot be read is printed as it stands, whatever is in it.
-ghost use Rattle.std.specs.Prelude.{◌≡◌, suc, [], length, take, drop, ◌==◌, MatchOption};
+ghost use Rattle.std.specs.Prelude.{◌≡◌, ℕ, suc, List, [], length, take, drop, ◌==◌, MatchOption};
 ghost use Rattle.columns.specs.Lines.{before, line_at, column as column_of, is_remark_of};
 ghost use Rattle.std.specs.Iterator.{at_most};
 
-// The lines of a text. One that ends the text without '\n' is a line too.
+use std::marker::Model;
+
+// The lines of a text, of which a contract sees what is left. One that ends the text without '\n' is a line too.
 #[derive(Drop)]
 pub struct Lines<'a> {
     rest: &'a [u8],
 }
 
+impl<'a> Model for Lines<'a> {
+    ghost Value = { List ℕ };
+
+    ghost view = { λ l. l.rest.now };
+}
+
 impl<'a> Lines<'a> {
     pub fn new(text: &'a [u8]) -> Self
-        ensures { result.rest.now ≡ text.now }
+        ensures { result ≡ text.now }
     {
         Lines { rest: text }
     }
@@ -21,11 +29,12 @@ impl<'a> Lines<'a> {
 impl<'a> Iterator for Lines<'a> {
     type Item = &'a [u8];
 
-    ghost remaining = { λ l. at_most (length l.rest.now) };
+    ghost remaining = { λ l. at_most (length l) };
 
     // The next line is the one at the front of what is left, and then what is behind it is left.
-    ghost next_gives = { λ l line after. MatchOption line (l.rest.now ≡ []) (λ x. (x.now ≡ line_at 0 l.rest.now) × (after.rest.now ≡ drop (suc (before 10 l.rest.now)) l.rest.now)) };
+    ghost next_gives = { λ l line after. MatchOption line (l ≡ []) (λ x. (x.now ≡ line_at 0 l) × (after ≡ drop (suc (before 10 l)) l)) };
 
+    #[tactic(auto, unfolding(crate::specs::Lines::line_at))]
     fn next(&mut self) -> Option<&'a [u8]> {
         if self.rest.is_empty() {
             return None;

@@ -34,7 +34,7 @@ pub struct Hidden {
 }
 
 // "A verdict is accept with its extension, pass, or drop with a number."
-#[derive(Clone, Copy)]
+#[derive(Clone, Copy, PartialEq, Eq, Debug)]
 pub enum Verdict {
     Accept(u32),
     Pass,
