@@ -21,7 +21,12 @@ fn signed(side: Side, number: u32, flags: u8, state: State) -> ([u8; 36], State)
 // The SYN is first judged without a state.
 pub fn open(rt: &impl Print) -> Ends {
     rows::opening_title(rt);
-    let (syn, waiting) = signed(Side::Client, CLIENT_ISN, SYN, calls::open_active(CLIENT_ISN));
+    let (syn, waiting) = signed(
+        Side::Client,
+        CLIENT_ISN,
+        SYN,
+        calls::open_active(CLIENT_ISN),
+    );
     let stateless = calls::judge_syn(&syn);
     rows::opening(rt, Side::Client, "SYN, no state yet", &syn, stateless, 0);
     let passive = calls::open_passive(&syn, SERVER_ISN);
@@ -30,7 +35,14 @@ pub fn open(rt: &impl Print) -> Ends {
     let (syn_ack, server) = signed(Side::Server, SERVER_ISN, SYN_ACK, passive.state);
     let active = calls::judge(Side::Client, &syn_ack, waiting);
     let signs = active.state.send_id;
-    rows::opening(rt, Side::Server, "SYN+ACK, opens", &syn_ack, active.verdict, signs);
+    rows::opening(
+        rt,
+        Side::Server,
+        "SYN+ACK, opens",
+        &syn_ack,
+        active.verdict,
+        signs,
+    );
     Ends {
         client: active.state,
         server,

@@ -23,8 +23,7 @@ impl fmt::Display for Entries {
 }
 
 pub fn title(rt: &impl Print) {
-    let _ = print!(
-        rt;
+    let _ = print!(rt;
         "TCP-AO across the rollover: a client and a server exchange signed segments while their 32-bit sequence numbers\n\
         pass ffffffff. Whatever the order of arrival, each end finds where a segment truly lies, written extension:number.\n\n\
         Key 1 is HMAC-SHA-1-96, with KeyID 61 from the client and 84 from the server.\n\
@@ -45,15 +44,13 @@ fn row(rt: &impl Print, end: &str, state: State) {
 }
 
 fn columns(rt: &impl Print) {
-    let _ = println!(
-        rt;
+    let _ = println!(rt;
         "              accepted  drops  20  21  22  23  24  25  26  27  28  29  40  46  47  reference   signs"
     );
 }
 
 pub fn counts(rt: &impl Print, run: &Run) {
-    let _ = print!(
-        rt;
+    let _ = print!(rt;
         "\nAfter the first run: the counts, the reference of the arriving direction, the key that the end signs under.\n"
     );
     columns(rt);
@@ -69,15 +66,11 @@ fn same(yes: bool) -> &'static str {
 }
 
 pub fn verdicts(rt: &impl Print, first: &Run, second: &Run) {
-    let _ = print!(
-        rt;
-        "\nSecond run: the same arrivals, from the same opening, in another order:"
-    );
+    let _ = print!(rt; "\nSecond run: the same arrivals, from the same opening, in another order:");
     for no in SECOND_RUN {
         let _ = print!(rt; " {no}");
     }
-    let _ = print!(
-        rt;
+    let _ = print!(rt;
         ".\nThe verdicts of both runs, in the order of sending:\n\
         No.  what                 first run                     second run\n"
     );
@@ -102,8 +95,7 @@ pub fn ends(rt: &impl Print, first: &Run, second: &Run) {
     columns(rt);
     compared(rt, "client", first.ends.client, second.ends.client);
     compared(rt, "server", first.ends.server, second.ends.server);
-    let _ = print!(
-        rt;
+    let _ = print!(rt;
         "\nDemand 3 (docs/CLAIMS.md) is proved of every order: where no other arrival verifies under a key, each true segment is\n\
         accepted with its extension, and the reference and how many were accepted and dropped in all are the same. Here the\n\
         drops agree one by one too, since each forgery and the damaged copy fail at the same test in both orders, and the\n\

@@ -37,8 +37,7 @@ fn judged(rt: &impl Print, segment: &[u8], place: Option<u64>, verdict: Verdict,
     let key = name(segment[22]);
     let asks = name(segment[23]);
     let signs = name(outgoing);
-    let _ = println!(
-        rt;
+    let _ = println!(rt;
         "{number:08x}  {}  {key:<5}  {asks:<5}  {}{signs:<5}",
         Place(place),
         Told(verdict)
@@ -67,8 +66,7 @@ pub fn opening(
 }
 
 pub fn opening_title(rt: &impl Print) {
-    let _ = print!(
-        rt;
+    let _ = print!(rt;
         "Opening, with both ISNs just below the rollover. \"asks\" is the key that a segment asks its receiver to sign under,\n\
         \"signs\" the key that the receiver signs under from then on.\n"
     );
@@ -76,15 +74,13 @@ pub fn opening_title(rt: &impl Print) {
 }
 
 fn columns(rt: &impl Print) {
-    let _ = println!(
-        rt;
+    let _ = println!(rt;
         "No.  direction      what                 number    lies at     key    asks   verdict                       signs"
     );
 }
 
 pub fn first_title(rt: &impl Print) {
-    let _ = print!(
-        rt;
+    let _ = print!(rt;
         "\nFirst run, in the order of arrival; No. is the order of sending. A damaged copy of a segment has other data\n\
         under the old checksum. A forgery is a copy in which the MAC, the KeyID or the sequence number is changed and the\n\
         checksum is made right again. Nobody signed these, so they lie nowhere.\n"
@@ -93,8 +89,7 @@ pub fn first_title(rt: &impl Print) {
 }
 
 pub fn asking(rt: &impl Print) {
-    let _ = print!(
-        rt;
+    let _ = print!(rt;
         "     The server's operator asks that the client sign under key 2. Segments 10 to 12 say so; 7 to 9 were signed\n\
         \x20    before, and where one comes late the client goes back to key 1 until the next that asks for key 2. What it sends\n\
         \x20    then is signed under key 2. Forgery 16, with its number far ahead, comes first and moves no reference.\n"
