@@ -25,7 +25,10 @@ pub fn hmac(hash: HashAlgorithm, key: &[u8], data: &[u8], got: &[u8]) -> bool {
         requires { 0 < size }
     {
         data.chunks(size)
-            .fold(HmacContext::new(hash, key), |c, piece| c.update(hash, piece))
+            .fold(
+                HmacContext::new(hash, key),
+                |c, piece| c.update(hash, piece),
+            )
             .finish(hash)
             .starts_with(got)
     };

@@ -2,6 +2,7 @@
 // expects, and says whether they agree; nothing where the line cannot be read. Assumes nothing.
 use crate::pieces;
 use crate::report::result;
+use arrayvec::ArrayVec;
 use columns::hex;
 use columns::lines::{column, ends};
 use mac::hash_algorithm::HashAlgorithm;
@@ -34,6 +35,11 @@ fn name(hash: HashAlgorithm) -> &'static str {
     }
 }
 
+// What a column spells that is a message or a key.
+fn message(text: &[u8]) -> Option<ArrayVec<u8, 256>> {
+    hex::decode(text)
+}
+
 // FIPS 180-4, SHA-1 or SHA-256, and RFC 1321, MD5. Columns: message, digest.
 fn digest(rt: &impl Print, hash: HashAlgorithm, line: &[u8]) -> Option<bool> {
     let want = hex::decode::<32>(column(line, 1))?;
@@ -45,7 +51,7 @@ fn digest(rt: &impl Print, hash: HashAlgorithm, line: &[u8]) -> Option<bool> {
         let got = pieces::million(hash);
         return Some(result(rt, &got[..hash.digest_bytes()], true, &want));
     }
-    let message = hex::decode::<256>(column(line, 0))?;
+    let message = message(column(line, 0))?;
     let _ = print!(rt; "{} of {} bytes ", name(hash), message.len());
     // By the one call on the whole message, and in pieces.
     let compared = |got: &[u8]| result(rt, got, pieces::hash(hash, &message, got), &want);
@@ -58,8 +64,8 @@ fn digest(rt: &impl Print, hash: HashAlgorithm, line: &[u8]) -> Option<bool> {
 
 // RFC 2202, HMAC-SHA-1, and RFC 4231, HMAC-SHA-256. Columns: case, key, data, digest.
 fn code(rt: &impl Print, hash: HashAlgorithm, line: &[u8]) -> Option<bool> {
-    let key = hex::decode::<256>(column(line, 1))?;
-    let message = hex::decode::<256>(column(line, 2))?;
+    let key = message(column(line, 1))?;
+    let message = message(column(line, 2))?;
     let want = hex::decode::<32>(column(line, 3))?;
     if !ends(line, 4) {
         return None;
@@ -124,7 +130,7 @@ fn rfc4493(rt: &impl Print, line: &[u8], key: [u8; 16]) -> Option<bool> {
         b"k1" => named(rt, "K1", line, subkey(key)),
         b"k2" => named(rt, "K2", line, doubled(subkey(key))),
         bytes => {
-            let message = hex::decode::<256>(column(line, 1))?;
+            let message = message(column(line, 1))?;
             let want = block(column(line, 2))?;
             let mut digits = itoa::Buffer::new();
             if !ends(line, 3) || digits.format(message.len()).as_bytes() != bytes {
