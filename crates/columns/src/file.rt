@@ -1,15 +1,14 @@
 // A file that is read whole. Assumes nothing.
-ghost use Rattle.std.specs.Prelude.{◌<◌, ◌≡◌, ◌≤◌, IfSome, vec_len};
+ghost use Rattle.std.specs.Prelude.{◌<◌, IfSome, vec_len};
 
-use std::alloc::Allocator;
 use std::fs;
-use std::io::{Print, Read};
+use std::io::{ErrorKind, Print, Read};
 use std::rt::Files;
 
 // A text has fewer bytes.
 const TOO_LONG: usize = 65536;
 
-// The bytes of a file, where it is there and not too long; else that is printed. Where a read fails the file ends.
+// The bytes of a file, where it is there, not too long and there is memory for it; else that is printed. Where a read fails the file ends.
 pub fn read<R: Files + Print + Alloc>(rt: &R, name: &str) -> Option<Vec<u8, R::A>>
     ensures { IfSome result (λ text. vec_len text < 65536) }
 {
@@ -17,19 +16,17 @@ pub fn read<R: Files + Print + Alloc>(rt: &R, name: &str) -> Option<Vec<u8, R::A
         let _ = println!(rt; "{name} CANNOT BE OPENED");
         return None;
     };
-    let text = front(rt.alloc(), file);
+    let mut text = Vec::new(rt.alloc());
+    let taken = file.take(65536).read_to_end(&mut text);
+    if taken.is_err_and(|e| e.kind() == ErrorKind::OutOfMemory) {
+        let _ = println!(rt; "{name} DOES NOT FIT INTO MEMORY");
+        return None;
+    }
     if text.len() >= TOO_LONG {
         let _ = println!(rt; "{name} IS TOO LONG");
         return None;
     }
     Some(text)
-}
-
-// What a reader has, up to the length that is too long.
-fn front<A: Allocator>(alloc: A, reader: impl Read + Drop) -> Vec<u8, A> {
-    let mut text = Vec::new(alloc);
-    let _ = reader.take(65536).read_to_end(&mut text);
-    text
 }
 
 #[cfg(test)]
