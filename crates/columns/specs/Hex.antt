@@ -29,6 +29,10 @@ bytes [] = []
 bytes (a ∷ []) = []
 bytes (a ∷ (b ∷ t)) = (digit a * 16 + digit b) ∷ bytes t
 
+-- digits alone, an even number of them, that are at most n bytes
+unfoldable pub paired : List ℕ → ℕ → Bool
+paired t n = (length t % 2 == 0 && all_digits_of t) && nat_le (length t / 2) n
+
 -- A column spells bytes if it is "-", which stands for none, or digits, an even number of them and not none.
 unfoldable pub spells : List ℕ → Bool
 spells t = cond (length t == 1) (slice_index t 0 == 45) (cond (length t == 0) false (cond (length t % 2 == 0) (all_digits_of t) false))
@@ -37,9 +41,6 @@ spells t = cond (length t == 1) (slice_index t 0 == 45) (cond (length t == 0) fa
 unfoldable pub fits : List ℕ → ℕ → Bool
 fits t n = spells t && nat_le (length t / 2) n
 
--- how many bytes are read from a column into a buffer, and what the buffer then holds; where they do not fit, none are read
-unfoldable pub count : List ℕ → List ℕ → ℕ
-count t out = cond (fits t (length out)) (length t / 2) 0
-
+-- a buffer with the bytes that a column spells at its front; where they do not fit, it stays as it was
 unfoldable pub filled : List ℕ → List ℕ → List ℕ
 filled t out = cond (fits t (length out)) (paste out 0 (bytes t) (length t / 2)) out

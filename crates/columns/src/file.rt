@@ -1,48 +1,45 @@
 // A file that is read whole. Assumes nothing.
-ghost use Rattle.std.specs.Prelude.{◌≤◌, length};
-ghost use Rattle.columns.specs.Counts.{IsPrefixLen};
+ghost use Rattle.std.specs.Prelude.{◌<◌, IfSome, vec_len};
 
-use crate::report::text;
 use std::fs;
-use std::io::{Print, Read};
+use std::io::{ErrorKind, Print, Read};
 use std::rt::Files;
 
-// Puts a file at the front of out and gives how many bytes it has. Where it is not there, or has not
-// fewer bytes than out, it says so and gives out's length.
-pub fn read(rt: &(impl Files + Print), name: &[u8], out: &mut [u8]) -> usize
-    ensures { IsPrefixLen result out.new }
+// A text has fewer bytes.
+const TOO_LONG: usize = 65536;
+
+// The bytes of a file, where it is there, not too long and there is memory for it; else that is printed. Where a read fails the file ends.
+pub fn read<R: Files + Print + Alloc>(rt: &R, name: &str) -> Option<Vec<u8, R::A>>
+    ensures { IfSome result (λ text. vec_len text < 65536) }
 {
-    let Ok(path) = std::str::from_utf8(name) else {
-        fault(rt, name, b" CANNOT BE OPENED\n");
-        return out.len();
+    let Ok(file) = fs::open(rt, name) else {
+        let _ = println!(rt; "{name} CANNOT BE OPENED");
+        return None;
     };
-    let Ok(mut file) = fs::open(rt, path) else {
-        fault(rt, name, b" CANNOT BE OPENED\n");
-        return out.len();
-    };
-    let n = fill(&mut file, out);
-    if n == out.len() {
-        fault(rt, name, b" IS TOO LONG\n");
+    let mut text = Vec::new(rt.alloc());
+    let taken = file.take(65536).read_to_end(&mut text);
+    if taken.is_err_and(|e| e.kind() == ErrorKind::OutOfMemory) {
+        let _ = println!(rt; "{name} DOES NOT FIT INTO MEMORY");
+        return None;
     }
-    n
+    if text.len() >= TOO_LONG {
+        let _ = println!(rt; "{name} IS TOO LONG");
+        return None;
+    }
+    Some(text)
 }
 
-// Reads until out is full, the file ends or a read fails, and gives how many bytes it put at the front of out.
-fn fill(file: &mut impl Read, out: &mut [u8]) -> usize
-    ensures { IsPrefixLen result out.new }
-{
-    let mut done = 0;
-    while done < out.len() {
-        let n = file.read(&mut out[done..]).unwrap_or(0);
-        if n == 0 {
-            break;
-        }
-        done += n;
-    }
-    done
-}
+#[cfg(test)]
+mod tests {
+    use super::*;
+    use std::test::Fail;
 
-fn fault(rt: &impl Print, name: &[u8], what: &[u8]) {
-    text(rt, name);
-    text(rt, what);
+    #[test]
+    fn reads_a_file(rt: HostRuntime) -> Result<(), Fail> {
+        fs::write(&rt, "columns_test.txt", "one\ntwo")?;
+        let text = read(&rt, "columns_test.txt").ok_or("not read")?;
+        fs::remove_file(&rt, "columns_test.txt")?;
+        assert_eq!(rt; text.as_slice(), b"one\ntwo".as_slice());
+        Ok(())
+    }
 }

@@ -1,163 +1,111 @@
 // Bytes spelled in hexadecimal, two digits to a byte, in lower case, as the vector files have them.
 // Assumes nothing.
-ghost use Rattle.std.specs.Prelude.{◌≡◌, ◌+◌, ◌*◌, ◌/◌, ◌<◌, ◌≤◌, length, replicate};
-ghost use Rattle.std.proofs.Math.Seq.{paste};
+ghost use Rattle.std.specs.Prelude.{◌≡◌, ◌*◌, ◌+◌, ◌^◌, ◌<◌, ◌&&◌, replicate, Some, None, IfSome, if◌then◌else◌, option_map};
 ghost use Rattle.octets.specs.Octets.{get32};
-ghost use Rattle.columns.specs.Counts.{IsPrefixLen};
-ghost use Rattle.columns.specs.Hex.{within as within_of, is_digit_of, digit as digit_of, figure as figure_of, all_digits_of};
-ghost use Rattle.columns.specs.Hex.{bytes, spells as spells_of, fits as fits_of, count, filled};
+ghost use Rattle.columns.specs.Hex.{is_digit_of, digit as digit_of, figure as figure_of};
+ghost use Rattle.columns.specs.Hex.{bytes, paired, fits as fits_of, filled};
 
-use std::io::Print;
+use arrayvec::ArrayVec;
+use std::fmt;
 
-fn within(low: u8, high: u8, c: u8) -> bool
-    ensures { result ≡ within_of low high c }
+// The value of a digit.
+#[tactic(auto, unfolding(crate::specs::Hex::digit))]
+fn digit(c: u8) -> Option<u8>
+    ensures value { result ≡ (if is_digit_of c then Some (digit_of c) else None) }
+    ensures upper_bound { IfSome result (λ d. d < 16) }
 {
-    if c < low {
-        return false;
+    match c {
+        b'0'..=b'9' => Some(c - b'0'),
+        b'a'..=b'f' => Some(c - b'a' + 10),
+        _ => None,
     }
-    c <= high
 }
 
-fn is_digit(c: u8) -> bool
-    ensures { result ≡ is_digit_of c }
+// The byte that two digits spell.
+fn pair(high: u8, low: u8) -> Option<u8>
+    ensures { result ≡ (if is_digit_of high && is_digit_of low then Some (digit_of high * 16 + digit_of low) else None) }
 {
-    if within(b'0', b'9', c) {
-        return true;
-    }
-    within(b'a', b'f', c)
+    Some(digit(high)? * 16 + digit(low)?)
 }
 
-// The value of a digit; 0 for any other byte.
-fn digit(c: u8) -> u8
-    ensures value { result ≡ digit_of c }
-    ensures upper_bound { result < 16 }
+// The bytes of a column that is digits alone, an even number of them, where they are at most N.
+#[tactic(auto, using(crate::proofs::Spelling::read_pairs, std::proofs::lemmas::Grind::common_steps))]
+fn pairs<const N: usize>(text: &[u8]) -> Option<ArrayVec<u8, N>>
+    ensures { option_map (λ v. v.items) result ≡ (if paired text.now N then Some (bytes text.now) else None) }
 {
-    if within(b'0', b'9', c) {
-        return c - 48;
+    let mut out = ArrayVec::new();
+    let mut rest = text;
+    while let [high, low, behind @ ..] = rest {
+        out.try_push(pair(*high, *low)?).ok()?;
+        rest = behind;
     }
-    if within(b'a', b'f', c) {
-        return c - 87;
-    }
-    0
+    if rest.is_empty() { Some(out) } else { None }
 }
 
-fn all_digits(text: &[u8]) -> bool
-    ensures { result ≡ all_digits_of text.now }
+// The bytes that a column spells, where it spells any and at most N: "-" stands for none.
+#[tactic(auto, using(crate::proofs::Spelling::read_whole, std::proofs::lemmas::Grind::common_steps))]
+pub fn decode<const N: usize>(text: &[u8]) -> Option<ArrayVec<u8, N>>
+    ensures { option_map (λ v. v.items) result ≡ (if fits_of text.now N then Some (bytes text.now) else None) }
 {
-    let mut i = 0;
-    while i < text.len() {
-        if is_digit(text[i]) {
-            i += 1;
-        } else {
-            return false;
+    match text {
+        [] => None,
+        [only] => {
+            if *only == b'-' {
+                Some(ArrayVec::new())
+            } else {
+                None
+            }
         }
-    }
-    true
-}
-
-// Whether a column spells bytes: "-" for none, or an even number of digits.
-fn spells(text: &[u8]) -> bool
-    ensures { result ≡ spells_of text.now }
-{
-    if text.len() == 1 {
-        return text[0] == b'-';
-    }
-    if text.len() == 0 {
-        return false;
-    }
-    if text.len() % 2 == 0 {
-        all_digits(text)
-    } else {
-        false
+        _ => pairs(text),
     }
 }
 
-// Whether a column spells bytes, and at most n.
-pub fn fits(text: &[u8], n: usize) -> bool
-    ensures { result ≡ fits_of text.now n }
+// N bytes by value; what the column lacks of them is 0, and so are all where it spells none.
+fn padded<const N: usize>(text: &[u8]) -> [u8; N]
+    requires { N < 2 ^ 32 }
+    ensures { result ≡ filled text.now (replicate N 0) }
 {
-    if spells(text) {
-        text.len() / 2 <= n
-    } else {
-        false
+    let mut out = [0; N];
+    if let Some(bytes) = decode::<N>(text) {
+        out[..bytes.len()].copy_from_slice(&bytes);
     }
-}
-
-fn pair(a: u8, b: u8) -> u8
-    ensures { result ≡ digit_of a * 16 + digit_of b }
-{
-    digit(a) * 16 + digit(b)
-}
-
-fn decode(text: &[u8], out: &mut [u8])
-    requires { length text.now / 2 ≤ length out.old }
-    ensures { out.new ≡ paste out.old 0 (bytes text.now) (length text.now / 2) }
-{
-    let n = text.len() / 2;
-    let mut i = 0;
-    while i < n {
-        out[i] = pair(text[2 * i], text[2 * i + 1]);
-        i += 1;
-    }
-}
-
-// Puts the bytes that a column spells at the front of out and gives how many they are; where it
-// spells none, or more than out holds, it gives 0 and writes nothing.
-pub fn read(text: &[u8], out: &mut [u8]) -> usize
-    ensures value { result ≡ count text.now out.old }
-    ensures out_after { out.new ≡ filled text.now out.old }
-    ensures prefix_len { IsPrefixLen result out.new }
-{
-    if fits(text, out.len()) {
-        decode(text, out);
-        text.len() / 2
-    } else {
-        0
-    }
+    out
 }
 
 // Sixteen bytes by value; what the column lacks of them is 0.
 pub fn sixteen(text: &[u8]) -> [u8; 16]
     ensures { result ≡ filled text.now (replicate 16 0) }
 {
-    let mut b = [0u8; 16];
-    read(text, &mut b);
-    b
+    padded(text)
 }
 
 // One digit's value; 0 for any other column.
+#[tactic(auto, unfolding(crate::specs::Hex::digit))]
 pub fn figure(text: &[u8]) -> u8
     ensures { result ≡ figure_of text.now }
 {
-    if text.len() == 1 {
-        return digit(text[0]);
+    match text {
+        [c] => digit(*c).unwrap_or(0),
+        _ => 0,
     }
-    0
 }
 
 // Four bytes as a number, the highest first; what the column lacks of them is 0.
 pub fn word(text: &[u8]) -> u32
     ensures { result ≡ get32 (filled text.now (replicate 4 0)) 0 }
 {
-    let mut b = [0u8; 4];
-    read(text, &mut b);
-    octets::be32(b[0], b[1], b[2], b[3])
+    u32::from_be_bytes(padded(text))
 }
 
-// Writes bytes to standard output, two digits to a byte.
-pub fn print(rt: &impl Print, s: &[u8]) {
-    let mut i = 0;
-    while i < s.len() {
-        print_byte(rt, s[i]);
-        i += 1;
+// Bytes as they are printed, two digits to each.
+#[derive(Drop)]
+pub struct Hex<'a>(pub &'a [u8]);
+
+impl fmt::Display for Hex<'_> {
+    fn fmt<W: fmt::Write>(&self, f: &mut fmt::Formatter<W>) -> fmt::Result {
+        for byte in self.0 {
+            write!(f, "{byte:02x}")?;
+        }
+        Ok(())
     }
-}
-
-fn print_byte(rt: &impl Print, b: u8) {
-    let _ = print!(rt; "{b:02x}");
-}
-
-// Writes a number of four bytes likewise.
-pub fn print_word(rt: &impl Print, x: u32) {
-    let _ = print!(rt; "{x:08x}");
 }

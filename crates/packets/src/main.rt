@@ -4,7 +4,6 @@
 #![tactic(auto)]
 
 mod answers;
-mod derived;
 mod ends;
 mod limits;
 mod numbers;
@@ -12,7 +11,8 @@ mod packet;
 mod run;
 mod segment;
 
-use columns::lines;
+use columns::file;
+use columns::lines::{Lines, is_remark};
 use columns::report::Tally;
 use run::Run;
 use std::io::Print;
@@ -24,9 +24,9 @@ enum Suite {
     Rfc9187,
 }
 
-fn one_line(rt: &impl Print, suite: Suite, line: &[u8], next: &[u8], run: Run) -> Run {
-    if lines::is_remark(line) {
-        return run;
+fn one_line(rt: &impl Print, suite: Suite, line: &[u8], next: &[u8], run: &mut Run) {
+    if is_remark(line) {
+        return;
     }
     match suite {
         Suite::Rfc9235 => packet::packet(rt, line, next, run),
@@ -34,36 +34,25 @@ fn one_line(rt: &impl Print, suite: Suite, line: &[u8], next: &[u8], run: Run) -
     }
 }
 
-fn all_lines(rt: &impl Print, suite: Suite, text: &[u8], before: Run) -> Run {
-    let mut run = before;
-    let mut at = 0;
-    while at < text.len() {
-        let e = lines::find(text, at, b'\n');
-        let line = &text[at..e];
-        let next = lines::line(text, e + 1);
-        let r = one_line(rt, suite, line, next, run);
-        run = r;
-        at = e + 1;
-    }
-    run
-}
-
 // A file that cannot be read counts as a result that is not ok.
-fn file(rt: &(impl Files + Print), suite: Suite, name: &[u8], run: Run) -> Run {
-    let mut text = [0u8; 65536];
-    let n = columns::file::read(rt, name, &mut text);
-    if n == 65536 {
-        return run.counted(false);
+fn file<R: Files + Print + Alloc>(rt: &R, suite: Suite, name: &str, run: &mut Run) {
+    let Some(text) = file::read(rt, name) else {
+        run.count(false);
+        return;
+    };
+    let mut lines = Lines::new(&text).peekable();
+    while let Some(line) = lines.next() {
+        let next = lines.peek().copied().unwrap_or_default();
+        one_line(rt, suite, line, next, run);
     }
-    all_lines(rt, suite, &text[..n], run)
 }
 
 fn main(rt: HostRuntime) {
-    let run = numbers::opened(Tally::new());
-    let packets = file(&rt, Suite::Rfc9235, b"rfc9235.txt", run);
+    let mut packets = numbers::opened(Tally::default());
+    file(&rt, Suite::Rfc9235, "rfc9235.txt", &mut packets);
     let open = numbers::opened(packets.tally);
-    let state = open.client;
-    let numbers = file(&rt, Suite::Rfc9187, b"rfc9187.txt", open);
-    let t = limits::all(&rt, state, numbers.tally);
-    t.print(&rt);
+    let mut numbers = open;
+    file(&rt, Suite::Rfc9187, "rfc9187.txt", &mut numbers);
+    let tally = limits::all(&rt, open.client, numbers.tally);
+    let _ = println!(rt; "{tally}");
 }

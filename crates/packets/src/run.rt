@@ -10,34 +10,7 @@ pub struct Run {
 }
 
 impl Run {
-    pub fn counted(self, ok: bool) -> Self {
-        let tally = self.tally;
-        let client = self.client;
-        let server = self.server;
-        Run {
-            client,
-            server,
-            tally: tally.counted(ok),
-        }
-    }
-
-    pub fn with_client(self, client: State) -> Self {
-        let server = self.server;
-        let tally = self.tally;
-        Run {
-            client,
-            server,
-            tally,
-        }
-    }
-
-    pub fn with_server(self, server: State) -> Self {
-        let client = self.client;
-        let tally = self.tally;
-        Run {
-            client,
-            server,
-            tally,
-        }
+    pub fn count(&mut self, ok: bool) {
+        self.tally = self.tally.counted(ok);
     }
 }

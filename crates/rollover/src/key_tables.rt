@@ -1,61 +1,87 @@
 // The two key tables, in document 01's bytes ("Key table (house bytes)"): two entries at each end, each the mirror of one at the other end.
 // They match this connection's two addresses and ports and no others. Assumes nothing.
-use crate::storage::lay;
+use crate::script::Side;
 
-pub const CLIENT_PORT: u16 = 40017;
+// A key: its algorithm, its bytes, and the KeyIDs with which the two ends sign. The client's SendID of a key is the server's RecvID, and
+// the other way round.
+#[derive(Clone, Copy)]
+pub struct Key {
+    algorithm: u8,
+    bytes: [u8; 20],
+    pub client_id: u8,
+    pub server_id: u8,
+}
 
-pub const SERVER_PORT: u16 = 4470;
+pub const FIRST: Key = Key {
+    algorithm: 1,
+    bytes: *b"the first master key",
+    client_id: 61,
+    server_id: 84,
+};
 
-// The client's SendID of a key is the server's RecvID, and the other way round.
-pub const CLIENT_1: u8 = 61;
+pub const OTHER: Key = Key {
+    algorithm: 2,
+    bytes: *b"the other master key",
+    client_id: 62,
+    server_id: 85,
+};
 
-pub const SERVER_1: u8 = 84;
+impl Side {
+    pub fn address(self) -> [u8; 4] {
+        match self {
+            Side::Client => [10, 4, 0, 17],
+            Side::Server => [10, 4, 0, 1],
+        }
+    }
 
-pub const CLIENT_2: u8 = 62;
-
-pub const SERVER_2: u8 = 85;
-
-pub fn address(client: bool) -> [u8; 4] {
-    if client {
-        [10, 4, 0, 17]
-    } else {
-        [10, 4, 0, 1]
+    pub fn port(self) -> u16 {
+        match self {
+            Side::Client => 40017,
+            Side::Server => 4470,
+        }
     }
 }
 
-// An entry is kind 4, flags 1 (all options covered), algorithm, SendID, RecvID; local port low and high, remote port low and high; local
-// address and prefix, remote address and prefix; key length, and the key padded with zeros to 80 bytes.
-const CLIENT_FRONT: [u8; 24] =
-    *b"\x04\x01\x01\x3d\x54\x9c\x51\x9c\x51\x11\x76\x11\x76\x0a\x04\x00\x11\x20\x0a\x04\x00\x01\x20\x14";
+impl Key {
+    pub fn id(&self, side: Side) -> u8 {
+        match side {
+            Side::Client => self.client_id,
+            Side::Server => self.server_id,
+        }
+    }
 
-const SERVER_FRONT: [u8; 24] =
-    *b"\x04\x01\x01\x54\x3d\x11\x76\x11\x76\x9c\x51\x9c\x51\x0a\x04\x00\x01\x20\x0a\x04\x00\x11\x20\x14";
-
-fn front(client: bool) -> [u8; 24] {
-    if client { CLIENT_FRONT } else { SERVER_FRONT }
+    // An entry is kind 4, flags 1 (all options covered), algorithm, SendID, RecvID; local port low and high, remote port low and high;
+    // local address and prefix, remote address and prefix; key length, and the key padded with zeros to 80 bytes.
+    fn entry(&self, side: Side) -> [u8; 104] {
+        let [l0, l1] = side.port().to_be_bytes();
+        let [r0, r1] = side.other().port().to_be_bytes();
+        let mut entry = [0; 104];
+        entry[..5].copy_from_slice(&[4, 1, self.algorithm, self.id(side), self.id(side.other())]);
+        entry[5..13].copy_from_slice(&[l0, l1, l0, l1, r0, r1, r0, r1]);
+        entry[13..17].copy_from_slice(&side.address());
+        entry[17] = 32;
+        entry[18..22].copy_from_slice(&side.other().address());
+        entry[22] = 32;
+        entry[23] = 20;
+        entry[24..44].copy_from_slice(&self.bytes);
+        entry
+    }
 }
 
-// Key 1 is for algorithm 1. The entry of key 2 differs from that of key 1 in the algorithm, 2, and in its IDs, one higher.
-pub fn table(client: bool) -> [u8; 208] {
-    let f = front(client);
-    let mut t = [0u8; 208];
-    lay(&mut t, 0, &f);
-    lay(&mut t, 24, b"the first master key");
-    lay(&mut t, 104, &f);
-    lay(&mut t, 106, &[2, second(f[3]), second(f[4])]);
-    lay(&mut t, 128, b"the other master key");
-    t
+pub fn table(side: Side) -> [u8; 208] {
+    let mut table = [0; 208];
+    table[..104].copy_from_slice(&FIRST.entry(side));
+    table[104..].copy_from_slice(&OTHER.entry(side));
+    table
 }
 
-fn second(id: u8) -> u8 {
-    std::num::wrapping_add_u8(id, 1)
-}
-
-// The key that a KeyID or RNextKeyID names: 1, 2, or 0 for none.
-pub fn key_of(id: u8) -> u8 {
-    match id {
-        CLIENT_1 | SERVER_1 => 1,
-        CLIENT_2 | SERVER_2 => 2,
-        _ => 0,
+// The name of the key that a KeyID or RNextKeyID names.
+pub fn name(id: u8) -> &'static str {
+    if id == FIRST.client_id || id == FIRST.server_id {
+        "key 1"
+    } else if id == OTHER.client_id || id == OTHER.server_id {
+        "key 2"
+    } else {
+        "none"
     }
 }

@@ -4,28 +4,23 @@
 #![tactic(auto)]
 
 mod alike;
-mod ends;
+mod calls;
 mod key_tables;
 mod opening;
 mod report;
 mod rows;
+mod runs;
 mod script;
 mod segments;
-mod storage;
-mod verdicts;
 mod words;
 
 fn main(rt: HostRuntime) {
     report::title(&rt);
     let start = opening::open(&rt);
-    let mut wire = [0u8; 1088];
-    let mut places = [0u64; 17];
-    let mut first = [0u64; 17];
-    let mut second = [0u64; 17];
     rows::first_title(&rt);
-    let one = ends::first_run(&rt, &mut wire, &mut places, &mut first, start);
-    report::counts(&rt, one);
-    let two = ends::second_run(&rt, &mut wire, &mut places, &mut second, start);
-    report::verdicts(&rt, &first, &second);
-    report::ends(&rt, one, two);
+    let (way, one) = runs::first(&rt, start);
+    report::counts(&rt, &one);
+    let two = runs::second(&way, start);
+    report::verdicts(&rt, &one, &two);
+    report::ends(&rt, &one, &two);
 }

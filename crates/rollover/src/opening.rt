@@ -1,111 +1,50 @@
 // The opening: an active one at the client, a passive one at the server. Assumes nothing.
-use crate::ends::Ends;
-use crate::verdicts::coded;
-use crate::{ends, key_tables, rows, segments};
+use crate::runs::Ends;
+use crate::script::Side;
+use crate::segments::{SYN, SYN_ACK, header};
+use crate::{calls, rows};
 use rules::State;
 use std::io::Print;
-use tables::BYTES;
 
 // Both ISNs lie just below the rollover.
 const CLIENT_ISN: u32 = 0xffffffc0;
 
 const SERVER_ISN: u32 = 0xffffffd8;
 
-fn active() -> State {
-    let t = key_tables::table(true);
-    let no_md5 = [0u8; 0];
-    let local = key_tables::address(true);
-    let remote = key_tables::address(false);
-    let opened = tcpao::open::open_active(
-        BYTES,
-        &t,
-        &no_md5,
-        &local,
-        &remote,
-        key_tables::CLIENT_PORT,
-        key_tables::SERVER_PORT,
-        CLIENT_ISN,
-        key_tables::CLIENT_1,
-    );
-    opened.state
-}
-
 // Signs a segment without data: header 20, TCP-AO 16.
-fn signed(client: bool, number: u32, flags: u8, state: State, out: &mut [u8; 36]) -> State {
-    let t = key_tables::table(client);
-    let no_md5 = [0u8; 0];
-    let segment = segments::header(state, number, flags);
-    let s = tcpao::sign::sign(BYTES, &t, &no_md5, &segment, out, state);
-    s.state
+fn signed(side: Side, number: u32, flags: u8, state: State) -> ([u8; 36], State) {
+    let mut out = [0; 36];
+    let after = calls::sign(side, &header(state, number, flags), &mut out, state);
+    (out, after)
 }
 
 // The SYN is first judged without a state.
-fn judge_syn(rt: &impl Print, syn: &[u8; 36]) {
-    let t = key_tables::table(false);
-    let no_md5 = [0u8; 0];
-    let source = key_tables::address(true);
-    let destination = key_tables::address(false);
-    let c = tcpao::judge::judge_syn(BYTES, &t, &no_md5, &source, &destination, syn, true);
-    let v = c.verdict;
-    rows::opening(rt, true, b"SYN, no state yet    ", syn, coded(v), 0);
-}
-
-fn passive(rt: &impl Print, syn: &[u8; 36]) -> State {
-    let t = key_tables::table(false);
-    let no_md5 = [0u8; 0];
-    let source = key_tables::address(true);
-    let destination = key_tables::address(false);
-    let j = tcpao::judge::open_passive(
-        BYTES,
-        &t,
-        &no_md5,
-        &source,
-        &destination,
-        syn,
-        SERVER_ISN,
-        true,
-    );
-    let v = j.verdict;
-    let state = j.state;
-    rows::opening(
-        rt,
-        true,
-        b"SYN, opens           ",
-        syn,
-        coded(v),
-        state.send_id,
-    );
-    state
-}
-
-fn answered(rt: &impl Print, syn_ack: &[u8; 36], waiting: State) -> State {
-    let j = ends::judged(true, syn_ack, waiting);
-    let v = j.verdict;
-    let state = j.state;
-    rows::opening(
-        rt,
-        false,
-        b"SYN+ACK, opens       ",
-        syn_ack,
-        coded(v),
-        state.send_id,
-    );
-    state
-}
-
 pub fn open(rt: &impl Print) -> Ends {
-    let mut syn = [0u8; 36];
-    let mut syn_ack = [0u8; 36];
     rows::opening_title(rt);
-    let waiting = signed(true, CLIENT_ISN, segments::SYN, active(), &mut syn);
-    judge_syn(rt, &syn);
-    let server = signed(
-        false,
-        SERVER_ISN,
-        segments::SYN_ACK,
-        passive(rt, &syn),
-        &mut syn_ack,
+    let (syn, waiting) = signed(
+        Side::Client,
+        CLIENT_ISN,
+        SYN,
+        calls::open_active(CLIENT_ISN),
     );
-    let client = answered(rt, &syn_ack, waiting);
-    Ends { client, server }
+    let stateless = calls::judge_syn(&syn);
+    rows::opening(rt, Side::Client, "SYN, no state yet", &syn, stateless, 0);
+    let passive = calls::open_passive(&syn, SERVER_ISN);
+    let signs = passive.state.send_id;
+    rows::opening(rt, Side::Client, "SYN, opens", &syn, passive.verdict, signs);
+    let (syn_ack, server) = signed(Side::Server, SERVER_ISN, SYN_ACK, passive.state);
+    let active = calls::judge(Side::Client, &syn_ack, waiting);
+    let signs = active.state.send_id;
+    rows::opening(
+        rt,
+        Side::Server,
+        "SYN+ACK, opens",
+        &syn_ack,
+        active.verdict,
+        signs,
+    );
+    Ends {
+        client: active.state,
+        server,
+    }
 }

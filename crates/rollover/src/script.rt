@@ -1,57 +1,120 @@
 // What is sent, numbered from 1 in the order of sending, and the order of events in both runs. Assumes nothing.
 
-// What a numbered segment is: data that one end signs; or, made on the way from the segment numbered before it, the same once more, one
-// that was damaged, or a forgery.
-pub const DATA: u8 = 0;
+// The two ends.
+#[derive(Clone, Copy, PartialEq, Eq)]
+pub enum Side {
+    Client,
+    Server,
+}
 
-pub const AGAIN: u8 = 1;
-
-pub const DAMAGED: u8 = 2;
-
-const WRONG_MAC: u8 = 3;
-
-const UNKNOWN_KEY: u8 = 4;
-
-const FAR_AHEAD: u8 = 5;
-
-// Which byte of the copy is changed, and which of its bits: one of the data, the MAC's first, the KeyID, the sequence number's first.
-pub const CHANGED_BYTE: [u8; 6] = [0, 0, 40, 24, 22, 4];
-
-pub const CHANGED_BITS: [u8; 6] = [0, 0, 1, 128, 93, 112];
-
-pub fn kind(no: u8) -> u8 {
-    match no {
-        3 => DAMAGED,
-        6 | 12 => AGAIN,
-        8 => WRONG_MAC,
-        14 => UNKNOWN_KEY,
-        16 => FAR_AHEAD,
-        _ => DATA,
+impl Side {
+    pub fn other(self) -> Self {
+        match self {
+            Side::Client => Side::Server,
+            Side::Server => Side::Client,
+        }
     }
 }
 
-// The last number.
-pub const LAST: u8 = 16;
+// What a numbered segment is: data that one end signs; or, made on the way from the segment numbered before it, the same once more, one
+// that was damaged, or a forgery.
+#[derive(Clone, Copy, PartialEq, Eq)]
+pub enum Kind {
+    Data,
+    Again,
+    Damaged,
+    WrongMac,
+    UnknownKey,
+    FarAhead,
+}
+
+impl Kind {
+    pub fn of(no: u8) -> Self {
+        match no {
+            3 => Kind::Damaged,
+            6 | 12 => Kind::Again,
+            8 => Kind::WrongMac,
+            14 => Kind::UnknownKey,
+            16 => Kind::FarAhead,
+            _ => Kind::Data,
+        }
+    }
+
+    // Which byte of the copy is changed, and which of its bits: one of the data, the MAC's first, the KeyID, the sequence number's first.
+    pub fn change(self) -> Option<(usize, u8)> {
+        match self {
+            Kind::Data | Kind::Again => None,
+            Kind::Damaged => Some((40, 1)),
+            Kind::WrongMac => Some((24, 128)),
+            Kind::UnknownKey => Some((22, 93)),
+            Kind::FarAhead => Some((4, 112)),
+        }
+    }
+}
 
 // 7 to 12 come from the server, the others from the client.
-pub fn from_client(no: u8) -> bool {
+pub fn sender(no: u8) -> Side {
     match no {
-        7..=12 => false,
-        _ => true,
+        7..=12 => Side::Server,
+        _ => Side::Client,
     }
 }
 
 // Where the data of a segment begin, counted from the sender's ISN; 24 bytes in each.
-pub const OFFSETS: [u8; 17] = [0, 1, 25, 0, 49, 73, 0, 1, 0, 25, 49, 73, 0, 97, 0, 121, 0];
+pub fn offset(no: u8) -> u32 {
+    match no {
+        1 | 7 => 1,
+        2 | 9 => 25,
+        4 | 10 => 49,
+        5 | 11 => 73,
+        13 => 97,
+        15 => 121,
+        _ => 0,
+    }
+}
 
-// Events: SEND + n sends n, n alone is its arrival, and ASK is the server's operator asking for key 2.
-pub const SEND: u8 = 100;
+// The segment of a number is sent, it arrives, or the server's operator asks for key 2.
+#[derive(Clone, Copy)]
+pub enum Event {
+    Send(u8),
+    Arrive(u8),
+    Ask,
+}
 
-pub const ASK: u8 = 200;
-
-pub const FIRST_RUN: [u8; 33] = [
-    101, 102, 103, 104, 105, 106, 1, 5, 3, 2, 6, 4, 107, 108, 109, 200, 110, 111, 112, 10, 8, 9, 7,
-    11, 12, 113, 114, 115, 116, 16, 14, 15, 13,
+pub const FIRST_RUN: [Event; 33] = [
+    Event::Send(1),
+    Event::Send(2),
+    Event::Send(3),
+    Event::Send(4),
+    Event::Send(5),
+    Event::Send(6),
+    Event::Arrive(1),
+    Event::Arrive(5),
+    Event::Arrive(3),
+    Event::Arrive(2),
+    Event::Arrive(6),
+    Event::Arrive(4),
+    Event::Send(7),
+    Event::Send(8),
+    Event::Send(9),
+    Event::Ask,
+    Event::Send(10),
+    Event::Send(11),
+    Event::Send(12),
+    Event::Arrive(10),
+    Event::Arrive(8),
+    Event::Arrive(9),
+    Event::Arrive(7),
+    Event::Arrive(11),
+    Event::Arrive(12),
+    Event::Send(13),
+    Event::Send(14),
+    Event::Send(15),
+    Event::Send(16),
+    Event::Arrive(16),
+    Event::Arrive(14),
+    Event::Arrive(15),
+    Event::Arrive(13),
 ];
 
 // The same arrivals. Of those at the client, 7 to 12, the last true one again asks for key 2.

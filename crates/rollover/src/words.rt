@@ -1,121 +1,72 @@
-// What is printed: bytes as they stand, numbers, and the words for a kind, a direction, a key and a verdict, each padded to its column's
-// width. Assumes nothing.
-use crate::storage::part;
-use crate::{key_tables, script};
-use std::io::Print;
-
-// A write that fails is passed over, here and below.
-pub fn text(rt: &impl Print, s: &[u8]) {
-    let _ = rt.write_all(s);
-}
-
-pub fn decimal(rt: &impl Print, n: u64) {
-    let _ = rt.print(n);
-}
-
-pub fn hex(rt: &impl Print, n: u64) {
-    let _ = print!(rt; "{n:08x}");
-}
-
-// A number in two places, and in four.
-pub fn two(rt: &impl Print, n: u64) {
-    if n < 10 {
-        text(rt, b" ");
-    }
-    decimal(rt, n);
-}
-
-pub fn four(rt: &impl Print, n: u64) {
-    if n < 100 {
-        text(rt, b" ");
-    }
-    text(rt, b" ");
-    two(rt, n);
-}
+// What is printed of a position, of a segment's kind, of its direction and of a verdict. Assumes nothing.
+use crate::script::{Kind, Side};
+use rules::Verdict;
+use std::fmt;
 
 // A 64-bit position: extension, colon, number.
-pub fn position(rt: &impl Print, x: u64) {
-    decimal(rt, x / 4294967296);
-    text(rt, b":");
-    hex(rt, x % 4294967296);
-}
+#[derive(Drop)]
+pub struct Position(pub u64);
 
-pub fn direction(rt: &impl Print, from_client: bool) {
-    if from_client {
-        text(rt, b"  to server      ");
-    } else {
-        text(rt, b"  to client      ");
+impl fmt::Display for Position {
+    fn fmt<W: fmt::Write>(&self, f: &mut fmt::Formatter<W>) -> fmt::Result {
+        write!(f, "{}:{:08x}", self.0 >> 32, self.0 & 0xffffffff)
     }
 }
 
-// The kinds of `script`, 17 bytes each.
-const KINDS: [u8; 102] = *b"data             \
-    repeat of        \
-    damaged data of  \
-    forged MAC of    \
-    forged KeyID of  \
-    forged number of ";
+// Where a segment comes from is told by whither it goes.
+pub fn direction(from: Side) -> &'static str {
+    match from {
+        Side::Client => "to server",
+        Side::Server => "to client",
+    }
+}
 
 // What a numbered segment is; all but data name the segment that they are made from.
-pub fn what(rt: &impl Print, no: u8) {
-    let kind = script::kind(no);
-    let at = kind as usize * 17;
-    text(rt, part(&KINDS, at, 17));
-    if kind == script::DATA {
-        text(rt, b"    ");
-    } else {
-        two(rt, std::num::wrapping_sub_u64(no as u64, 1));
-        text(rt, b"  ");
+#[derive(Drop)]
+pub struct What(pub u8);
+
+impl fmt::Display for What {
+    fn fmt<W: fmt::Write>(&self, f: &mut fmt::Formatter<W>) -> fmt::Result {
+        let name = match Kind::of(self.0) {
+            Kind::Data => return write!(f, "{:<21}", "data"),
+            Kind::Again => "repeat of",
+            Kind::Damaged => "damaged data of",
+            Kind::WrongMac => "forged MAC of",
+            Kind::UnknownKey => "forged KeyID of",
+            Kind::FarAhead => "forged number of",
+        };
+        write!(f, "{name:<17}{:>2}  ", self.0.wrapping_sub(1))
     }
 }
 
-pub fn key(rt: &impl Print, id: u8) {
-    match key_tables::key_of(id) {
-        1 => text(rt, b"key 1"),
-        2 => text(rt, b"key 2"),
-        _ => text(rt, b"none "),
+// The meanings of 20 to 29 and of 40; a number that none of them is is printed without one.
+fn reason(number: u8) -> &'static str {
+    match number {
+        20 => "bad length or offset",
+        21 => "malformed options",
+        22 => "two signing options",
+        23 => "pair not the state's",
+        24 => "wrong for the stage",
+        25 => "TCP-AO missing",
+        26 => "KeyID has no entry",
+        27 => "MAC length wrong",
+        28 => "no position",
+        29 => "MAC differs",
+        40 => "checksum wrong",
+        _ => "",
     }
 }
 
-// The meanings of 20 to 29 and of 40, 21 bytes each.
-const REASONS: [u8; 231] = *b"bad length or offset \
-    malformed options    \
-    two signing options  \
-    pair not the state's \
-    wrong for the stage  \
-    TCP-AO missing       \
-    KeyID has no entry   \
-    MAC length wrong     \
-    no position          \
-    MAC differs          \
-    checksum wrong       ";
+// A verdict, in 30 places.
+#[derive(Drop)]
+pub struct Told(pub Verdict);
 
-// Which of them a number has; one that none has is printed without a meaning.
-fn reason(number: u8) -> u8 {
-    if number == 40 {
-        return 10;
-    }
-    std::num::wrapping_sub_u8(number, 20)
-}
-
-fn dropped(rt: &impl Print, number: u8) {
-    text(rt, b"drop ");
-    two(rt, number as u64);
-    text(rt, b": ");
-    let at = reason(number) as usize * 21;
-    text(rt, part(&REASONS, at, 21));
-}
-
-// A verdict as `verdicts` keeps it.
-pub fn verdict(rt: &impl Print, code: u64) {
-    let number = code % 256;
-    if number == 0 {
-        text(rt, b"accept, extension ");
-        decimal(rt, code / 4294967296);
-        text(rt, b"           ");
-    } else if number == 1 {
-        text(rt, b"pass                          ");
-    } else {
-        dropped(rt, number as u8);
+impl fmt::Display for Told {
+    fn fmt<W: fmt::Write>(&self, f: &mut fmt::Formatter<W>) -> fmt::Result {
+        match self.0 {
+            Verdict::Accept(extension) => write!(f, "accept, extension {extension:<12}"),
+            Verdict::Pass => write!(f, "{:<30}", "pass"),
+            Verdict::Drop(number) => write!(f, "drop {number:>2}: {:<21}", reason(number)),
+        }
     }
 }

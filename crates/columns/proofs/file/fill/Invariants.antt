@@ -1,9 +1,0 @@
--- What is filled lies in the buffer; the measure is what is left of it.
-use Rattle.std.proofs.Common.{length, ◌-◌, ◌≤◌, ◌≡◌}
-use Rattle.columns.proofs.file.fill.Given as goal
-
-abbrev pub invariant-loop-done : goal.invariant-loop-done
-invariant-loop-done g l = (l.done ≤ length l.out) × (length l.out ≡ length l.initial.out)
-
-abbrev pub decreases-loop-done : goal.decreases-loop-done
-decreases-loop-done g l = length l.initial.out - l.done
