@@ -7,6 +7,7 @@ use std::fmt;
 use std::io::Print;
 
 // 0 with the extension or the signed length, 1 for pass, else document 01's number.
+// Kept (may not change): the clause of `compared` compares a number and a value, as the record Answer of rules/specs/Answers.antt has them.
 #[derive(Clone, Copy, PartialEq, Eq)]
 pub struct Answer {
     pub number: u8,
