@@ -88,6 +88,7 @@ fn head(s: State) -> [u8; 16]
 }
 
 // The parts of a state, one behind the other.
+// Kept (may not change): way is a byte, of which any is a state's: the clauses `back` of encode and decode.
 fn join(
     head: [u8; 16],
     local: [u8; 16],
@@ -123,6 +124,7 @@ pub fn encode(s: State) -> [u8; STATE_BYTES]
     )
 }
 
+// Kept (no plainer): decode is lent a slice, and its fact holds of its parts: an array's reference asks a conversion that can fail.
 fn pair_from(bytes: &[u8]) -> Pair
     requires { length bytes.now ≡ state_bytes }
     ensures { result ≡ decode_pair bytes.now }
