@@ -63,28 +63,16 @@ fn head(s: State) -> [u8; 16]
 {
     let conn = s.conn;
     let pair = conn.pair;
-    let local_port = octets::bytes16(pair.local_port);
-    let remote_port = octets::bytes16(pair.remote_port);
-    let isn = octets::bytes32(conn.isn);
-    let peer_isn = octets::bytes32(conn.peer_isn);
-    [
-        pair.family,
-        conn.stage,
-        s.send_id,
-        s.ask_id,
-        local_port[0],
-        local_port[1],
-        remote_port[0],
-        remote_port[1],
-        isn[0],
-        isn[1],
-        isn[2],
-        isn[3],
-        peer_isn[0],
-        peer_isn[1],
-        peer_isn[2],
-        peer_isn[3],
-    ]
+    let mut out = [0u8; 16];
+    out[FAMILY] = pair.family;
+    out[STAGE] = conn.stage;
+    out[SEND_ID] = s.send_id;
+    out[ASK_ID] = s.ask_id;
+    octets::copy_at(&mut out, LOCAL_PORT, &octets::bytes16(pair.local_port));
+    octets::copy_at(&mut out, REMOTE_PORT, &octets::bytes16(pair.remote_port));
+    octets::copy_at(&mut out, ISN, &octets::bytes32(conn.isn));
+    octets::copy_at(&mut out, PEER_ISN, &octets::bytes32(conn.peer_isn));
+    out
 }
 
 // The parts of a state, one behind the other.
