@@ -58,6 +58,11 @@ NOT_A_PLACE = [
     (2, r"near-twins .*(front_agrees|zero_from|octet_sum|block_close) ~ \S+ (zero_from|octet_sum|block_close)$",
      "folds of other things; their loops stand under point 3"),
     (2, r"near-twins .*words\.rt load ~ \S+ head_of$", "an array's elements by number, of other things: point 4 has both"),
+    (2, r"twins .*ends\.rt \S*local ~ \S+ remote$", "each reads a field of its own"),
+    (2, r"near-twins crates/(packets|rollover)/src/\w+\.rt \S*judge_syn: .*judge_syn ~ \S+ open_passive", "each makes a call of its own"),
+    (2, r"twins .*key_tables\.rt id ~ \S+ state$", "one of two by the end: a KeyID, and a state"),
+    (2, r"twins .*mac_place ~ \S+ port$", "two numbers by an enum of two, of other things"),
+    (2, r"near-twins .*from ~ \S+ verdict_line ~ \S+ from$", "each makes another type of a verdict"),
     (2, r"near-twins .*secret_number ~ \S+ md5_number$", "each table's own tests"),
     (2, r"twins .*kind_listed ~ \S+ secret_of$", "both ask which table it is, and no more"),
     (2, r"twins .*is_hmac ~ \S+ is_family$", "two tests of two numbers, of other things"),
@@ -69,6 +74,10 @@ NOT_A_PLACE = [
      "the arguments of the standards' own functions, and bytes side by side"),
     (2, r"near-twins .*lib\.rt from ~ \S+ verdict_line ~ \S+ from$", "each is one match over three answers, and gives another type"),
     (4, r"conversion .* \w+::from:", "it is the `From` that the point asks for"),
+    (3, r"while-with-counter .*hex\.rt pairs:", "takes a slice apart by its pattern: there is no index"),
+    (4, r"conversion crates/packets/src/answers\.rt ", "it stands in `From`"),
+    (4, r"conversion crates/rollover/src/runs\.rt ", "one of two fields, no conversion"),
+    (4, r"equality .* ended_alike:", "equality of a part of two states"),
     (4, r"equality .* shares:", "asks whether one of two IDs is shared, which is no equality"),
     (4, r"equality .* selectors_overlap:", "asks whether two selectors overlap, which is no equality"),
     (4, r"equality .* front_agrees:", "equality of a part of two strings"),
@@ -76,6 +85,8 @@ NOT_A_PLACE = [
     (7, r"flag-selects-step .* (refuse_where|syn_missing|syn_unknown):", "the flag is what is tested, and the answer a value: no step is chosen"),
     (6, r"array-with-zeros-behind crates/octets/src/lib\.rt padded:", "the one function that puts zeros behind a string"),
     (6, r"array-with-zeros-behind .* with_checksum:", "a header as long as its room"),
+    (7, r"match-chooses-function crates/packets/src/answers\.rt ", "constructors of one type, by a `Result`: a conversion, in `From`"),
+    (7, r"flag-selects-step crates/(vectors|rollover)/src/report\.rt (result|same):", "what a comparison gave, and the words for it"),
 ]
 
 

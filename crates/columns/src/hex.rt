@@ -80,6 +80,7 @@ pub fn sixteen(text: &[u8]) -> [u8; 16]
 }
 
 // One digit's value; 0 for any other column.
+// Kept (may not change): the clause's `figure` (specs/Hex) has 0 for any other column, and by it `packets` judges a line that lacks one.
 #[tactic(auto, unfolding(crate::specs::Hex::digit))]
 pub fn figure(text: &[u8]) -> u8
     ensures { result ≡ figure_of text.now }

@@ -2,9 +2,10 @@
 // and whether one is what was expected. Assumes nothing.
 ghost use Rattle.std.specs.Prelude.{◌≡◌, ◌&&◌, eqb};
 
-use rules::{Signing, Verdict};
+use rules::{SignedSegment, Verdict};
 use std::fmt;
 use std::io::Print;
+use tables::Refusal;
 
 // 0 with the extension or the signed length, 1 for pass, else document 01's number.
 // Kept (may not change): the clause of `compared` compares a number and a value, as the record Answer of rules/specs/Answers.antt has them.
@@ -44,17 +45,21 @@ impl From<Verdict> for Answer {
     }
 }
 
+// Whatever the state is that signing began with.
 #[tactic(auto, unfolding(rules::specs::Answers::signing_answer))]
-impl From<Signing> for Answer {
+impl From<Result<SignedSegment, Refusal>> for Answer {
+    ghost use Rattle.rules.specs.declared.State.{State};
     ghost use Rattle.tables.specs.Tables.{no_index};
     ghost use Rattle.rules.specs.Answers.{signing_answer};
+    ghost use Rattle.rules.specs.Results.{signed_as};
 
-    ghost from_gives = { λ s a. (a.number ≡ (signing_answer s no_index).number) × (a.value ≡ (signing_answer s no_index).value) };
+    ghost from_gives = { λ signing a. (q : State) → (a.number ≡ (signing_answer (signed_as q signing).answer no_index).number)
+        × (a.value ≡ (signing_answer (signed_as q signing).answer no_index).value) };
 
-    fn from(s: Signing) -> Answer {
-        match s {
-            Signing::Signed(length) => Answer::good(length as u64),
-            Signing::Refused(n) => Answer::bad(n),
+    fn from(signing: Result<SignedSegment, Refusal>) -> Answer {
+        match signing {
+            Ok(signed) => Answer::good(signed.len as u64),
+            Err(refusal) => Answer::bad(refusal.number),
         }
     }
 }

@@ -1,11 +1,11 @@
 // An end of a connection with the one key that both ends hold, and the calls of `tcpao` as that end makes
 // them. Every value is an end; where the family is not 4, addresses have sixteen bytes.
-ghost use Rattle.std.specs.Prelude.{◌≤◌, length};
-
 use arrayvec::ArrayVec;
-use keys::entry::Pair;
-use rules::{Judged, Settled, Signed, State, SynJudged};
-use tables::BYTES;
+use keys::algorithm::traffic_key_bytes;
+use keys::entry::{Pair, Secret, width_of};
+use rules::{Judged, LentArrival, SignedSegment, State, SynJudged};
+use states::writers::empty;
+use tables::{LentTables, Refusal};
 use traffic::derive;
 use traffic::flow::Flow;
 
@@ -18,31 +18,29 @@ const SERVER_ID: u8 = 0x54;
 
 pub const SERVER_PORT: u16 = 179;
 
+// What signs where the table has no entry.
+// Kept (may not change): a packet with no entry has always been shown with the key of these zeros.
+const NO_SECRET: Secret = Secret {
+    flags: 0,
+    algorithm: 0,
+    mac_bytes: 0,
+    key_len: 0,
+    key: [0; 80],
+};
+
 #[derive(Clone, Copy)]
 pub struct End {
     pub pair: Pair,
     pub flags: u8,
+    // Kept (no plainer): the table's own byte: a line may give any digit as the algorithm's number, for the calls to judge.
     pub algorithm: u8,
     pub send_id: u8,
     pub recv_id: u8,
 }
 
-// How many bytes an address has.
-fn width(family: u8) -> usize
-    ensures { result ≤ 16 }
-{
-    if family == 4 { 4 } else { 16 }
-}
-
-// The address in a field of sixteen bytes.
-fn address(field: &[u8; 16], family: u8) -> &[u8]
-    ensures { length result.now ≤ 16 }
-{
-    &field[..width(family)]
-}
-
 impl End {
     // An end of this pair: the server's is the one with its port.
+    // Kept (no plainer): the algorithm's number is the table's own byte, as a line gives it.
     pub fn new(pair: Pair, flags: u8, algorithm: u8) -> Self {
         let (send_id, recv_id) = if pair.local_port == SERVER_PORT {
             (SERVER_ID, CLIENT_ID)
@@ -71,10 +69,9 @@ impl End {
         };
         End {
             pair,
-            flags: self.flags,
-            algorithm: self.algorithm,
             send_id: self.recv_id,
             recv_id: self.send_id,
+            ..self
         }
     }
 
@@ -82,12 +79,14 @@ impl End {
         self.pair.local_port == SERVER_PORT
     }
 
+    #[tactic(auto, unfolding(keys::specs::Entry::width))]
     fn local(&self) -> &[u8] {
-        address(&self.pair.local, self.pair.family)
+        &self.pair.local[..width_of(self.pair.family)]
     }
 
+    #[tactic(auto, unfolding(keys::specs::Entry::width))]
     fn remote(&self) -> &[u8] {
-        address(&self.pair.remote, self.pair.family)
+        &self.pair.remote[..width_of(self.pair.family)]
     }
 
     // The entry's bytes before the addresses: document 01, "Key table (house bytes)".
@@ -113,7 +112,7 @@ impl End {
 
     // The end's key table: one entry, for this pair alone. It has 128 bytes at most, so there is room for each part.
     fn table(&self) -> ArrayVec<u8, 128> {
-        let bits = (8 * width(self.pair.family)) as u8;
+        let bits = (8 * width_of(self.pair.family)) as u8;
         let key_bytes = KEY.len() as u8;
         let mut entry = ArrayVec::new();
         for part in [
@@ -130,65 +129,68 @@ impl End {
         entry
     }
 
-    pub fn judge_syn(&self, segment: &[u8]) -> SynJudged {
-        tcpao::judge::judge_syn(
-            BYTES,
-            &self.table(),
-            &[],
-            self.remote(),
-            self.local(),
+    // A segment that arrives here, "'source' is whoever sent the segment", the remote side.
+    fn arrival<'a>(&'a self, segment: &'a [u8]) -> LentArrival<'a> {
+        LentArrival {
+            source: self.remote(),
+            destination: self.local(),
             segment,
-            true,
-        )
+        }
+    }
+
+    pub fn judge_syn(&self, segment: &[u8]) -> SynJudged {
+        let table = self.table();
+        let tables = LentTables::of_bytes(&table, &[]);
+        tcpao::judge::judge_syn(&tables, &self.arrival(segment), true)
     }
 
     pub fn open_passive(&self, segment: &[u8], isn: u32) -> Judged {
-        tcpao::judge::open_passive(
-            BYTES,
-            &self.table(),
-            &[],
-            self.remote(),
-            self.local(),
-            segment,
-            isn,
-            true,
-        )
+        let table = self.table();
+        let tables = LentTables::of_bytes(&table, &[]);
+        tcpao::judge::open_passive(&tables, &self.arrival(segment), isn, true)
     }
 
-    pub fn open_active(&self, isn: u32) -> Settled {
-        tcpao::open::open_active(
-            BYTES,
-            &self.table(),
-            &[],
+    // The state of an opening that is refused is the empty one.
+    pub fn open_active(&self, isn: u32) -> State {
+        let table = self.table();
+        let opened = tcpao::open::open_active(
+            &LentTables::of_bytes(&table, &[]),
             self.local(),
             self.remote(),
             self.pair.local_port,
             self.pair.remote_port,
             isn,
             self.send_id,
-        )
+        );
+        opened.unwrap_or(empty())
     }
 
     pub fn judge(&self, segment: &[u8], state: State) -> Judged {
-        tcpao::judge::judge(
-            BYTES,
-            &self.table(),
-            &[],
-            self.remote(),
-            self.local(),
-            segment,
-            state,
-        )
+        let table = self.table();
+        let tables = LentTables::of_bytes(&table, &[]);
+        tcpao::judge::judge(&tables, &self.arrival(segment), state)
     }
 
-    pub fn sign(&self, segment: &[u8], out: &mut [u8], state: State) -> Signed {
-        tcpao::sign::sign(BYTES, &self.table(), &[], segment, out, state)
+    // Kept (may not change): the parameters are those of the public call `tcpao::sign::sign`, which are C's.
+    pub fn sign(
+        &self,
+        segment: &[u8],
+        out: &mut [u8],
+        state: State,
+    ) -> Result<SignedSegment, Refusal> {
+        let table = self.table();
+        let tables = LentTables::of_bytes(&table, &[]);
+        tcpao::sign::sign(&tables, segment, out, state)
     }
 
-    // The traffic key of a segment that arrives here, from the entry that the table has for it. "'source' is whoever sent
-    // the segment", here the remote side. Zeros stand behind a key that is shorter than its room.
-    pub fn traffic_key(&self, source_isn: u32, destination_isn: u32) -> [u8; 32] {
-        let found = tables::find_recv(BYTES, &self.table(), &[], self.pair, self.recv_id);
+    // The traffic key of a segment that arrives here, in its algorithm's length, from the entry that the table has for it.
+    pub fn traffic_key(&self, source_isn: u32, destination_isn: u32) -> ArrayVec<u8, 32> {
+        let table = self.table();
+        let found = LentTables::of_bytes(&table, &[]).find_recv(self.pair, self.recv_id);
+        let secret = match found {
+            Some(hit) => hit.entry.secret,
+            None => NO_SECRET,
+        };
         let flow = Flow {
             family: self.pair.family,
             source: self.pair.remote,
@@ -198,6 +200,8 @@ impl End {
             source_isn,
             destination_isn,
         };
-        derive::traffic_key(found.entry.secret, flow)
+        let mut key = ArrayVec::from(derive::traffic_key(secret, flow));
+        key.truncate(traffic_key_bytes(self.algorithm));
+        key
     }
 }

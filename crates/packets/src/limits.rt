@@ -20,7 +20,7 @@ fn expected(rt: &impl Print, words: u8, n: usize, state: State, want: Answer) ->
     segment[..20].copy_from_slice(&header(end.pair, 1, words, ACK));
     let signed = end.sign(&segment[..n], &mut out, state);
     let _ = print!(rt; "document 01, data offset {words}, {n} bytes ");
-    compared(rt, "signed length ", Answer::from(signed.answer), want)
+    compared(rt, "signed length ", Answer::from(signed), want)
 }
 
 // The state is the open client's.

@@ -28,6 +28,7 @@ fn one_line(rt: &impl Print, suite: Suite, line: &[u8], next: &[u8], run: &mut R
     if is_remark(line) {
         return;
     }
+    // Kept (no plainer): there are two files, each is read for one of them, and this is the one place that asks which.
     match suite {
         Suite::Rfc9235 => packet::packet(rt, line, next, run),
         Suite::Rfc9187 => numbers::numbered(rt, line, run),

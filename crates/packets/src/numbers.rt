@@ -10,7 +10,9 @@ use columns::hex;
 use columns::lines::column;
 use columns::report::Tally;
 use keys::entry::Pair;
+use rules::{SignedSegment, State};
 use std::io::Print;
+use tables::Refusal;
 
 // RFC 9235's IPv4 addresses, all options covered, HMAC-SHA-1-96.
 pub fn client() -> End {
@@ -28,29 +30,30 @@ const CLIENT_ISN: u32 = 0;
 
 const SERVER_ISN: u32 = 0x11c14261;
 
+// The state behind a signing: a refusal leaves it as it was.
+fn state_after(signed: Result<SignedSegment, Refusal>, before: State) -> State {
+    match signed {
+        Ok(segment) => segment.state,
+        Err(_) => before,
+    }
+}
+
 // Both ends, opened by a signed SYN and a signed SYN+ACK. A state that a call would refuse to make is
 // the empty one, on which no line below comes out as expected.
 pub fn opened(tally: Tally) -> Run {
     let client = client();
     let server = client.mirrored();
-    let begun = client.open_active(CLIENT_ISN);
+    let opening = client.open_active(CLIENT_ISN);
     let mut syn = [0; 36];
-    let asked = client.sign(
-        &header(client.pair, CLIENT_ISN, 5, SYN),
-        &mut syn,
-        begun.state,
-    );
+    let header_syn = header(client.pair, CLIENT_ISN, 5, SYN);
+    let asked = state_after(client.sign(&header_syn, &mut syn, opening), opening);
     let passive = server.open_passive(&syn, SERVER_ISN);
     let mut syn_ack = [0; 36];
-    let answered = server.sign(
-        &header(server.pair, SERVER_ISN, 5, SYN_ACK),
-        &mut syn_ack,
-        passive.state,
-    );
-    let active = client.judge(&syn_ack, asked.state);
+    let header_syn_ack = header(server.pair, SERVER_ISN, 5, SYN_ACK);
+    let signed = server.sign(&header_syn_ack, &mut syn_ack, passive.state);
     Run {
-        client: active.state,
-        server: answered.state,
+        client: client.judge(&syn_ack, asked).state,
+        server: state_after(signed, passive.state),
         tally,
     }
 }
@@ -69,6 +72,6 @@ pub fn numbered(rt: &impl Print, line: &[u8], run: &mut Run) {
         Answer::from(judged.verdict),
         Answer::good(u64::from(extension)),
     ));
-    run.client = signed.state;
+    run.client = state_after(signed, run.client);
     run.server = judged.state;
 }

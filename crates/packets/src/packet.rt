@@ -10,7 +10,6 @@ use crate::run::Run;
 use columns::hex;
 use columns::lines::column;
 use columns::report::result;
-use keys::algorithm::traffic_key_bytes;
 use keys::entry::Pair;
 use rules::{State, Verdict};
 use std::io::Print;
@@ -33,117 +32,138 @@ fn receiver(line: &[u8], segment: &[u8]) -> End {
     )
 }
 
-fn title(rt: &impl Print, line: &[u8]) {
-    let _ = print!(rt; "RFC 9235 ");
-    let _ = rt.write_all(column(line, 0));
-    let algorithm = if hex::figure(column(line, 1)) == 1 {
-        "HMAC-SHA-1-96"
-    } else {
-        "AES-128-CMAC-96"
-    };
-    let _ = print!(rt; " {algorithm} ");
-}
-
-// The key as computed, in its algorithm's length, and whether it is the line's.
-fn key_expected(rt: &impl Print, line: &[u8], end: End) -> bool {
-    let want = hex::decode::<20>(column(line, 5)).unwrap_or_default();
-    let got = end.traffic_key(hex::word(column(line, 3)), hex::word(column(line, 4)));
-    title(rt, line);
-    let _ = print!(rt; "traffic key ");
-    let got = got.get(..traffic_key_bytes(end.algorithm)).unwrap_or(&got);
-    result(rt, got, &want)
-}
-
-// Every packet is to be accepted with extension 0.
-fn expected(rt: &impl Print, line: &[u8], call: &str, verdict: Verdict) -> bool {
-    title(rt, line);
-    let _ = print!(rt; "{call} ");
-    compared(
-        rt,
-        "accept extension ",
-        Answer::from(verdict),
-        Answer::good(0),
-    )
-}
-
-// A bare SYN is judged without a state, and opens the server with the ISN of the SYN+ACK in the next
-// line. The client that sent it is opened too, for the SYN+ACK to arrive at.
-fn opening(rt: &impl Print, line: &[u8], answer: &[u8], end: End, segment: &[u8], run: &mut Run) {
-    let checked = end.judge_syn(segment);
-    let opened = end.open_passive(segment, hex::word(column(answer, 3)));
-    let client = end.mirrored().open_active(header::sequence(segment));
-    run.count(expected(rt, line, "judge_syn", checked.verdict));
-    run.count(expected(rt, line, "open_passive", opened.verdict));
-    run.client = client.state;
-    run.server = opened.state;
-}
-
-fn at_server(rt: &impl Print, line: &[u8], end: End, segment: &[u8], run: &mut Run) {
-    let judged = end.judge(segment, run.server);
-    run.count(expected(rt, line, "judge at the server", judged.verdict));
-    run.server = judged.state;
+// A packet as it arrives: its line, the end that it arrives at, and its bytes, those of the line or with another checksum.
+#[derive(Drop)]
+struct Arriving<'a> {
+    line: &'a [u8],
+    end: End,
+    segment: &'a [u8],
 }
 
 fn is_open(state: State) -> bool {
     state.conn.stage == 1
 }
 
-fn at_client(rt: &impl Print, line: &[u8], end: End, segment: &[u8], run: &mut Run) {
-    let call = if is_open(run.client) {
-        "judge at the client"
-    } else {
-        "judge at the opening client"
-    };
-    let judged = end.judge(segment, run.client);
-    run.count(expected(rt, line, call, judged.verdict));
-    run.client = judged.state;
-}
-
-fn is_bare_syn(segment: &[u8]) -> bool {
-    header::syn(segment) && !header::ack(segment)
-}
-
-// What the end says to a segment, wherever it stands; its state stays.
-fn verdict(end: End, segment: &[u8], run: &Run) -> Verdict {
-    if is_bare_syn(segment) {
-        end.judge_syn(segment).verdict
-    } else if end.is_server() {
-        end.judge(segment, run.server).verdict
-    } else {
-        end.judge(segment, run.client).verdict
+impl Arriving<'_> {
+    fn title(&self, rt: &impl Print) {
+        let _ = print!(rt; "RFC 9235 ");
+        let _ = rt.write_all(column(self.line, 0));
+        let algorithm = if hex::figure(column(self.line, 1)) == 1 {
+            "HMAC-SHA-1-96"
+        } else {
+            "AES-128-CMAC-96"
+        };
+        let _ = print!(rt; " {algorithm} ");
     }
-}
 
-// Document 02, Ticket 5: with one bit of its checksum changed a packet is dropped with 40.
-fn wrong_checksum(rt: &impl Print, line: &[u8], end: End, segment: &[u8], run: &mut Run) {
-    let verdict = verdict(end, segment, run);
-    title(rt, line);
-    let _ = print!(rt; "(");
-    let _ = rt.write_all(column(line, 9));
-    let _ = print!(rt; ") a bit of the checksum changed ");
-    run.count(compared(
-        rt,
-        "accept extension ",
-        Answer::from(verdict),
-        Answer::bad(40),
-    ));
+    // The key as computed, and whether it is the line's.
+    fn key_expected(&self, rt: &impl Print) -> bool {
+        let want = hex::decode::<20>(column(self.line, 5)).unwrap_or_default();
+        let source_isn = hex::word(column(self.line, 3));
+        let destination_isn = hex::word(column(self.line, 4));
+        let got = self.end.traffic_key(source_isn, destination_isn);
+        self.title(rt);
+        let _ = print!(rt; "traffic key ");
+        result(rt, &got, &want)
+    }
+
+    // Every packet is to be accepted with extension 0.
+    fn expected(&self, rt: &impl Print, call: &str, verdict: Verdict) -> bool {
+        self.title(rt);
+        let _ = print!(rt; "{call} ");
+        compared(
+            rt,
+            "accept extension ",
+            Answer::from(verdict),
+            Answer::good(0),
+        )
+    }
+
+    // A bare SYN is judged without a state, and opens the server with the ISN of the SYN+ACK in the next
+    // line. The client that sent it is opened too, for the SYN+ACK to arrive at.
+    fn opening(&self, rt: &impl Print, answer: &[u8], run: &mut Run) {
+        let checked = self.end.judge_syn(self.segment);
+        let isn = hex::word(column(answer, 3));
+        let opened = self.end.open_passive(self.segment, isn);
+        let client = self.end.mirrored();
+        run.count(self.expected(rt, "judge_syn", checked.verdict));
+        run.count(self.expected(rt, "open_passive", opened.verdict));
+        run.client = client.open_active(header::sequence(self.segment));
+        run.server = opened.state;
+    }
+
+    fn at_server(&self, rt: &impl Print, run: &mut Run) {
+        let judged = self.end.judge(self.segment, run.server);
+        run.count(self.expected(rt, "judge at the server", judged.verdict));
+        run.server = judged.state;
+    }
+
+    fn at_client(&self, rt: &impl Print, run: &mut Run) {
+        let call = if is_open(run.client) {
+            "judge at the client"
+        } else {
+            "judge at the opening client"
+        };
+        let judged = self.end.judge(self.segment, run.client);
+        run.count(self.expected(rt, call, judged.verdict));
+        run.client = judged.state;
+    }
+
+    fn is_bare_syn(&self) -> bool {
+        header::syn(self.segment) && !header::ack(self.segment)
+    }
+
+    // What the end says to the segment, wherever it stands; its state stays.
+    fn verdict(&self, run: &Run) -> Verdict {
+        if self.is_bare_syn() {
+            self.end.judge_syn(self.segment).verdict
+        } else if self.end.is_server() {
+            self.end.judge(self.segment, run.server).verdict
+        } else {
+            self.end.judge(self.segment, run.client).verdict
+        }
+    }
+
+    // Document 02, Ticket 5: with one bit of its checksum changed a packet is dropped with 40.
+    fn dropped(&self, rt: &impl Print, run: &Run) -> bool {
+        self.title(rt);
+        let _ = print!(rt; "(");
+        let _ = rt.write_all(column(self.line, 9));
+        let _ = print!(rt; ") a bit of the checksum changed ");
+        compared(
+            rt,
+            "accept extension ",
+            Answer::from(self.verdict(run)),
+            Answer::bad(40),
+        )
+    }
 }
 
 // `answer` is the next line.
 pub fn packet(rt: &impl Print, line: &[u8], answer: &[u8], run: &mut Run) {
     let segment = hex::decode::<256>(column(line, 8)).unwrap_or_default();
     let end = receiver(line, &segment);
-    run.count(key_expected(rt, line, end));
+    let packet = Arriving {
+        line,
+        end,
+        segment: &segment,
+    };
+    run.count(packet.key_expected(rt));
     let mut wrong = hex::decode::<256>(column(line, 8)).unwrap_or_default();
     if let Some(byte) = wrong.get_mut(17) {
         *byte ^= 1;
     }
-    wrong_checksum(rt, line, end, &wrong, run);
-    if is_bare_syn(&segment) {
-        opening(rt, line, answer, end, &segment, run);
+    let changed = Arriving {
+        line,
+        end,
+        segment: &wrong,
+    };
+    run.count(changed.dropped(rt, run));
+    if packet.is_bare_syn() {
+        packet.opening(rt, answer, run);
     } else if end.is_server() {
-        at_server(rt, line, end, &segment, run);
+        packet.at_server(rt, run);
     } else {
-        at_client(rt, line, end, &segment, run);
+        packet.at_client(rt, run);
     }
 }

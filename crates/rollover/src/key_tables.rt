@@ -6,6 +6,7 @@ use crate::script::Side;
 // the other way round.
 #[derive(Clone, Copy)]
 pub struct Key {
+    // Kept (no plainer): the table's own byte, which is all that is made of it.
     algorithm: u8,
     bytes: [u8; 20],
     pub client_id: u8,

@@ -1,6 +1,6 @@
 // The two runs: signing, asking, judging. Assumes nothing.
 use crate::script::{Event, FIRST_RUN, Kind, SECOND_RUN, Side, sender};
-use crate::segments::{NOTHING, SIGNED, Sent, forged, unsigned};
+use crate::segments::{SIGNED, Sent, forged, unsigned};
 use crate::{calls, rows};
 use rules::{Judged, State, Verdict};
 use std::io::Print;
@@ -41,7 +41,7 @@ impl Ends {
 }
 
 // The segments on the way, by number; place 0 stays empty.
-pub type Way = [Sent; 17];
+pub type Way = [Option<Sent>; 17];
 
 // The ends, and what each segment got that has arrived, by number.
 #[derive(Drop)]
@@ -70,31 +70,32 @@ impl Run {
     }
 }
 
-fn on_the_way(way: &Way, no: u8) -> Sent {
-    way.get(no as usize).copied().unwrap_or(NOTHING)
+fn on_the_way(way: &Way, no: u8) -> Option<Sent> {
+    *way.get(no as usize)?
 }
 
 // Each arrival is printed.
 pub fn first(rt: &impl Print, start: Ends) -> (Way, Run) {
     let mut run = Run::new(start);
-    let mut way = [NOTHING; 17];
-    let mut last = NOTHING;
+    let mut way = [None; 17];
+    let mut last = None;
     for event in FIRST_RUN {
         match event {
             Event::Send(no) => {
                 last = if Kind::of(no) == Kind::Data {
-                    run.ends.sign(no)
+                    Some(run.ends.sign(no))
                 } else {
-                    forged(last, no)
+                    last.map(|before| forged(before, no))
                 };
                 if let Some(sent) = way.get_mut(no as usize) {
                     *sent = last;
                 }
             }
             Event::Arrive(no) => {
-                let sent = on_the_way(&way, no);
-                let judged = run.arrive(no, sent);
-                rows::arrival(rt, no, sent, judged);
+                if let Some(sent) = on_the_way(&way, no) {
+                    let judged = run.arrive(no, sent);
+                    rows::arrival(rt, no, sent, judged);
+                }
             }
             Event::Ask => {
                 rows::asking(rt);
@@ -109,7 +110,9 @@ pub fn first(rt: &impl Print, start: Ends) -> (Way, Run) {
 pub fn second(way: &Way, start: Ends) -> Run {
     let mut run = Run::new(start);
     for no in SECOND_RUN {
-        let _ = run.arrive(no, on_the_way(way, no));
+        if let Some(sent) = on_the_way(way, no) {
+            let _ = run.arrive(no, sent);
+        }
     }
     run
 }

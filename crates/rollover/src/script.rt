@@ -61,6 +61,7 @@ pub fn sender(no: u8) -> Side {
 }
 
 // Where the data of a segment begin, counted from the sender's ISN; 24 bytes in each.
+// Kept (no plainer): every segment that is signed has a line here; one that is made from another is not asked for its place.
 pub fn offset(no: u8) -> u32 {
     match no {
         1 | 7 => 1,

@@ -41,11 +41,6 @@ pub struct Sent {
     pub place: Option<u64>,
 }
 
-pub const NOTHING: Sent = Sent {
-    bytes: [0; SIGNED],
-    place: None,
-};
-
 // The right checksum for what was changed, as whoever forges a segment would write it.
 fn make_right(bytes: &mut [u8; SIGNED], side: Side) {
     bytes[16..18].copy_from_slice(&[0, 0]);

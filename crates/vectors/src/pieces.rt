@@ -8,6 +8,7 @@ use mac::hash_algorithm::{DIGEST_ROOM, HashAlgorithm};
 use mac::hmac::HmacContext;
 
 // By single bytes, by an odd number, by a block, and by one more than a block.
+// Kept (no plainer): three contexts, each begun, fed and ended by calls of its own; one function over all would take these as closures.
 pub fn hash(hash: HashAlgorithm, data: &[u8], got: &[u8]) -> bool {
     let agrees = |size: usize| -> bool
         requires { 0 < size }

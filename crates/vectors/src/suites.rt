@@ -18,6 +18,7 @@ pub enum Suite {
 
 impl Suite {
     pub fn judged(self, rt: &impl Print, line: &[u8], key: [u8; 16]) -> Option<bool> {
+        // Kept (no plainer): one arm to a kind of file, each with columns of its own; nothing else asks which.
         match self {
             Suite::Hash(hash) => digest(rt, hash, line),
             Suite::Hmac(hash) => code(rt, hash, line),
