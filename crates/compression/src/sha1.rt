@@ -95,6 +95,7 @@ pub fn initial() -> [u32; 5]
 }
 
 // The chaining value after the block of the words w.
+// Kept (no plainer): five stretches of sixteen rounds here, four for SHA-256; a shared part would be four of them without their end.
 pub fn compress(h: [u32; 5], words: [u32; 16]) -> [u32; 5]
     ensures { result ≡ compress_words h words }
 {

@@ -1,7 +1,8 @@
 // SHA-1, SHA-256 or MD5 of a message that comes in pieces, and of a whole one. The definition is specs/Blocks, over the parts of the hash.
 // The same code serves every HashAlgorithm; which it is, the caller names at each call, and a context holds no copy of it.
 // Assumes nothing: every value of the context may come.
-ghost use Rattle.std.specs.Prelude.{◌≡◌, ◌+◌, ◌%◌, ◌<◌, length};
+ghost use Rattle.std.specs.Prelude.{◌≡◌, ◌+◌, ◌%◌, ◌^◌, ◌<◌, ◌≤◌, length, replicate};
+ghost use Rattle.std.proofs.Math.Seq.{paste};
 ghost use Rattle.mac.specs.Blocks.{start, absorb, finished, hash as hash_of};
 ghost use Rattle.mac.specs.Hmac.{filled};
 ghost use Rattle.mac.specs.HashContexts.{parts_of, digest_room, hash_view};
@@ -30,22 +31,36 @@ impl HashContext {
         }
     }
 
+    // After a first block, which is compressed already.
+    pub(crate) fn behind_block(chain: [u32; 8]) -> Self
+        ensures { result ≡ record { chain = chain; block = replicate 64 0; count = 64 } }
+    {
+        HashContext {
+            chain,
+            block: [0; 64],
+            count: 64,
+        }
+    }
+
+    // The bytes laid into the block that is begun, and counted; nothing is compressed.
+    fn put(mut self, data: &[u8]) -> Self
+        requires { self.count % 64 + length «data».now ≤ 64 }
+        ensures chain { result.chain ≡ self.chain }
+        ensures block { result.block ≡ paste self.block (self.count % 64) «data».now (length «data».now) }
+        ensures count { result.count ≡ (self.count + length «data».now) % 2 ^ 64 }
+    {
+        let held = (self.count % 64) as usize;
+        octets::copy_at(&mut self.block, held, data);
+        self.count = self.count.wrapping_add(data.len() as u64);
+        self
+    }
+
     // Less than what completes the block that is begun.
     fn hold(self, hash: HashAlgorithm, data: &[u8]) -> Self
         requires { self.count % 64 + length «data».now < 64 }
         ensures { hash_view hash result ≡ absorb (parts_of hash) (hash_view hash self) «data».now }
     {
-        let n = data.len() as u64;
-        let count = std::num::wrapping_add_u64(self.count, n);
-        let chain = self.chain;
-        let mut block = self.block;
-        let held = (self.count % 64) as usize;
-        octets::copy_at(&mut block, held, data);
-        HashContext {
-            chain,
-            block,
-            count,
-        }
+        self.put(data)
     }
 
     // What completes it.
@@ -53,16 +68,10 @@ impl HashContext {
         requires { self.count % 64 + length «data».now ≡ 64 }
         ensures { (hash_view hash result ≡ absorb (parts_of hash) (hash_view hash self) «data».now) × (result.count % 64 ≡ 0) }
     {
-        let n = data.len() as u64;
-        let count = std::num::wrapping_add_u64(self.count, n);
-        let chain = self.chain;
-        let mut block = self.block;
-        let held = (self.count % 64) as usize;
-        octets::copy_at(&mut block, held, data);
+        let full = self.put(data);
         HashContext {
-            chain: hash.compress_all(chain, &block),
-            block,
-            count,
+            chain: hash.compress_all(full.chain, &full.block),
+            ..full
         }
     }
 
@@ -72,16 +81,12 @@ impl HashContext {
         ensures { hash_view hash result ≡ absorb (parts_of hash) (hash_view hash self) «data».now }
     {
         let end = 64 * (data.len() / 64);
-        let n = end as u64;
-        let count = std::num::wrapping_add_u64(self.count, n);
-        let chain = self.chain;
-        let block = self.block;
-        let c = HashContext {
-            chain: hash.compress_all(chain, data),
-            block,
-            count,
+        let done = HashContext {
+            chain: hash.compress_all(self.chain, data),
+            count: self.count.wrapping_add(end as u64),
+            ..self
         };
-        c.hold(hash, &data[end..])
+        done.hold(hash, &data[end..])
     }
 
     // Decides the view of the result, for every context and all bytes.
@@ -101,6 +106,7 @@ impl HashContext {
     }
 
     // The digest, with zeros behind it where the room is longer.
+    // Kept (project rule): no heap, and a digest's length is known at run time alone, so it stands in the room of the longest.
     pub fn finish(self, hash: HashAlgorithm) -> [u8; DIGEST_ROOM]
         ensures { result ≡ filled digest_room (finished (parts_of hash) (hash_view hash self)) }
     {
@@ -109,10 +115,8 @@ impl HashContext {
         let zeros_end = 1 + ((119 - self.count % 64) % 64) as usize;
         let bits = hash.suffix(self.count << 3);
         octets::copy_at(&mut padding, zeros_end, &bits);
-        let n = zeros_end + 8;
-        let last = self.update(hash, &padding[..n]);
-        let chain = last.chain;
-        hash.digest(chain)
+        let last = self.update(hash, &padding[..zeros_end + 8]);
+        hash.digest(last.chain)
     }
 }
 

@@ -53,6 +53,7 @@ struct Sha1;
 impl BlockHash<5> for Sha1 {
     ghost parts = { sha1_parts };
 
+    // Kept (no plainer): the trait's three instances, of which each names its compression and its byte order.
     fn compress(h: [u32; 5], block: &[u8; 64]) -> [u32; 5]
         ensures { result ≡ sha1_parts.compress h block.now }
     {
@@ -111,6 +112,7 @@ impl HashAlgorithm {
     }
 
     // The chaining value before the first block.
+    // Kept (no plainer): a match over the three, a line to each, is what a hash known at run time alone asks for.
     pub(crate) fn initial(self) -> [u32; 8]
         ensures { take (words_of self) result ≡ (parts_of self).initial }
     {
@@ -122,6 +124,7 @@ impl HashAlgorithm {
     }
 
     // The count of a message's bits, as the eight bytes that end its padding.
+    // Kept (no plainer): the same.
     pub(crate) fn suffix(self, bits: u64) -> [u8; 8]
         ensures { result ≡ (parts_of self).suffix bits }
     {
@@ -133,6 +136,7 @@ impl HashAlgorithm {
     }
 
     // The last chaining value as bytes.
+    // Kept (no plainer): the same.
     pub(crate) fn digest(self, h: [u32; 8]) -> [u8; DIGEST_ROOM]
         ensures { result ≡ filled_of digest_room ((parts_of self).digest (take (words_of self) h)) }
     {

@@ -56,11 +56,7 @@ impl HmacContext {
         let outer = pad(hash, k, 0x5c);
         HmacContext {
             outer,
-            inner: HashContext {
-                chain: inner,
-                block: [0u8; 64],
-                count: 64,
-            },
+            inner: HashContext::behind_block(inner),
         }
     }
 
@@ -68,28 +64,21 @@ impl HmacContext {
     pub fn update(self, hash: HashAlgorithm, data: &[u8]) -> Self
         ensures { hmac_view hash result ≡ hmac_absorb (parts_of hash) (hmac_view hash self) «data».now }
     {
-        let outer = self.outer;
-        let inner = self.inner;
         HmacContext {
-            outer,
-            inner: inner.update(hash, data),
+            inner: self.inner.update(hash, data),
+            ..self
         }
     }
 
     // The MAC, with zeros behind it where the room is longer.
+    // Kept (project rule): no heap, and a digest's length is known at run time alone, so it stands in the room of the longest.
     pub fn finish(self, hash: HashAlgorithm) -> [u8; DIGEST_ROOM]
         ensures { result ≡ filled_of digest_room (hmac_finished (parts_of hash) (hmac_view hash self)) }
     {
-        let chain = self.outer;
-        let inner = self.inner;
-        let d = inner.finish(hash);
-        let n = hash.digest_bytes();
-        let outer = HashContext {
-            chain,
-            block: [0u8; 64],
-            count: 64,
-        };
-        outer.update(hash, &d[..n]).finish(hash)
+        let d = self.inner.finish(hash);
+        HashContext::behind_block(self.outer)
+            .update(hash, &d[..hash.digest_bytes()])
+            .finish(hash)
     }
 }
 

@@ -6,6 +6,7 @@ ghost use Rattle.mac.specs.Md5.{md5 as md5_of};
 use crate::hash_algorithm::{HashAlgorithm, first};
 
 // MD5 of a whole message.
+// Kept (may not change): `md5` and `sha1::sha1` are public functions that docs name, each one line over `hash`.
 pub fn md5(data: &[u8]) -> [u8; 16]
     ensures { result ≡ md5_of «data».now }
 {

@@ -58,5 +58,5 @@ pub(crate) fn entry(x: u32) -> u32
 pub(crate) fn sub(x: u32) -> u8
     ensures { result ≡ Fips.sbox (x % 2 ^ 8) }
 {
-    ((entry(x) >> 8) % 256) as u8
+    entry(x).to_le_bytes()[1]
 }

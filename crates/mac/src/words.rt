@@ -15,6 +15,7 @@ pub(crate) fn word(a: u8, b: u8, c: u8, d: u8) -> u32
 pub(crate) fn load(b: [u8; 16]) -> [u32; 4]
     ensures { Words.state result ≡ b }
 {
+    // Kept (proof): `as_chunks` with `map(u32::from_le_bytes)` was tried: the search finds nothing of the bytes of a mapped chunk.
     [
         word(b[0], b[1], b[2], b[3]),
         word(b[4], b[5], b[6], b[7]),
@@ -26,14 +27,7 @@ pub(crate) fn load(b: [u8; 16]) -> [u32; 4]
 pub(crate) fn store(s: [u32; 4]) -> [u8; 16]
     ensures { result ≡ Words.state s }
 {
-    let a = s[0].to_le_bytes();
-    let b = s[1].to_le_bytes();
-    let c = s[2].to_le_bytes();
-    let d = s[3].to_le_bytes();
-    [
-        a[0], a[1], a[2], a[3], b[0], b[1], b[2], b[3], c[0], c[1], c[2], c[3], d[0], d[1], d[2],
-        d[3],
-    ]
+    octets::padded(s.map(u32::to_le_bytes).as_flattened())
 }
 
 // All round keys as words.
@@ -50,6 +44,7 @@ pub(crate) fn store_keys(w: [[u32; 4]; 11]) -> [[u8; 16]; 11]
 }
 
 // AddRoundKey.
+// Kept (no plainer): four words, each with its own of the key; `array::from_fn` by an index has as many signs.
 pub(crate) fn add_round_key(s: [u32; 4], k: [u32; 4]) -> [u32; 4]
     ensures { Words.state result ≡ Fips.add_round_key_of (Words.state s) (Words.state k) }
 {

@@ -1,8 +1,16 @@
 use Rattle.std.proofs.Common.{◌≡◌, ℕ, ◌+◌, ◌-◌, ◌<◌, ◌≤◌, List, [], ◌∷◌, get_or, sym, refl, ap, ◌∙◌, add-one, arith}
-use Rattle.mac.specs.Aes.{sub_bytes, shift_rows, add_round_key_of, round_with, rounds, cipher}
-use Rattle.mac.specs.AesWords.{state, round_keys}
+use Rattle.mac.specs.Aes.{sub_bytes, shift_rows, mix_columns, add_round_key_of, round_with, rounds, cipher}
+use Rattle.mac.specs.AesWords.{state, round_keys, round_by, mix_word}
 use Rattle.mac.proofs.Places.{value-at}
 use Rattle.mac.proofs.rounds.Cipher.encrypt.Goals as goal
+
+mixed : (s k : List ℕ) → round_by mix_word s k ≡ round_with (state s) (state k)
+unfolding sub_bytes shift_rows mix_columns add_round_key_of round_with
+mixed s k = refl
+
+unmixed : (s k : List ℕ) → round_by (λ w. w) s k ≡ add_round_key_of (shift_rows (sub_bytes (state s))) (state k)
+unfolding sub_bytes shift_rows add_round_key_of
+unmixed s k = refl
 
 key-at : (ws : List (List ℕ)) (r : ℕ) → r < 11 → get_or (round_keys ws) r [] ≡ state (get_or ws r [])
 key-at ws r h = value-at [] (λ k. state (get_or ws k [])) (0 ∷ 1 ∷ 2 ∷ 3 ∷ 4 ∷ 5 ∷ 6 ∷ 7 ∷ 8 ∷ 9 ∷ 10 ∷ []) tt r h
@@ -37,9 +45,9 @@ next ws s₀ r {s} {y} l n h e =
 
 pub loop-r-preserved : goal.loop-r-preserved
 loop-r-preserved c =
-    (omega arith, next c.args.self.now.keys _ c.loop-r.r c.loop-r.invariant.0 c.loop-r-test.true c.loop-r.invariant.1 c.round-next.ensures)
+    (omega arith, next c.args.self.now.keys _ c.loop-r.r c.loop-r.invariant.0 c.loop-r-test.true c.loop-r.invariant.1 (c.round-next.ensures ∙ mixed c.loop-r.s (get_or c.args.self.now.keys c.loop-r.r [])))
 
 pub returns : goal.returns
 returns c =
     whole c.args.self.now.keys c.args.block (c.loop-r.r - 1) (omega arith) c.load.ensures c.add_round_key-s.ensures
-    c.loop-r.invariant.1 c.last_round.ensures c.store.ensures
+    c.loop-r.invariant.1 (c.round.ensures ∙ unmixed c.loop-r.s (get_or c.args.self.now.keys 10 [])) c.store.ensures

@@ -1,6 +1,6 @@
 use Rattle.std.proofs.Common.{[], ◌∷◌, refl, ◌∙◌}
 use Rattle.mac.proofs.WordBytes.{xor-of}
-use Rattle.mac.proofs.rounds.last_column.Goals as goal
+use Rattle.mac.proofs.rounds.UnmixedColumn.column.Goals as goal
 
 pub returns : goal.returns
 returns c =

@@ -2,7 +2,7 @@ use Rattle.std.proofs.Common.{◌≡◌, List, ℕ, ◌/◌, ◌%◌, ◌^◌, a
 use Rattle.mac.specs.Aes.{sbox}
 use Rattle.mac.specs.AesWords.{rotated}
 use Rattle.mac.proofs.MixTable.{column-bytes}
-use Rattle.mac.proofs.rounds.column.Goals as goal
+use Rattle.mac.proofs.rounds.MixedColumn.column.Goals as goal
 
 down : {u v : List ℕ} → u ≡ v → rotated u ≡ rotated v
 down p = ap (λ (w : List ℕ). rotated w) p
