@@ -3,7 +3,7 @@
 ghost use Rattle.std.specs.Prelude.{◌≡◌, ◌+◌, ◌*◌, ◌≤◌, [], ◌∷◌, ◌++◌, length};
 ghost use Rattle.std.proofs.Math.Seq.{paste};
 ghost use Rattle.states.specs.LayoutLaws.{head_of};
-ghost use Rattle.states.specs.Layout.{drops_at, state_bytes, words_at_lem, word_bytes, decode_connection, decode_of};
+ghost use Rattle.states.specs.Layout.{state_bytes, words_at_lem, word_bytes, decode_connection, decode_of};
 ghost use Rattle.states.specs.Layout.{encode_of};
 
 use keys::entry::Pair;
