@@ -6,6 +6,6 @@ use Rattle.desk.proofs.piece.Goals as goal
 pub loop-rest-smaller : goal.loop-rest-smaller
 loop-rest-smaller g c =
     let l = c.loop-rest in
-    let some : 0 < length l.rest = search rules in
-    let more = goes_on [] l.table l.now l.rest _ some c.advance-step.ensures.took in
+    let some : 0 < length l.rest.now = search rules in
+    let more = goes_on [] l.table l.now l.rest.now _ some c.advance-step.ensures.took in
     omega (arith, more.0, more.1, length-take {A = ℕ}, length-drop {A = ℕ})
