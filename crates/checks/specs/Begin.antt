@@ -16,7 +16,7 @@ use Rattle.rules.specs.Connection.{Arrival, arrival_pair_of, arriving, arriving_
 use Rattle.rules.specs.Calls.{refuse, good_by, judge_groups, syn_is_md5, syn_groups}
 use Rattle.traffic.specs.MacContext.{MacView, mac_view, mac_absorb, mac_finished, fronted_by, digested_by}
 use Rattle.checks.specs.Groups.{until_mac}
-use Rattle.checks.specs.GroupLaws.{is_final}
+use Rattle.checks.specs.Groups.{is_final}
 use Rattle.checks.specs.declared.begun.Begun.{Begun}
 use Rattle.checks.specs.declared.begun.Way.{Way}
 use Rattle.checks.specs.declared.begun.Way.TheVariants.{Ao, Md5}

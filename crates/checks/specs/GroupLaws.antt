@@ -1,4 +1,5 @@
 -- Groups of tests one behind another: what a call gives that asks them one by one. Assumes nothing.
+pub use Rattle.checks.specs.Groups.{is_final}
 use Rattle.std.specs.Prelude.{ℕ, ◌≡◌, refl, Bool, true, false, cond, List, [], ◌∷◌, Result, Ok, Err}
 use Rattle.std.specs.Result.{result_and}
 use Rattle.std.proofs.Common.{sym, ap, ◌∙◌, arith}
@@ -14,12 +15,6 @@ yes x y e q = rw e q
 
 pub no : {A : Type 0} {b : Bool} {z : A} (x y : A) → b ≡ false → z ≡ y → z ≡ cond b x y
 no x y e q = rw e q
-
--- a number, or pass
-abbrev pub is_final : Outcome → Bool
-is_final (Good x r) = false
-is_final Passed = true
-is_final (Bad n i) = true
 
 pub final-kept : (a : List (Test Outcome)) (o p : Outcome) → is_final (first a o) ≡ true → is_final o ≡ false → first a o ≡ first a p
 final-kept [] o p e f = let z : ◌≡◌ {A = ℕ} 0 1 = cc (rw f at e) in absurd (omega arith)

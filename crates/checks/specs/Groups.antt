@@ -1,17 +1,24 @@
 -- The groups in which the code takes document 01's tests (crate `rules`, specs/Calls): each function of src/faults.rt gives what one of
 -- them gives. A reader need not believe these: the calls cite the crate `rules` alone.
-use Rattle.std.specs.Prelude.{ℕ, cond, not, ◌&&◌, List, [], ◌∷◌, ◌++◌, ltb, eqb, Option}
+use Rattle.std.specs.Prelude.{ℕ, Bool, true, false, cond, not, ◌&&◌, List, [], ◌∷◌, ◌++◌, ltb, eqb, Option}
 use Rattle.wire.specs.Bytes.{same_bytes}
 use Rattle.wire.specs.Options.{is_malformed, ao_in, md5_in}
 use Rattle.wire.specs.declared.options.Seen.{Seen}
 use Rattle.wire.specs.declared.header.Header.{Header}
 use Rattle.keys.specs.declared.entry.Pair.{Pair}
 use Rattle.rules.specs.declared.Outcome.{Outcome}
+use Rattle.rules.specs.declared.Outcome.TheVariants.{Good, Passed, Bad}
 use Rattle.rules.specs.declared.Connection.{Connection}
 use Rattle.octets.specs.Tests.{Test, test, tests, joined}
 use Rattle.rules.specs.Mac.{Flow}
 use Rattle.rules.specs.Connection.{Arrival, local_address, remote_address, is_open_of}
 use Rattle.rules.specs.Calls.{refuse, Groups}
+
+-- a number, or pass
+abbrev pub is_final : Outcome → Bool
+is_final (Good x r) = false
+is_final Passed = true
+is_final (Bad n i) = true
 
 -- The tests by a header that was read: of `header_of_lem n s` they are the crate `rules`' tests of s, by computation.
 abbrev pub option_tests : Option Seen → List (Test Outcome)

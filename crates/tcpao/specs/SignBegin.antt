@@ -19,7 +19,7 @@ use Rattle.rules.specs.Calls.{outgoing, check_sign}
 use Rattle.traffic.specs.Padded.{padded}
 use Rattle.traffic.specs.MacContext.{MacView, mac_view, mac_absorb, mac_finished, fronted_by, digested_by}
 use Rattle.checks.specs.Begin.{mac_length_of}
-use Rattle.checks.specs.GroupLaws.{is_final}
+use Rattle.checks.specs.Groups.{is_final}
 use Rattle.tcpao.specs.SignedBytes.{Form, ao_form, md5_form, form_of, option_with, added_by}
 use Rattle.tcpao.specs.declared.sign_begun.SignBegun.{SignBegun}
 use Rattle.tcpao.specs.declared.sign_begun.Carrier.{Carrier}
