@@ -1,5 +1,4 @@
 use Rattle.std.proofs.Common.{take, ap, ◌∙◌}
-use Rattle.mac.specs.Hmac.{Keyed}
 use Rattle.mac.specs.HashContexts.{parts_of, words_of, hash_view}
 use Rattle.mac.specs.HmacLaws.{keyed}
 use Rattle.mac.proofs.hmac.HmacContext.new.Goals as goal
