@@ -1,6 +1,6 @@
 -- What an active opening and asking answer: document 01, "A connection's life" and numbers 19 and 35.
 use Prim.Native.Nat.{ℕ, ◌≤◌}
-use mathlib.Core.Path.{◌≡◌, refl, sym, ap, ◌∙◌}
+use mathlib.Core.Path.{◌≡◌, refl, sym, ap, ◌∙◌, subst}
 use mathlib.Core.Bool.{Bool, true, false, not, ◌&&◌}
 use mathlib.Core.List.{List, [], ◌∷◌, ◌++◌}
 use native.Mathlib.Omega.{arith}
@@ -9,6 +9,7 @@ use lib.Dec.{eqb}
 use borrow.Author.Tests.{eqb-true, not-false}
 use Rattle.std.specs.Prelude.{Result, Ok, Err}
 use Rattle.core.specs.Result.{result_and, MatchResult, IsErr, IsErrAnd}
+use Rattle.keys.specs.declared.entry.Pair.{Pair}
 use Rattle.keys.specs.declared.entry.Entry.{Entry}
 use Rattle.keys.specs.Table.{Found}
 use Rattle.keys.proofs.MatchLaws.{and-true}
@@ -61,7 +62,7 @@ mapped-err (Err o) (Ok a) x m e = absurd m
 mapped-err (Err o) (Err y) x m e = let q : x ≡ y = cc in (o, refl, q ∙ m)
 
 pub mapped-ok : {A : Type 0} (s : Result A Outcome) (r : Result A Refusal) (x : A) → Mapped s r → r ≡ Ok x → s ≡ Ok x
-mapped-ok (Ok a) r x m e = sym m ∙ e
+mapped-ok (Ok a) r x m e = let z : Ok a ≡ Ok x = sym m ∙ e in let q : a ≡ x = cc in ap Ok q
 mapped-ok (Err o) (Ok a) x m e = absurd m
 mapped-ok (Err o) (Err y) x m e = cc
 
@@ -98,17 +99,60 @@ module _ (t : Tables) (local remote : List ℕ) (f : Found) (new : State) where
     pub opens : {e : Entry} → result_and (checked keyed) (Ok f.entry) ≡ Ok e → Opens (Ok new)
     opens n = settles-ok lines bad empty new (behind ∙ (and-ok (checked keyed) f.entry n).0)
 
+-- the pair is that of the addresses, and the entry is searched for it
+module _ (t : Tables) (local remote : List ℕ) (lp rp : ℕ) (find : Pair → Found) (make : Pair → Entry → State) where
+  abbrev pair : Pair
+  pair = pair_of_lem local remote lp rp
+
+  abbrev pub Opened : Result State Refusal → Type 0
+  Opened r = Opens t local remote (find pair) (make pair (find pair).entry) r
+
+  -- 19
+  pub sizes-err : {s : Result Unit Outcome} {m : Result Unit Refusal} {x : Refusal} (r : Result State Refusal) → s ≡ checked (address_tests local remote)
+      → Mapped s m → m ≡ Err x → IsErr r × IsErrAnd r (λ e. e ≡ x) → Opened r
+  sizes-err {s} {m} {x} r es em e h =
+      let k = mapped-err s m x em e in
+      subst Opened (sym (err-is r x h ∙ ap Err k.2))
+      (at-sizes t local remote (find pair) (make pair (find pair).entry) (sym es ∙ k.1))
+
+  module _ (sizes : checked (address_tests local remote) ≡ Ok tt) {p : Pair} (pairs : p ≡ pair) {f : Found} (is : f ≡ find p)
+      {s : Result Entry Outcome} (keys : s ≡ result_and (checked (table_tests t ++ (test (refuse 35) (not f.there) ∷ []))) (Ok f.entry)) where
+    found : f ≡ find pair
+    found = is ∙ ap find pairs
+
+    keys-is : s ≡ result_and (checked (keyed t local remote (find pair) (make pair (find pair).entry))) (Ok (find pair).entry)
+    keys-is = keys ∙ ap (λ (f : Found). result_and (checked (table_tests t ++ (test (refuse 35) (not f.there) ∷ []))) (Ok f.entry)) found
+
+    pub key-err : {m : Result Entry Refusal} {x : Refusal} (r : Result State Refusal) → Mapped s m → m ≡ Err x → IsErr r × IsErrAnd r (λ e. e ≡ x) → Opened r
+    key-err {m} {x} r maps e h =
+        let k = mapped-err s m x maps e in
+        subst Opened (sym (err-is r x h ∙ ap Err k.2))
+        (at-key t local remote (find pair) (make pair (find pair).entry) sizes (sym keys-is ∙ k.1))
+
+    pub key-ok : {m : Result Entry Refusal} {e : Entry} → Mapped s m → m ≡ Ok e → {new : State} → new ≡ make p e → Opened (Ok new)
+    key-ok {m} {e} maps q {new} en =
+        let k = sym keys-is ∙ mapped-ok s m e maps q in
+        let same = (and-ok (checked (keyed t local remote (find pair) (make pair (find pair).entry))) (find pair).entry k).1 in
+        subst Opened (ap Ok (sym (en ∙ (λ i. make (pairs i) (sym same i)))))
+        (opens t local remote (find pair) (make pair (find pair).entry) sizes k)
+
 -- by TCP-AO and by MD5 the definition's
+abbrev pub by-id : Tables → ℕ → Pair → Found
+by-id t id p = send_entry t p id
+
+abbrev pub with-ids : ℕ → ℕ → Pair → Entry → State
+with-ids isn id p e = opening 0 p isn id e.ids.recv
+
+abbrev pub with-none : ℕ → Pair → Entry → State
+with-none isn p e = opening 1 p isn 0 0
+
 pub actively : (t : Tables) (local remote : List ℕ) (lp rp isn id : ℕ) (r : Result State Refusal)
-    → Opens t local remote (send_entry t (pair_of_lem local remote lp rp) id)
-    (opening 0 (pair_of_lem local remote lp rp) isn id (send_entry t (pair_of_lem local remote lp rp) id).entry.ids.recv) r
-    → settled_as empty r ≡ opened_actively t local remote lp rp isn id
+    → Opened t local remote lp rp (by-id t id) (with-ids isn id) r → settled_as empty r ≡ opened_actively t local remote lp rp isn id
 unfolding opened_actively
 actively t local remote lp rp isn id r e = e
 
 pub actively-md5 : (t : Tables) (local remote : List ℕ) (lp rp isn : ℕ) (r : Result State Refusal)
-    → Opens t local remote (md5_entry t (pair_of_lem local remote lp rp)) (opening 1 (pair_of_lem local remote lp rp) isn 0 0) r
-    → settled_as empty r ≡ opened_actively_md5 t local remote lp rp isn
+    → Opened t local remote lp rp (md5_entry t) (with-none isn) r → settled_as empty r ≡ opened_actively_md5 t local remote lp rp isn
 unfolding opened_actively_md5
 actively-md5 t local remote lp rp isn r e = e
 
@@ -117,10 +161,17 @@ module _ (t : Tables) (id : ℕ) (q : State) where
   asks-bad : each_gives is_bad (ask_tests t id q.conn) ≡ true
   asks-bad = rw (refusal-bad t.answer)
 
-  pub ask-err : {o : Outcome} → checked (ask_tests t id q.conn) ≡ Err o → settled_as q (Err (refusal_of o)) ≡ asked t id q
+  pub ask-err : {s : Result Unit Outcome} {m : Result Unit Refusal} {x : Refusal} (r : Result State Refusal) → s ≡ checked (ask_tests t id q.conn)
+      → Mapped s m → m ≡ Err x → IsErr r × IsErrAnd r (λ e. e ≡ x) → settled_as q r ≡ asked t id q
   unfolding asked
-  ask-err n = settles-err (ask_tests t id q.conn) asks-bad q (with_asked_of id q) n
+  ask-err {s} {m} {x} r es em e h =
+      let k = mapped-err s m x em e in
+      ap (settled_as q) (err-is r x h ∙ ap Err k.2)
+      ∙ settles-err (ask_tests t id q.conn) asks-bad q (with_asked_of id q) (sym es ∙ k.1)
 
-  pub ask-ok : checked (ask_tests t id q.conn) ≡ Ok tt → settled_as q (Ok (with_asked_of id q)) ≡ asked t id q
+  pub ask-ok : {s : Result Unit Outcome} {m : Result Unit Refusal} → s ≡ checked (ask_tests t id q.conn) → Mapped s m → m ≡ Ok tt
+      → {new : State} → new ≡ with_asked_of id q → settled_as q (Ok new) ≡ asked t id q
   unfolding asked
-  ask-ok n = settles-ok (ask_tests t id q.conn) asks-bad q (with_asked_of id q) n
+  ask-ok {s} {m} es em e {new} en =
+      ap (λ (n : State). settled_as q (Ok n)) en
+      ∙ settles-ok (ask_tests t id q.conn) asks-bad q (with_asked_of id q) (sym es ∙ mapped-ok s m tt em e)

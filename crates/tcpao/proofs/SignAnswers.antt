@@ -2,7 +2,7 @@
 use Prim.Native.Nat.{ℕ, ◌+◌, ◌≤◌}
 use mathlib.Core.Path.{◌≡◌, refl, sym, ap, ◌∙◌, subst, subst⁻¹, transport}
 use mathlib.Core.Bool.{Bool, true, false, cond}
-use mathlib.Core.List.{List}
+use mathlib.Core.List.{List, ◌++◌}
 use native.Mathlib.Omega.{arith}
 use lib.ListN.{length, take, replicate, length-replicate}
 use lib.Seq.{length-take-le}
@@ -20,7 +20,7 @@ use Rattle.tables.proofs.SearchLaws.{send-proper, send-nobody}
 use Rattle.std.specs.Prelude.{Result, Ok, Err}
 use Rattle.core.specs.Result.{result_and}
 use Rattle.rules.specs.declared.Outcome.{Outcome}
-use Rattle.rules.specs.declared.Outcome.TheVariants.{Good}
+use Rattle.rules.specs.declared.Outcome.TheVariants.{Good, Passed, Bad}
 use Rattle.rules.specs.declared.State.{State}
 use Rattle.rules.specs.Results.{signed_as}
 use Rattle.rules.specs.declared.SignedSegment.{SignedSegment}
@@ -119,7 +119,7 @@ module _ (t : Tables) (s : List ℕ) (room : ℕ) (q : State) where
     pub valid : is_refused t.answer ≡ false
     valid =
         (none-split (table_tests t) (length_tests 30 s)
-        (none-split (family_tests q.conn) _ (checked-none (input_tests t s q.conn) none)).1).0.0
+        (none-split (family_tests q.conn) (table_tests t ++ length_tests 30 s) (checked-none (input_tests t s q.conn) none)).1).0.0
 
     header : h ≡ header_of_lem (length s) s
     header = read ∙ ap (λ (y : List ℕ). header_of_lem (length y) y) same
@@ -169,8 +169,7 @@ module _ (t : Tables) (s : List ℕ) (room : ℕ) (q : State) where
 
       begins : {b : SignBegun} → Started b (is_md5_of q.conn) g.secret z → SignBegins t s room q (Ok b)
       begins {b = b} begun =
-          let starts : Started b (is_md5_of q.conn) entry s = transport (λ i. Started b (is_md5_of q.conn) (under i) (same i)) begun in
-          (
+          let starts : Started b (is_md5_of q.conn) entry s = transport (λ i. Started b (is_md5_of q.conn) (under i) (same i)) begun in (
             good ∙ ap (λ (x : ℕ). Good x q.ask_id) (sym starts.position),
             its-can,
             subst⁻¹ (λ (x : ℕ). Ready (form_of entry q) (front_of_lem x entry q s) q s b) starts.position starts.ready,
@@ -209,18 +208,18 @@ module _ (t : Tables) (s out : List ℕ) (q : State) where
     keeps = kept-as o begun.1 ∙ ap (output_by q s out (outgoing t q).entry) (sym begun.0)
 
   module _ (b : SignBegun) (begun : SignBegins t s (length out) q (Ok b)) where
-    abbrev under : Secret
-    under = (outgoing t q).entry.secret
+    abbrev key : Secret
+    key = (outgoing t q).entry.secret
 
     pub may_write : Writable b s out
     may_write =
-        writable (form_of under q) q s begun.1.0 b (front_of_lem b.position under q s) begun.1.1 out (enough t s (length out) q begun.0)
+        writable (form_of key q) q s begun.1 b (front_of_lem b.position key q s) begun.2 out (enough t s (length out) q begun.0)
 
-    pub adds : b.added ≡ added_on_lem q.conn (outgoing t q).entry
-    adds = begun.1.1.added ∙ added-by (is_md5_of q.conn) under q
+    pub adds-as : b.added ≡ added_on_lem q.conn (outgoing t q).entry
+    adds-as = begun.2.added ∙ added-by (is_md5_of q.conn) key q
 
     pub sum_fits : length s + b.added ≤ 65535
-    sum_fits = omega (arith, adds, (left t s (length out) q begun.0).0.whole)
+    sum_fits = omega (arith, adds-as, (left t s (length out) q begun.0).0.whole)
 
     pub signs : {n : SignedSegment} → n.len ≡ length s + b.added → n.state ≡ after_signing_of b.position q → signed_as q (Ok n) ≡ signed t s out q
     unfolding signed
@@ -234,5 +233,5 @@ module _ (t : Tables) (s out : List ℕ) (q : State) where
     writes wl wr e =
         let alike = wide q.conn.pair q.conn.pair.local wl ∙ sym (wide q.conn.pair q.conn.pair.remote wr) in
         e ∙ ap (λ (l : List ℕ). written l out)
-        (finished-is b.position under q s begun.1.0 b begun.1.1 alike (outgoing t q).entry refl)
+        (finished-is b.position key q s begun.1 b begun.2 alike (outgoing t q).entry refl)
         ∙ ap (output_by q s out (outgoing t q).entry) (sym begun.0)

@@ -43,11 +43,11 @@ use Rattle.tcpao.proofs.CheckedLaws.{checked-is}
 -- The head.
 
 -- bytes that are read one by one
-abbrev reads : ℕ → ℕ → List ℕ → List ℕ
+abbrev pub reads : ℕ → ℕ → List ℕ → List ℕ
 reads zero i s = []
 reads (suc n) i s = get_or s i 0 ∷ reads n (suc i) s
 
-reads-is : (n i : ℕ) (s : List ℕ) → i + n ≤ length s → reads n i s ≡ take n (drop i s)
+pub reads-is : (n i : ℕ) (s : List ℕ) → i + n ≤ length s → reads n i s ≡ take n (drop i s)
 reads-is zero i s h = refl
 reads-is (suc n) i s h =
     ap (λ (l : List ℕ). get_or s i 0 ∷ l) (reads-is n (suc i) s (omega arith))
@@ -409,19 +409,20 @@ module _ (x : ℕ) (e : Secret) (q : State) (s : List ℕ) (can : Signable s (ao
       ∙ ap (λ (v : Secret). summed q (signed_with k r (segment_mac v (leaving_hidden_of v) flow (extension_of_lem x) 20 (signed_with k r (zeros v.mac_bytes) s)) s))
       (sym under)
 
-  pub ao-starts : {old : List ℕ} {added ext : ℕ} (f : Flow) (v : Hidden) (m : MacContext) {h : List ℕ} (u : Sum) → old ≡ take (header_end_of s) s
+  pub ao-starts : {old : List ℕ} {added ext len : ℕ} → len ≡ length s → (f : Flow) (v : Hidden) (m : MacContext) {h : List ℕ} (u : Sum) → old ≡ take (header_end_of s) s
       → added ≡ option_bytes n → f ≡ flow → ext ≡ extension_of_lem x → v ≡ hides
       → h ≡ padded 60 (inserted (blank_option 29 (4 + n) q.send_id q.ask_id added) old)
-      → mac_view m ≡ fronted_by e v f ext 20 (length s + added) (take (length old + added) h)
-      → u ≡ added_to begun (pseudo_header (local_address q.conn.pair) (remote_address q.conn.pair) (length s + added))
+      → mac_view m ≡ fronted_by e v f ext 20 (len + added) (take (length old + added) h)
+      → u ≡ added_to begun (pseudo_header (local_address q.conn.pair) (remote_address q.conn.pair) (len + added))
       → Starts x (ao_form e q) (ao_front x e q s) q s
       (record { position = x; carrier = Ao; added = added; header = h; mac = m; mac_bytes = n; sum = u })
-  ao-starts {added = added} f v m u olds adds flows exts hid heads macs sums =
+  ao-starts {added = added} lens f v m u olds adds flows exts hid heads macs sums =
       let ends = ap length olds ∙ length-take-le (header_end_of s) s can.inside in
       let hb = heads ∙ (λ i. padded 60 (inserted (ao-blank e q adds i) (olds i))) in
       let t = front-is (ao_form e q) q s can ends adds hb in
       starts_is (ao_form e q) q s can x (ao_front x e q s) Ao m u refl refl adds hb
-      (macs ∙ (λ i. fronted_by e (hid i) (flows i) (exts i) 20 (length s + adds i) (t i))) sums
+      (macs ∙ (λ i. fronted_by e (hid i) (flows i) (exts i) 20 (lens i + adds i) (t i)))
+      (sums ∙ (λ i. added_to begun (pseudo_header (local_address q.conn.pair) (remote_address q.conn.pair) (lens i + added))))
 
 -- MD5.
 
@@ -445,19 +446,20 @@ module _ (e : Secret) (q : State) (s : List ℕ) (can : Signable s md5_form) whe
       ∙ ap (λ (v : Secret). summed q (digested_with (segment_digest (key_of v) (leaving q.conn).source (leaving q.conn).destination (digested_with (zeros 16) s)) s))
       (sym under)
 
-  pub md5-starts : (x : ℕ) {old : List ℕ} {added : ℕ} (f : Flow) (m : MacContext) {h : List ℕ} (u : Sum) → old ≡ take (header_end_of s) s
+  pub md5-starts : (x : ℕ) {old : List ℕ} {added len : ℕ} → len ≡ length s → (f : Flow) (m : MacContext) {h : List ℕ} (u : Sum) → old ≡ take (header_end_of s) s
       → added ≡ md5_option_bytes → f ≡ leaving q.conn
       → h ≡ padded 60 (inserted (blank_option 19 18 0 0 added) old)
-      → mac_view m ≡ digested_by e f (length s + added) (take (length old + added) h)
-      → u ≡ added_to begun (pseudo_header (local_address q.conn.pair) (remote_address q.conn.pair) (length s + added))
+      → mac_view m ≡ digested_by e f (len + added) (take (length old + added) h)
+      → u ≡ added_to begun (pseudo_header (local_address q.conn.pair) (remote_address q.conn.pair) (len + added))
       → Starts x md5_form (md5_front e q s) q s
       (record { position = x; carrier = Md5; added = added; header = h; mac = m; mac_bytes = 16; sum = u })
-  md5-starts x f m u olds adds flows heads macs sums =
+  md5-starts x {added = added} lens f m u olds adds flows heads macs sums =
       let ends = ap length olds ∙ length-take-le (header_end_of s) s can.inside in
       let hb = heads ∙ (λ i. padded 60 (inserted (blank_option 19 18 0 0 (adds i)) (olds i))) in
       let t = front-is md5_form q s can ends adds hb in
       starts_is md5_form q s can x (md5_front e q s) Md5 m u refl refl adds hb
-      (macs ∙ (λ i. digested_by e (flows i) (length s + adds i) (t i))) sums
+      (macs ∙ (λ i. digested_by e (flows i) (lens i + adds i) (t i)))
+      (sums ∙ (λ i. added_to begun (pseudo_header (local_address q.conn.pair) (remote_address q.conn.pair) (lens i + added))))
 
 -- By the way of the connection.
 module _ (x : ℕ) (e : Secret) (q : State) (s : List ℕ) (can : Signable s (form_of e q)) (b : SignBegun)
