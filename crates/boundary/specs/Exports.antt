@@ -1,13 +1,14 @@
 -- What the calls on both tables and on a connection answer, and what they leave in the buffers lent to them: docs/BOUNDARY.md, "Tables",
 -- "The calls on one connection" and "The state". What the calls do is defined in Calls.antt of `rules`, and a state's bytes in
 -- Layout.antt of `states`; here are the rules of the boundary alone, and then each export, one definition. Assumes nothing.
-use Rattle.std.specs.Prelude.{ℕ, Bool, true, false, cond, not, List, [], length, eqb}
+use Rattle.std.specs.Prelude.{ℕ, Bool, true, false, cond, not, List, [], length, eqb, Result, Ok, Err}
 use Rattle.rules.specs.declared.Verdict.{Verdict}
 use Rattle.rules.specs.declared.Verdict.TheVariants.{Accept, Pass, Drop}
 use Rattle.rules.specs.Done.{Done}
 use Rattle.rules.specs.Done as D
 use Rattle.rules.specs.declared.State.{State}
 use Rattle.tables.specs.Tables.{Tables}
+use Rattle.tables.specs.declared.Refusal.{Refusal}
 use Rattle.tables.specs.Preparing.{prepare_answer, prepare_output}
 use Rattle.rules.specs.Answers.{Answer, answer, table_answer}
 use Rattle.rules.specs.Connection.{arrival_of}
@@ -92,6 +93,11 @@ after_asked b s = leaves (answered b (of_settled s)) (state_after b s.state)
 -- x is the output as signing leaves it, out as it was
 abbrev pub after_signed : (b x out : List ℕ) → Signed → Export
 after_signed b x out s = writes (answered b (of_signed s)) (state_after b s.state) (changed b x out)
+
+-- the buffer b behind an opening, or the operator's call, that gives a state or is refused
+abbrev pub left_by : List ℕ → Result State Refusal → List ℕ
+left_by b (Ok q) = encode_of q
+left_by b (Err r) = b
 
 -- The calls of docs/BOUNDARY.md, by their names there.
 

@@ -2,26 +2,32 @@
 // names in bits 8 to 15, the value in bits 32 to 63.
 // The functions assume that the value fits there; specs/NumberLaws.antt proves that every call's does.
 ghost use Rattle.std.specs.Prelude.{◌≡◌, ◌^◌, ◌<◌};
-ghost use Rattle.rules.specs.Answers.{answer as answer_of, verdict_answer, signing_answer, done_answer, table_answer};
+ghost use Rattle.rules.specs.Answers.{answer as answer_of, refused as refused_of, verdict_answer, table_answer};
 ghost use Rattle.boundary.specs.Word.{word as word_of};
 
-use rules::{Done, Signing, Verdict};
-use tables::{Admitted, Index};
+use rules::Verdict;
+use tables::{Index, Refusal};
 
+// A number that names no entry.
+#[tactic(auto, unfolding(crate::specs::Word::word))]
 pub(crate) fn word(number: u8, value: u32) -> u64
     ensures { result ≡ word_of (answer_of number value) }
 {
-    number as u64 + value as u64 * 4294967296
+    number as u64 + ((value as u64) << 32)
 }
 
 // A refusal, with the table and the index of the entry that it names.
-fn refused(number: u8, table: u8, entry: u32) -> u64
-    ensures { result ≡ word_of (record { number = number; table = table; value = entry }) }
+#[tactic(auto, unfolding(crate::specs::Word::word))]
+pub(crate) fn of_refusal(refusal: Refusal) -> u64
+    requires { refusal.index.entry < 2 ^ 32 }
+    ensures { result ≡ word_of (refused_of refusal.number refusal.index) }
 {
-    number as u64 + table as u64 * 256 + entry as u64 * 4294967296
+    let index = refusal.index;
+    refusal.number as u64 + ((index.table as u64) << 8) + ((index.entry as u64) << 32)
 }
 
 // "accept, or done: the extension"; "pass"; a drop's number; where a table is refused, with "the entry's index" and whose entry it is.
+#[tactic(auto, unfolding(rules::specs::Answers::verdict_answer))]
 pub(crate) fn of_verdict(verdict: Verdict, index: Index) -> u64
     requires { index.entry < 2 ^ 32 }
     ensures { result ≡ word_of (verdict_answer verdict index) }
@@ -29,39 +35,19 @@ pub(crate) fn of_verdict(verdict: Verdict, index: Index) -> u64
     match verdict {
         Verdict::Accept(extension) => word(0, extension),
         Verdict::Pass => word(1, 0),
-        Verdict::Drop(n) => refused(n, index.table, index.entry as u32),
+        Verdict::Drop(number) => of_refusal(Refusal { number, index }),
     }
 }
 
-// "of `sign` the signed length", or the refusal.
-pub(crate) fn of_signing(answer: Signing, index: Index) -> u64
-    requires { (signing_answer answer index).value < 2 ^ 32 }
-    ensures { result ≡ word_of (signing_answer answer index) }
-{
-    match answer {
-        Signing::Signed(n) => word(0, n as u32),
-        Signing::Refused(n) => refused(n, index.table, index.entry as u32),
-    }
-}
-
-// "done", or the refusal.
-pub(crate) fn of_done(answer: Done, index: Index) -> u64
-    requires { (done_answer answer index).value < 2 ^ 32 }
-    ensures { result ≡ word_of (done_answer answer index) }
-{
-    match answer {
-        Done::Done => word(0, 0),
-        Done::Refused(n) => refused(n, index.table, index.entry as u32),
-    }
-}
-
-// "of `check_table` how many key entries", or the refusal with the entry's table and index.
-pub(crate) fn of_table(answer: Admitted) -> u64
+// "of `check_table` how many key entries", of `prepare` and `sign` how many bytes were written, 0 of a call that gives no number of its
+// own; or the refusal with the entry's table and index.
+#[tactic(auto, unfolding(rules::specs::Answers::table_answer))]
+pub(crate) fn of_result(answer: Result<usize, Refusal>) -> u64
     requires { (table_answer answer).value < 2 ^ 32 }
     ensures { result ≡ word_of (table_answer answer) }
 {
     match answer {
-        Admitted::Valid(n) => word(0, n as u32),
-        Admitted::Refused(n, i) => refused(n, i.table, i.entry as u32),
+        Ok(n) => word(0, n as u32),
+        Err(refusal) => of_refusal(refusal),
     }
 }

@@ -1,5 +1,5 @@
 -- Laws for reading an entry's bytes: how long they are, the part of a table that begins with them, and an array that some were copied into.
-use Prim.Native.Nat.{ℕ, zero, suc, ◌+◌, ◌*◌, ◌-◌, ◌/◌, ◌%◌, ◌^◌, ◌≤◌}
+use Prim.Native.Nat.{ℕ, zero, suc, ◌+◌, ◌*◌, ◌-◌, ◌/◌, ◌%◌, ◌^◌, ◌<◌, ◌≤◌}
 use mathlib.Core.Bool.{Bool, true, cond}
 use mathlib.Core.Path.{◌≡◌, refl, sym, ap, ◌∙◌}
 use mathlib.Core.List.{List, [], ◌∷◌, ◌++◌, append-nil}
@@ -8,13 +8,20 @@ use native.Mathlib.Nat.{sub-zero, zero-add, add-sub_cancel_left}
 use lib.ListN.{length, get_or, take, drop, replicate, length-take, length-drop}
 use lib.Seq.{paste, take-length}
 use lib.Dec.{eqb}
+use Rattle.std.proofs.Common.{take_all}
 use borrow.Author.Tests.{eq-eqb, ne_eqb}
 use Rattle.wire.specs.Prefix.{agree}
 use Rattle.wire.specs.PrefixLaws.{agree-take, agree-by}
 use Rattle.keys.specs.Algorithm.{mac_bytes_of}
-use Rattle.keys.specs.Entry.{known_kind_of, family_of_lem, extra, size, width, padded, sides_end_of, mac_length_of}
-use Rattle.keys.proofs.EntryLaws.{width-le, body_is, known-size}
-use Rattle.keys.proofs.WalkLaws.{tail, tail-is}
+use Rattle.keys.specs.Entry.{known_kind_of, family_of_lem, extra, body, size, width, padded, sides_end_of, mac_length_of}
+use Rattle.keys.proofs.EntryLaws.{width-le, width-ge, body_is, known-size}
+
+-- the part of some bytes from `at` on, as the code cuts it
+abbrev pub tail : List ℕ → ℕ → List ℕ
+tail t at = take (length t - at) (drop at t)
+
+pub tail-is : (t : List ℕ) (at : ℕ) → tail t at ≡ drop at t
+tail-is t at = take_all (length t - at) (drop at t) (let l = length-drop at t in omega arith)
 
 -- an address of the family has w bytes
 
@@ -34,11 +41,12 @@ pub size-by : (k f : ℕ) (b : Bool) → f ≡ family_of_lem k → known_kind_of
 size-by k f b fe h e = ap (λ (c : Bool). cond c 100 122 + k) (sym e ∙ ap (λ (g : ℕ). eqb g 4) fe) ∙ sym (known-size k h)
 
 -- an entry of kind k that is there whole, of n bytes or more: where its sides end, `at` more bytes and the key
-pub room : (k n : ℕ) → size k ≤ n → sides_end_of k + extra k + 81 ≤ n
-room k n h = let b = body_is k in omega arith
+pub room : (k n : ℕ) → body k < n → (103 ≤ n) × (sides_end_of k + extra k + 81 ≤ n) × (sides_end_of k + extra k ≤ 48)
+unfolding extra
+room k n h = let b = body_is k in let w = width-le (family_of_lem k) in let v = width-ge (family_of_lem k) in (omega arith, omega arith, omega arith)
 
 -- and its addresses have w bytes
-pub sides-room : (k f w n : ℕ) → f ≡ family_of_lem k → w ≡ width f → size k ≤ n → (w ≤ 16) × (96 + 2 * w ≤ n)
+pub sides-room : (k f w n : ℕ) → f ≡ family_of_lem k → w ≡ width f → body k < n → (w ≤ 16) × (96 + 2 * w ≤ n)
 sides-room k f w n fe we h =
     let e : w ≡ width (family_of_lem k) = we ∙ ap width fe in
     let a = room k n h in

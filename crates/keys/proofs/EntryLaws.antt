@@ -29,6 +29,14 @@ width-le f = go (eqb f 4) refl
     go true e = rw e (omega arith)
     go false e = rw e (omega arith)
 
+pub width-ge : (f : ℕ) → 4 ≤ width f
+unfolding width
+width-ge f = go (eqb f 4) refl
+  where
+    go : (b : Bool) → eqb f 4 ≡ b → 4 ≤ cond (eqb f 4) 4 16
+    go true e = rw e (omega arith)
+    go false e = rw e (omega arith)
+
 -- "the body is: .." so many bytes beside the two addresses
 pub body_is : (k : ℕ) → body k ≡ 95 + 2 * width (family_of_lem k) + extra k
 unfolding width body
@@ -69,7 +77,7 @@ items-drop n [] = ap (items 0) (sym (drop-nil n))
 items-drop zero (b ∷ t) = refl
 items-drop (suc n) (b ∷ t) = items-drop n t
 
-items-from : (s : List ℕ) → 0 < length s → items 0 s ≡ item s ∷ cond (sound (item s)) (items 0 (drop (size (get_or s 0 0)) s)) []
+pub items-from : (s : List ℕ) → 0 < length s → items 0 s ≡ item s ∷ cond (sound (item s)) (items 0 (drop (size (get_or s 0 0)) s)) []
 unfolding items
 items-from [] h = absurd (omega arith)
 items-from (b ∷ t) h = ap (λ (l : List Item). item (b ∷ t) ∷ cond (sound (item (b ∷ t))) l []) (items-drop (body b) t ∙ ap (items 0) (dropped b t))

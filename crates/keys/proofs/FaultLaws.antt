@@ -1,8 +1,8 @@
 -- Laws of the loader's tests: which number they give, and what it means that they give none.
-use Rattle.std.specs.Prelude.{ℕ, ◌≤◌, Bool, true, false, cond, not, ◌≡◌, refl, List, [], ◌∷◌, ◌++◌, eqb, leb}
-use Rattle.std.proofs.Common.{sym, ap, ◌∙◌, eq-eqb, leb-true}
+use Rattle.std.specs.Prelude.{ℕ, ◌≤◌, Bool, true, false, cond, not, ◌≡◌, refl, List, [], ◌∷◌, ◌++◌, eqb, leb, Ok, Err}
+use Rattle.std.proofs.Common.{sym, ap, ◌∙◌, arith, eq-eqb, leb-true}
 use Rattle.std.proofs.lemmas.Bool.{not-false}
-use Rattle.octets.specs.Tests.{Test, test, first}
+use Rattle.octets.specs.Tests.{Test, test, first, checked}
 use Rattle.octets.specs.TestLaws.{NoneApplies, each_gives, first-none, first-append, first_past, first_passes, none-applied, none-split}
 use Rattle.keys.specs.Entry.{Item, sound}
 use Rattle.keys.specs.Table.{number_of, clashing, kind_listed_of, listed_tests, entry_tests, own_tests, item_tests}
@@ -23,20 +23,52 @@ pub number_past : (a b : List (Test ℕ)) → NoneApplies a → number_of (a ++ 
 unfolding number_of
 number_past a b p = first_past a b 0 p
 
--- a number that some tests give is given
-pub number-given : (a b : List (Test ℕ)) → (number_of a ≡ 0 → ⊥) → number_of (a ++ b) ≡ number_of a
-unfolding number_of
-number-given [] b h = absurd (h refl)
-number-given (x ∷ a) b h = go x.applies refl (λ k. number-given a b k)
-  where
-    go : (c : Bool) → x.applies ≡ c → ((first a 0 ≡ 0 → ⊥) → first (a ++ b) 0 ≡ first a 0) → first (x ∷ (a ++ b)) 0 ≡ first (x ∷ a) 0
-    go true q ih = rw q
-    go false q ih = rw q (ih (λ z. h (rw q z)))
-
 -- 0 is given only where no test applies
 pub number-none : (l : List (Test ℕ)) → lacks 0 l ≡ true → number_of l ≡ 0 → NoneApplies l
 unfolding number_of
 number-none l k e = none-applied (other 0) l 0 k (ap (other 0) e)
+
+-- the same tests as a `Result`: an error is the number, and none applies where there is no error
+
+pub checked-number : (l : List (Test ℕ)) (n : ℕ) → checked l ≡ Err n → number_of l ≡ n
+unfolding number_of
+checked-number [] n e = let z : ◌≡◌ {A = ℕ} 0 1 = cc in absurd (omega arith)
+checked-number (x ∷ l) n e = go x.applies refl (checked-number l n)
+  where
+    go : (c : Bool) → x.applies ≡ c → (checked l ≡ Err n → first l 0 ≡ n) → cond x.applies x.gives (first l 0) ≡ n
+    go true q ih = let r : checked (x ∷ l) ≡ Err x.gives = rw q in let z : Err x.gives ≡ Err n = sym r ∙ e in rw q (let y : x.gives ≡ n = cc in y)
+    go false q ih = rw q (ih (rw q at e))
+
+pub checked-none : (l : List (Test ℕ)) → checked l ≡ Ok tt → NoneApplies l
+checked-none [] e = tt
+checked-none (x ∷ l) e = go x.applies refl (checked-none l)
+  where
+    go : (c : Bool) → x.applies ≡ c → (checked l ≡ Ok tt → NoneApplies l) → (x.applies ≡ false) × NoneApplies l
+    go true q ih = let z : ◌≡◌ {A = ℕ} 0 1 = cc (rw q at e) in absurd (omega arith)
+    go false q ih = (q, ih (rw q at e))
+
+pub none-checked : (l : List (Test ℕ)) → NoneApplies l → checked l ≡ Ok tt
+none-checked [] p = refl
+none-checked (x ∷ l) p = rw p.0 (none-checked l p.1)
+
+pub checked-past : (a b : List (Test ℕ)) → NoneApplies a → checked (a ++ b) ≡ checked b
+checked-past [] b p = refl
+checked-past (x ∷ a) b p = rw p.0 (checked-past a b p.1)
+
+pub checked-given : (a b : List (Test ℕ)) (n : ℕ) → checked a ≡ Err n → checked (a ++ b) ≡ Err n
+checked-given [] b n e = let z : ◌≡◌ {A = ℕ} 0 1 = cc in absurd (omega arith)
+checked-given (x ∷ a) b n e = go x.applies refl (checked-given a b n)
+  where
+    go : (c : Bool) → x.applies ≡ c → (checked a ≡ Err n → checked (a ++ b) ≡ Err n) → cond x.applies (Err x.gives) (checked (a ++ b)) ≡ Err n
+    go true q ih = rw q (rw q at e)
+    go false q ih = rw q (ih (rw q at e))
+
+-- an error is a number that some test gives
+pub checked-some : (l : List (Test ℕ)) (n : ℕ) → lacks 0 l ≡ true → checked l ≡ Err n → n ≡ 0 → ⊥
+checked-some l n k e z =
+    let r : checked l ≡ Ok tt = none-checked l (number-none l k (checked-number l n e ∙ z)) in
+    let s : Err n ≡ Ok tt = sym e ∙ r in
+    let y : ◌≡◌ {A = ℕ} 0 1 = cc in omega arith
 
 -- a number that only the last test has is given if no other test applies and the last does
 pub last-given : (n : ℕ) (b : Bool) (l : List (Test ℕ)) → lacks n l ≡ true → (n ≡ 0 → ⊥) → number_of (l ++ (test n b ∷ [])) ≡ n

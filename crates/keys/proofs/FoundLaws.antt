@@ -1,18 +1,22 @@
 -- What a search of a list of entries finds.
 use Prim.Native.Nat.{ℕ, suc, ◌+◌, ◌-◌, ◌<◌}
-use Rattle.std.specs.Prelude.{Bool, ◌||◌}
+use Rattle.std.specs.Prelude.{Bool, ◌||◌, cond, length, ltb, Option, Some, None, MatchOption, IsSomeAnd}
+use Rattle.std.specs.Option.{option_map}
+use Rattle.std.specs.List.{list_any, find, enumerate_from, position_or_len}
 use Rattle.std.proofs.Math.Bool.{true, false}
 use Rattle.std.proofs.Math.Path.{◌≡◌, refl, ap}
-use Rattle.std.proofs.Common.{sym, ◌∙◌, add-zero}
+use Rattle.std.proofs.Common.{sym, ◌∙◌, add-zero, ltb-true, ltb-false}
+use Rattle.std.proofs.lemmas.Bool.{lt-ltb, le-ltb}
 use mathlib.Core.List.{List, [], ◌∷◌}
 use native.Mathlib.Omega.{arith}
-use Rattle.keys.specs.Match.{matches}
+use Rattle.keys.specs.Match.{matches, clash}
 use Rattle.keys.proofs.MatchLaws.{and-true}
-use Rattle.keys.specs.Table.{nobody, hit, found, any_of, has_id_of, answers}
+use Rattle.keys.specs.Table.{nobody, hit, found, any_of, has_id_of, answers, clashing, place_of, found_of}
 use Rattle.keys.specs.Places.{At, here, there}
 use Rattle.keys.specs.declared.entry.Entry.{Entry}
 use Rattle.keys.specs.declared.entry.Pair.{Pair}
 use Rattle.keys.specs.declared.table.By.{By}
+use Rattle.keys.specs.declared.table.Hit.{Hit}
 use Rattle.keys.specs.Table.{Found}
 
 module _ (test : Entry → Bool) where
@@ -115,3 +119,66 @@ answers-parts by p e h = and-true (has_id_of by e.ids) (matches e.selector p) h
 pub answers_of : (by : By) (p : Pair) (e : Entry) → has_id_of by e.ids ≡ true → matches e.selector p ≡ true → answers by p e ≡ true
 unfolding answers
 answers_of by p e h m = rw (h, m)
+
+-- the searches of the code, by the library's words
+
+pub any-is : (test : Entry → Bool) (l : List Entry) → list_any test l ≡ any_of test l
+unfolding any_of
+any-is test [] = refl
+any-is test (e ∷ l) = rw (any-is test l)
+
+pub clashing-is : (e : Entry) (l : List Entry) → list_any (λ f. clash f e) l ≡ clashing e l
+unfolding clashing
+clashing-is e [] = refl
+clashing-is e (f ∷ l) = rw (clashing-is e l)
+
+more : (m n : ℕ) → ltb m n ≡ ltb (1 + m) (suc n)
+more m n = go (ltb m n) refl
+  where
+    go : (b : Bool) → ltb m n ≡ b → ltb m n ≡ ltb (1 + m) (suc n)
+    go true q = let h = ltb-true m n q in q ∙ sym (lt-ltb (1 + m) (suc n) (omega arith))
+    go false q = let h = ltb-false m n q in q ∙ sym (le-ltb (1 + m) (suc n) (omega arith))
+
+-- what `find` gives of the entries with their indices, as `found` reads it
+abbrev pub hit_of : Option (ℕ × Entry) → Found
+hit_of None = nobody
+hit_of (Some p) = hit p.0 p.1
+
+-- and what a `map` makes of it
+pub map-hit : (o : Option (ℕ × Entry)) (r : Option Hit) (P : ℕ × Entry → Hit → Type 0) → MatchOption o (r ≡ None) (λ x. IsSomeAnd r (P x))
+    → ((x : ℕ × Entry) (h : Hit) → P x h → h ≡ record { index = x.0; entry = x.1 }) → found_of r ≡ hit_of (option_map (λ (x : ℕ × Entry). (x.0, x.1)) o)
+map-hit None r P m f = ap found_of m
+map-hit (Some x) None P m f = absurd m
+map-hit (Some x) (Some h) P m f = ap (λ (y : Hit). hit y.index y.entry) (f x h m)
+
+pub find-is : (test : Entry → Bool) (l : List Entry) (k : ℕ) → hit_of (find (λ (p : ℕ × Entry). test p.1) (enumerate_from k l)) ≡ found test k l
+unfolding found
+find-is test [] k = refl
+find-is test (e ∷ l) k = go (test e) (find-is test l (k + 1))
+  where
+    go : (b : Bool) → hit_of (find (λ (p : ℕ × Entry). test p.1) (enumerate_from (k + 1) l)) ≡ found test (k + 1) l
+        → hit_of (cond b (Some (k, e)) (find (λ (p : ℕ × Entry). test p.1) (enumerate_from (k + 1) l))) ≡ cond b (hit k e) (found test (k + 1) l)
+    go true h = refl
+    go false h = h
+
+-- `position` counts from 0
+pub place-is : (test : Entry → Bool) (l : List Entry) (k : ℕ)
+    → place_of (found test k l) ≡ cond (ltb (position_or_len test l) (length l)) (Some (k + position_or_len test l)) None
+unfolding found nobody
+place-is test [] k = refl
+place-is test (e ∷ l) k = go (test e) refl (place-is test l (k + 1))
+  where
+    go : (b : Bool) → test e ≡ b → place_of (found test (k + 1) l) ≡ cond (ltb (position_or_len test l) (length l)) (Some (k + 1 + position_or_len test l)) None
+        → place_of (found test k (e ∷ l)) ≡ cond (ltb (position_or_len test (e ∷ l)) (length (e ∷ l))) (Some (k + position_or_len test (e ∷ l))) None
+    go true q h = rw q (ap Some (sym (add-zero k)) ∙ ap (λ (b : Bool). cond b (Some (k + 0)) None) (sym (lt-ltb 0 (suc (length l)) (omega arith))))
+    go false q h =
+        let m = position_or_len test l in
+        let z : k + 1 + m ≡ k + (1 + m) = omega arith in
+        let y : ltb m (length l) ≡ ltb (1 + m) (suc (length l)) = more m (length l) in
+        rw q (h ∙ (λ i. cond (y i) (Some (z i)) None))
+
+pub place-first : (test : Entry → Bool) (l : List Entry)
+    → cond (ltb (position_or_len test l) (length l)) (Some (position_or_len test l)) None ≡ place_of (found test 0 l)
+place-first test l =
+    let m = position_or_len test l in
+    sym (place-is test l 0 ∙ ap (λ (n : ℕ). cond (ltb m (length l)) (Some n) None) (let z : 0 + m ≡ m = omega arith in z))

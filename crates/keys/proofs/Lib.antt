@@ -2,7 +2,6 @@
 pub mod Bytes
 pub mod Tests
 pub mod Walk
-pub mod Marks
 pub mod PlaceLaws
 pub mod EntryLaws
 pub mod FaultLaws

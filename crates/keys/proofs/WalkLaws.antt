@@ -1,65 +1,56 @@
--- How a walk over a table's entries goes on, by what `size_at` (src/table.rt) says of the place where it stands. Assumes nothing.
-use Rattle.std.specs.Prelude.{ℕ, ◌+◌, ◌-◌, ◌≤◌, Bool, true, false, cond, ◌≡◌, refl, List, [], ◌∷◌, length, get_or, take, drop}
-use Rattle.std.proofs.Math.Path.{ap}
-use Rattle.std.proofs.Common.{◌∙◌, sym, arith, drop_of_length-le, length-drop, take_all}
-use Rattle.keys.specs.Entry.{known_kind_of, body, size, entry_of, item, item_at, sound, entries}
-use Rattle.keys.proofs.EntryLaws.{kind-is, sound-inside, entries_next, entries-stop}
-use Rattle.keys.specs.declared.entry.Entry.{Entry}
+-- What a table's bytes begin with: an entry that is there whole, or nothing that has a meaning. Assumes nothing.
+use Rattle.std.specs.Prelude.{ℕ, zero, suc, ◌≤◌, ◌<◌, Bool, true, false, cond, ◌&&◌, ◌≡◌, refl, List, [], ◌∷◌, length, get_or, drop, leb}
+use Rattle.std.proofs.Common.{arith}
+use Rattle.std.proofs.lemmas.Bool.{le-leb, lt-leb}
+use Rattle.keys.specs.Entry.{known_kind_of, body, size, entry_of, item, sound, items, entries_of, entries}
+use Rattle.keys.proofs.EntryLaws.{items-from}
 
--- the part of a table from `at` on, as the code cuts it
-abbrev pub tail : List ℕ → ℕ → List ℕ
-tail t at = take (length t - at) (drop at t)
-
-pub tail-is : (t : List ℕ) (at : ℕ) → tail t at ≡ drop at t
-tail-is t at = take_all (length t - at) (drop at t) (let l = length-drop at t in omega arith)
-
-size_none : (b : Bool) (s n : ℕ) → n ≡ cond b (1 + s) 0 → n ≡ 0 → b ≡ false
-size_none true s n e z = absurd (omega arith)
-size_none false s n e z = refl
-
-size-some : (b : Bool) (s n : ℕ) → n ≡ cond b s 0 → (n ≡ 0 → ⊥) → b ≡ true
-size-some true s n e z = refl
-size-some false s n e z = absurd (z e)
-
-module _ (t : List ℕ) (at : ℕ) where
-  pub tail-whole : at + size (get_or t at 0) ≤ length t → size (get_or (tail t at) 0 0) ≤ length (tail t at)
-  tail-whole h =
-      let k : size (get_or (tail t at) 0 0) ≡ size (get_or t at 0) =
-      ap (λ (s : List ℕ). size (get_or s 0 0)) (tail-is t at) ∙ ap size (kind-is t at) in
-      let l : length (tail t at) ≡ length t - at = ap length (tail-is t at) ∙ length-drop at t in
-      omega arith
-
-  pub entry_at : (e : Entry) → e ≡ entry_of (tail t at) → e ≡ (item_at t at).entry
+module _ (s : List ℕ) where
+  pub sound-unknown : known_kind_of (get_or s 0 0) ≡ false → sound (item s) ≡ false
   unfolding item
-  entry_at e q = q ∙ ap entry_of (tail-is t at)
+  sound-unknown h = rw h
 
-  -- how many bytes the entry has that is there
-  abbrev pub size_at : ℕ
-  size_at = cond (sound (item_at t at)) (size (get_or t at 0)) 0
+  pub sound-cut : length s < size (get_or s 0 0) → sound (item s) ≡ false
+  unfolding item
+  sound-cut h = go (known_kind_of (get_or s 0 0))
+    where
+      go : (b : Bool) → (b && leb (size (get_or s 0 0)) (length s)) ≡ false
+      go true = lt-leb _ _ h
+      go false = refl
 
-  pub size-past : length t ≤ at → 0 ≡ size_at
-  unfolding item known_kind_of
-  size-past h = rw (drop_of_length-le t h)
+  pub sound-is : known_kind_of (get_or s 0 0) ≡ true → size (get_or s 0 0) ≤ length s → sound (item s) ≡ true
+  unfolding item
+  sound-is k h = rw (k, le-leb _ _ h)
 
-  module _ (n : ℕ) (ne : n ≡ size_at) where
-    pub sound-not : n ≡ 0 → sound (item_at t at) ≡ false
-    sound-not z = size_none (sound (item_at t at)) (body (get_or t at 0)) n ne z
+pub sound-empty : (s : List ℕ) → length s ≡ 0 → sound (item s) ≡ false
+unfolding item known_kind_of
+sound-empty [] e = refl
+sound-empty (b ∷ s) e = absurd (omega arith)
 
-    pub sound-there : (n ≡ 0 → ⊥) → sound (item_at t at) ≡ true
-    sound-there z = size-some (sound (item_at t at)) (size (get_or t at 0)) n ne z
+pub sound-long : (s : List ℕ) → sound (item s) ≡ true → 0 < length s
+sound-long [] h = let e = sound-empty [] refl in let z : ◌≡◌ {A = ℕ} 0 1 = cc in absurd (omega arith)
+sound-long (b ∷ s) h = omega arith
 
-    pub size-sound : sound (item_at t at) ≡ true → n ≡ size (get_or t at 0)
-    size-sound h = ne ∙ ap (λ (b : Bool). cond b (size (get_or t at 0)) 0) h
+-- the first entry, and those behind it
+pub entries-first : (s : List ℕ) → sound (item s) ≡ true → entries s ≡ entry_of s ∷ entries (drop (size (get_or s 0 0)) s)
+unfolding entries_of item
+entries-first s h = rw (items-from s (sound-long s h), h)
 
-    pub size-inside : sound (item_at t at) ≡ true → (1 ≤ n) × (at + n ≤ length t)
-    size-inside h = let e = size-sound h in let i = sound-inside t at h in (omega arith, omega arith)
+pub entries-none : (s : List ℕ) → sound (item s) ≡ false → entries s ≡ []
+unfolding entries_of items
+entries-none [] h = refl
+entries-none (b ∷ s) h = rw h
 
-    -- no entry is left, or the one that is there is the next
-    pub entries-cut : n ≡ 0 → entries (drop at t) ≡ []
-    entries-cut z = entries-stop t at (sound-not z)
+few : (n : ℕ) (t : List ℕ) → length (entries_of (items n t)) ≤ length t
+unfolding items entries_of
+few n [] = omega arith
+few (suc n) (b ∷ t) = let h = few n t in omega arith
+few zero (b ∷ t) = go (sound (item (b ∷ t))) (few (body b) t)
+  where
+    go : (c : Bool) → length (entries_of (items (body b) t)) ≤ length t
+        → length (cond c ((item (b ∷ t)).entry ∷ entries_of (cond c (items (body b) t) [])) []) ≤ suc (length t)
+    go true h = omega arith
+    go false h = omega arith
 
-    pub entries-on : sound (item_at t at) ≡ true → entries (drop at t) ≡ (item_at t at).entry ∷ entries (drop (at + n) t)
-    entries-on h = entries_next t at h ∙ ap (λ (m : ℕ). (item_at t at).entry ∷ entries (drop (at + m) t)) (sym (size-sound h))
-
-  pub entries_over : length t ≤ at → entries (drop at t) ≡ []
-  entries_over h = entries-cut 0 (size-past h) refl
+pub entries-few : (t : List ℕ) → length (entries t) ≤ length t
+entries-few t = few 0 t

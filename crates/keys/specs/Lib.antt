@@ -5,3 +5,4 @@ pub mod Table
 pub mod Places
 pub mod Clash
 pub mod Mirror
+pub mod Marks

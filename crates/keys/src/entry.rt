@@ -1,9 +1,9 @@
 // One entry of either table (of the key table, an MKT of RFC 5925, section 3.1), by value and read from its bytes: document 01, "Key table
 // (house bytes)", and document 02, Tickets 4, 9 and 10.
-// The functions here ask that the entry is there whole; the walks of table.rt see to it.
-ghost use Rattle.std.specs.Prelude.{true, not, ◌&&◌, ◌≡◌, ◌+◌, ◌*◌, ◌≤◌, length, take, drop, get_or, eqb};
-ghost use Rattle.keys.specs.Entry.{known_kind_of, family_of_lem, extra, size, width, padded, side_of, selector_of_lem, ids_of};
-ghost use Rattle.keys.specs.Entry.{sides_end_of, mac_length_of, secret_of_lem, entry_of};
+ghost use Rattle.std.specs.Prelude.{true, false, not, ◌&&◌, ◌≡◌, ◌+◌, ◌*◌, ◌≤◌, length, take, drop, get_or, eqb, MatchOption};
+ghost use Rattle.keys.specs.Entry.{known_kind_of, family_of_lem, extra, size, width, padded, side_of, sides_end_of, entry_of, item, sound};
+
+use std::marker::Model;
 
 // One side of whom an entry matches: ports from low to high, and the addresses whose first `bits` bits are those of `address`.
 #[derive(Clone, Copy)]
@@ -14,6 +14,7 @@ pub struct Side {
     pub address: [u8; 16],
 }
 
+// Kept (may not change): the family is the table's byte; `matches` answers for every byte, and 18 is given for those other than 4 and 6.
 // Whom an entry matches. IPv4 (family 4) uses the first four bytes of an address field, IPv6 (family 6) all sixteen.
 #[derive(Clone, Copy)]
 pub struct Selector {
@@ -57,17 +58,17 @@ pub struct Pair {
     pub remote: [u8; 16],
 }
 
+// Kept (may not change): kinds are the tables' bytes, of which every one may come (11).
 // Kinds 4 to 7.
+#[tactic(auto, unfolding(crate::specs::Entry::known_kind_of))]
 pub(crate) fn known_kind(kind: u8) -> bool
     ensures { result ≡ known_kind_of kind }
 {
-    if kind < 4 {
-        return false;
-    }
-    kind <= 7
+    4 <= kind && kind <= 7
 }
 
 // One for the kinds that have a byte for the MAC's length.
+#[tactic(auto, unfolding(crate::specs::Entry::extra))]
 fn extra_of(kind: u8) -> u8
     ensures { result ≡ extra kind }
 {
@@ -78,20 +79,19 @@ fn extra_of(kind: u8) -> u8
 pub(crate) fn plain_kind(kind: u8) -> bool
     ensures { result ≡ (known_kind_of kind && not (eqb (extra kind) 1)) }
 {
-    if !known_kind(kind) {
-        return false;
-    }
-    extra_of(kind) != 1
+    known_kind(kind) && extra_of(kind) != 1
 }
 
 // Kinds 4 and 5 are IPv4's, 6 and 7 IPv6's.
-pub(crate) fn family_of(kind: u8) -> u8
+#[tactic(auto, unfolding(crate::specs::Entry::family_of_lem, crate::specs::Entry::extra))]
+fn family_of(kind: u8) -> u8
     ensures { result ≡ family_of_lem kind }
 {
     kind - extra_of(kind)
 }
 
 // How many bytes an address has.
+#[tactic(auto, unfolding(crate::specs::Entry::width))]
 pub fn width_of(family: u8) -> usize
     ensures { result ≡ width family }
 {
@@ -99,7 +99,7 @@ pub fn width_of(family: u8) -> usize
 }
 
 // How many bytes an entry has, its kind among them. Written so that the compiler needs few steps: the walks wait for it.
-pub(crate) fn size_of(kind: u8) -> usize
+fn size_of(kind: u8) -> usize
     requires { known_kind_of kind ≡ true }
     ensures { result ≡ size kind }
 {
@@ -111,106 +111,123 @@ pub(crate) fn size_of(kind: u8) -> usize
 }
 
 // Where the two sides end, in an entry of the kind.
+#[tactic(auto, unfolding(crate::specs::Entry::width))]
 fn sides_end(kind: u8) -> usize
     ensures { result ≡ sides_end_of kind }
 {
     15 + 2 * width_of(family_of(kind))
 }
 
-// The address at `at`, in its field of sixteen bytes. With the width as a number: a copy of known length for each family made the loader's
-// comparison of IPv6 addresses take twice its time.
-fn address_at(e: &[u8], at: usize, family: u8) -> [u8; 16]
-    requires { at + width family ≤ length e.now }
-    ensures { result ≡ padded (take (width family) (drop at e.now)) }
-{
-    let mut a = [0u8; 16];
-    let w = width_of(family);
-    octets::copy_at(&mut a, 0, &e[at..at + w]);
-    a
-}
-
-fn key_at(e: &[u8], at: usize) -> [u8; 80]
-    requires { at + 80 ≤ length e.now }
-    ensures { result ≡ take 80 (drop at e.now) }
-{
-    let mut k = [0u8; 80];
-    octets::copy_at(&mut k, 0, &e[at..at + 80]);
-    k
-}
-
-// The side whose ports stand at `ports` and whose address of the family stands at `at`.
+// The side whose ports stand at `ports` and whose address of the family stands at `at`. The address is copied by its width as a number:
+// a copy of known length for each family made the loader's comparison of IPv6 addresses take twice its time.
+#[tactic(auto, unfolding(crate::specs::Entry::side_of, crate::specs::Entry::width))]
 fn side_of(e: &[u8], family: u8, ports: usize, at: usize) -> Side
     requires { (ports + 4 ≤ length e.now) × (at + width family + 1 ≤ length e.now) }
     ensures { result ≡ side_of (width family) ports at e.now }
 {
-    let a = address_at(e, at, family);
+    let end = at + width_of(family);
     Side {
         low: octets::load16(e, ports),
         high: octets::load16(e, ports + 2),
-        bits: e[at + width_of(family)],
-        address: a,
+        bits: e[end],
+        address: octets::padded(&e[at..end]),
     }
 }
 
-pub(crate) fn selector_of(e: &[u8]) -> Selector
-    requires { size (get_or e.now 0 0) ≤ length e.now }
-    ensures { result ≡ selector_of_lem (get_or e.now 0 0) e.now }
-{
-    let family = family_of(e[0]);
-    let w = width_of(family);
-    Selector {
-        family: family,
-        local: side_of(e, family, 5, 13),
-        remote: side_of(e, family, 9, 14 + w),
-    }
+// The bytes of a table from an entry on, of a known kind, that is there whole. In contracts it is that entry.
+#[derive(Drop)]
+pub struct EntryBytes<'a> {
+    pub(crate) bytes: &'a [u8],
 }
 
-pub(crate) fn ids_of(e: &[u8]) -> Ids
-    requires { size (get_or e.now 0 0) ≤ length e.now }
-    ensures { result ≡ ids_of e.now }
-{
-    Ids {
-        send: e[3],
-        recv: e[4],
-    }
+impl<'a> Model for EntryBytes<'a> {
+    ghost use Rattle.std.specs.Prelude.{true, ◌≡◌, ◌<◌, length, get_or};
+    ghost use Rattle.keys.specs.declared.entry.Entry.{Entry};
+    ghost use Rattle.keys.specs.Entry.{known_kind_of, body, entry_of};
+
+    ghost Value = { Entry };
+
+    ghost view = { λ e. entry_of e.bytes.now };
+
+    ghost invariant = { λ e. (known_kind_of (get_or e.bytes.now 0 0) ≡ true)
+        × (body (get_or e.bytes.now 0 0) < length e.bytes.now) };
 }
 
-// The byte before the key length where the kind has it, else the algorithm's number.
-fn mac_length(e: &[u8]) -> u8
-    requires { size (get_or e.now 0 0) ≤ length e.now }
-    ensures { result ≡ mac_length_of (get_or e.now 0 0) e.now }
-{
-    let kind = e[0];
-    if extra_of(kind) == 1 {
-        return e[sides_end(kind)];
+impl<'a> EntryBytes<'a> {
+    // The entry that begins a table, and the bytes behind it.
+    pub(crate) fn split_first(table: &'a [u8]) -> Option<(EntryBytes<'a>, &'a [u8])>
+        ensures { MatchOption result (sound (item table.now) ≡ false)
+            (λ p. (sound (item table.now) ≡ true)
+            × (p.0 ≡ entry_of table.now)
+            × (p.1.now ≡ drop (size (get_or table.now 0 0)) table.now)) }
+    {
+        let kind = *table.first()?;
+        if !known_kind(kind) {
+            return None;
+        }
+        let n = size_of(kind);
+        if table.len() < n {
+            return None;
+        }
+        Some((EntryBytes { bytes: table }, &table[n..]))
     }
-    crate::algorithm::mac_bytes(e[2])
-}
 
-fn secret_of(e: &[u8]) -> Secret
-    requires { size (get_or e.now 0 0) ≤ length e.now }
-    ensures { result ≡ secret_of_lem (get_or e.now 0 0) e.now }
-{
-    let kind = e[0];
-    let at = sides_end(kind) + extra_of(kind) as usize;
-    let k = key_at(e, at + 1);
-    Secret {
-        flags: e[1],
-        algorithm: e[2],
-        mac_bytes: mac_length(e),
-        key_len: e[at],
-        key: k,
+    pub(crate) fn family(&self) -> u8
+        ensures { result ≡ self.now.selector.family }
+    {
+        family_of(self.bytes[0])
     }
-}
 
-// The entry whose bytes begin with e's.
-pub fn entry_of(e: &[u8]) -> Entry
-    requires { size (get_or e.now 0 0) ≤ length e.now }
-    ensures { result ≡ entry_of e.now }
-{
-    Entry {
-        selector: selector_of(e),
-        ids: ids_of(e),
-        secret: secret_of(e),
+    pub fn selector(&self) -> Selector
+        ensures { result ≡ self.now.selector }
+    {
+        let family = self.family();
+        Selector {
+            family,
+            local: side_of(self.bytes, family, 5, 13),
+            remote: side_of(self.bytes, family, 9, 14 + width_of(family)),
+        }
+    }
+
+    pub fn ids(&self) -> Ids
+        ensures { result ≡ self.now.ids }
+    {
+        Ids {
+            send: self.bytes[3],
+            recv: self.bytes[4],
+        }
+    }
+
+    // The MAC's length is the byte before the key length where the kind has it, else the algorithm's number.
+    pub fn secret(&self) -> Secret
+        ensures { result ≡ self.now.secret }
+    {
+        let kind = self.bytes[0];
+        let algorithm = self.bytes[2];
+        let end = sides_end(kind);
+        let at = end + extra_of(kind) as usize;
+        let mut key = [0; 80];
+        key.copy_from_slice(&self.bytes[at + 1..at + 81]);
+        Secret {
+            flags: self.bytes[1],
+            algorithm,
+            mac_bytes: if extra_of(kind) == 1 {
+                self.bytes[end]
+            } else {
+                crate::algorithm::mac_bytes(algorithm)
+            },
+            key_len: self.bytes[at],
+            key,
+        }
+    }
+
+    pub fn entry(&self) -> Entry
+        ensures { result ≡ self.now }
+    {
+        Entry {
+            selector: self.selector(),
+            ids: self.ids(),
+            secret: self.secret(),
+        }
     }
 }

@@ -1,141 +1,82 @@
 // What is wrong with an entry by itself: the numbers 13 to 16 of document 01, "Numbers given back".
-// Assumes nothing: every value of the types is an input. 0 says that no number applies.
-ghost use Rattle.std.specs.Prelude.{◌≡◌, ◌++◌, drop};
-ghost use Rattle.keys.specs.Table.{number_of, zeros, secret_tests, md5_tests, listed_tests, port_range_tests, side_tests, master_key_tests};
+// Assumes nothing: every value of the types is an input.
+// Kept (no plainer): an error is the document's number, which `Fault` gives on as it is; an enum would be turned into it one for one.
+ghost use Rattle.std.specs.Prelude.{◌≡◌};
+ghost use Rattle.octets.specs.Tests.{checked};
+ghost use Rattle.keys.specs.Table.{zeros, secret_tests, md5_tests, listed_tests, port_range_tests, side_tests, master_key_tests};
 ghost use Rattle.keys.specs.Table.{entry_tests};
 
-use crate::entry::{Entry, Ids, Secret, Selector, Side};
+use crate::entry::{Entry, Ids, Secret, Selector, Side, width_of};
 use crate::table::TableKind;
 
-fn secret_number(s: Secret) -> u8
-    ensures { result ≡ number_of (secret_tests s) }
+fn secret_faults(s: Secret) -> Result<(), u8>
+    ensures { result ≡ checked (secret_tests s) }
 {
-    if 7 < s.flags {
-        return 13;
+    if 7 < s.flags || s.algorithm < 1 || 3 < s.algorithm || s.mac_bytes < 4 || 16 < s.mac_bytes {
+        return Err(13);
     }
-    if s.algorithm < 1 {
-        return 13;
-    }
-    if 3 < s.algorithm {
-        return 13;
-    }
-    if s.mac_bytes < 4 {
-        return 13;
-    }
-    if 16 < s.mac_bytes {
-        return 13;
-    }
-    0
-}
-
-fn port_number(s: Selector) -> u8
-    ensures { result ≡ number_of (port_range_tests s) }
-{
-    let local = s.local;
-    let remote = s.remote;
-    if local.high < local.low {
-        return 14;
-    }
-    if remote.high < remote.low {
-        return 14;
-    }
-    0
-}
-
-fn side_number(family: u8, s: Side) -> u8
-    ensures { result ≡ number_of (side_tests family s) }
-{
-    if 8 * crate::entry::width_of(family) < s.bits as usize {
-        return 15;
-    }
-    let a = s.address;
-    if !wire::prefix::clear_past(&a, s.bits) {
-        return 15;
-    }
-    0
-}
-
-// Whether every byte from n on is zero. All are looked at, so that the compiler can take many at once.
-fn zero_from(s: &[u8], n: usize) -> bool
-    ensures { result ≡ zeros (drop n s.now) }
-{
-    let mut set: u8 = 0;
-    let mut i: usize = n;
-    while i < s.len() {
-        set = set | s[i];
-        i += 1;
-    }
-    set == 0
-}
-
-fn key_number(s: Secret) -> u8
-    ensures { result ≡ number_of (master_key_tests s) }
-{
-    if s.key_len < 1 {
-        return 16;
-    }
-    if 80 < s.key_len {
-        return 16;
-    }
-    let k = s.key;
-    if !zero_from(&k, s.key_len as usize) {
-        return 16;
-    }
-    0
-}
-
-fn sides_number(s: Selector) -> u8
-    ensures { result ≡ number_of (side_tests s.family s.local ++ side_tests s.family s.remote) }
-{
-    let n = side_number(s.family, s.local);
-    if n != 0 {
-        return n;
-    }
-    side_number(s.family, s.remote)
+    Ok(())
 }
 
 // 13 of an entry of the MD5 table.
-fn md5_number(s: Secret, ids: Ids) -> u8
-    ensures { result ≡ number_of (md5_tests s ids) }
+fn md5_faults(s: Secret, ids: Ids) -> Result<(), u8>
+    ensures { result ≡ checked (md5_tests s ids) }
 {
-    if 0 < s.flags {
-        return 13;
+    if 0 < s.flags || s.algorithm != 19 || 0 < ids.send || 0 < ids.recv {
+        return Err(13);
     }
-    if s.algorithm != 19 {
-        return 13;
-    }
-    if 0 < ids.send {
-        return 13;
-    }
-    if 0 < ids.recv {
-        return 13;
-    }
-    0
+    Ok(())
 }
 
-fn listed_number(kind: TableKind, e: Entry) -> u8
-    ensures { result ≡ number_of (listed_tests kind e) }
+fn listed_faults(kind: TableKind, e: Entry) -> Result<(), u8>
+    ensures { result ≡ checked (listed_tests kind e) }
 {
     match kind {
-        TableKind::Keys => secret_number(e.secret),
-        TableKind::Md5 => md5_number(e.secret, e.ids),
+        TableKind::Keys => secret_faults(e.secret),
+        TableKind::Md5 => md5_faults(e.secret, e.ids),
     }
 }
 
-pub(crate) fn entry_number(kind: TableKind, e: Entry) -> u8
-    ensures { result ≡ number_of (entry_tests kind e) }
+fn port_faults(s: Selector) -> Result<(), u8>
+    ensures { result ≡ checked (port_range_tests s) }
 {
-    let a = listed_number(kind, e);
-    if a != 0 {
-        return a;
+    if s.local.high < s.local.low || s.remote.high < s.remote.low {
+        return Err(14);
     }
-    let b = port_number(e.selector);
-    if b != 0 {
-        return b;
+    Ok(())
+}
+
+fn side_faults(family: u8, s: Side) -> Result<(), u8>
+    ensures { result ≡ checked (side_tests family s) }
+{
+    if 8 * width_of(family) < s.bits as usize || !wire::prefix::clear_past(&s.address, s.bits) {
+        return Err(15);
     }
-    let c = sides_number(e.selector);
-    if c != 0 {
-        return c;
+    Ok(())
+}
+
+// Whether all are zero. All are looked at, so that the compiler can take many at once.
+fn all_zero(bytes: &[u8]) -> bool
+    ensures { result ≡ zeros bytes.now }
+{
+    bytes.iter().fold(0, |set, byte| set | byte) == 0
+}
+
+fn key_faults(s: Secret) -> Result<(), u8>
+    ensures { result ≡ checked (master_key_tests s) }
+{
+    if s.key_len < 1 || 80 < s.key_len || !all_zero(&s.key[s.key_len as usize..]) {
+        return Err(16);
     }
-    key_number(e.secret)
+    Ok(())
+}
+
+pub(crate) fn entry_faults(kind: TableKind, e: Entry) -> Result<(), u8>
+    ensures { result ≡ checked (entry_tests kind e) }
+{
+    listed_faults(kind, e)?;
+    port_faults(e.selector)?;
+    side_faults(e.selector.family, e.selector.local)?;
+    side_faults(e.selector.family, e.selector.remote)?;
+    key_faults(e.secret)
 }
