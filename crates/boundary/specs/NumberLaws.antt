@@ -1,7 +1,7 @@
 -- Every call's number and value fit their bits, and the number tells what it should: the statements of Numbers.antt, proved. Assumes
 -- nothing.
 use Rattle.std.specs.Prelude.{ℕ, ◌^◌, ◌%◌, ◌≤◌, ◌<◌, ◌≡◌, refl, Bool, true, false, cond, not, ◌&&◌, ◌||◌, List, length, eqb, ltb, leb}
-use Rattle.std.proofs.Common.{subst, ◌∙◌, arith, ltb-true, lt-ltb, ne_eqb, eqb-true}
+use Rattle.std.proofs.Common.{subst, ap, ◌∙◌, arith, ltb-true, lt-ltb, ne_eqb, eqb-true}
 use Rattle.std.proofs.Math.Path.{subst⁻¹}
 use Rattle.keys.specs.declared.entry.Pair.{Pair}
 use Rattle.keys.proofs.MatchLaws.{and-true}
@@ -97,6 +97,10 @@ record Prepares (o : Admitted) : Type 0 where
   fitting : Fits (table_answer o)
   bounds : (n : ℕ) (i : Index) → o ≡ refused_with n i → (10 ≤ n) × (n ≤ 45)
 
+abbrev number_in : Admitted → ℕ
+number_in (Ok n) = 0
+number_in (Err r) = r.number
+
 prepares : (k m : List ℕ) (room : ℕ) → Prepares (prepare_answer k m room)
 unfolding prepare_answer table_answer
 prepares k m room = go (admitted k m) (leb (prepared_length k m) room) refl refl
@@ -112,7 +116,7 @@ prepares k m room = go (admitted k m) (leb (prepared_length k m) room) refl refl
         rw (p, q)
         (record {
           fitting = record { number = omega arith; table = omega arith; value = omega arith; together = refl };
-          bounds = λ j x e. (let z : 37 ≡ j = cc in (omega arith, omega arith));
+          bounds = λ j x e. (let z : 37 ≡ j = ap number_in e in (omega arith, omega arith));
         })
     go (Ok n) true p q =
         let c = valid-count 0 k m n p in

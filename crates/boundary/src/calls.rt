@@ -36,6 +36,7 @@ pub fn prepare(keys: &[u8], md5: &[u8], out: &mut [u8]) -> u64
 }
 
 // A new state is written; where the call is refused the buffer stays as it was.
+#[tactic(auto, unfolding(rules::specs::Answers::done_answer))]
 fn settle(state: &mut [u8], settled: Result<State, Refusal>) -> u64
     requires length { length state.old ≡ state_bytes }
     requires value { (of_settled (settled_as empty settled)).value < 2 ^ 32 }
@@ -163,7 +164,7 @@ pub fn sign(tables: &LentTables<'_>, segment: &[u8], out: &mut [u8], state: &mut
             put(state, signed.state);
             word(0, signed.len as u32)
         }
-        Err(refusal) => of_refusal(refusal),
+        Err(refused) => of_refusal(refused),
     }
 }
 

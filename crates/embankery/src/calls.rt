@@ -1,17 +1,21 @@
 // The calls on both tables and on a connection for C: docs/BOUNDARY.md, "Tables", "The calls on one connection" and "The
 // state". They are those of the crate `boundary`. Assumes nothing.
+// Kept (C interface): the tables' three parameters, an arrival's three, and ports as numbers: include/embankery.h declares them so.
 ghost use Rattle.std.specs.Prelude.{◌≡◌};
 ghost use Rattle.tables.specs.Tables.{tables_of};
 ghost use Rattle.boundary.specs.Exports.{answers, fills, leaves, writes, check_table_export, prepare_export, open_active_export};
 ghost use Rattle.boundary.specs.Exports.{open_active_md5_export, judge_syn_export, open_passive_export, judge_export, sign_export};
 ghost use Rattle.boundary.specs.Exports.{ask_export};
 
+use rules::LentArrival;
+use tables::LentTables;
+
 // How many key entries, or 10 to 17 and 45 with the entry's table and index, or 44.
 #[unsafe(no_mangle)]
 pub extern "C" fn tcpao_check_table(form: u8, keys: &[u8], md5: &[u8]) -> u64
     ensures { answers result ≡ check_table_export (tables_of form keys.now md5.now) }
 {
-    boundary::calls::check_table(form, keys, md5)
+    boundary::calls::check_table(&LentTables::new(form, keys, md5))
 }
 
 // Prepares both tables: the length written, or their refusal, or 37. The output is written only where that is done.
@@ -41,10 +45,9 @@ pub extern "C" fn tcpao_open_active(
         remote_port isn send_id
         state.old }
 {
+    let tables = LentTables::new(form, keys, md5);
     boundary::calls::open_active(
-        form,
-        keys,
-        md5,
+        &tables,
         local,
         remote,
         local_port,
@@ -73,17 +76,8 @@ pub extern "C" fn tcpmd5_open_active(
         remote_port isn
         state.old }
 {
-    boundary::calls::open_active_md5(
-        form,
-        keys,
-        md5,
-        local,
-        remote,
-        local_port,
-        remote_port,
-        isn,
-        state,
-    )
+    let tables = LentTables::new(form, keys, md5);
+    boundary::calls::open_active_md5(&tables, local, remote, local_port, remote_port, isn, state)
 }
 
 // A bare SYN, without a state.
@@ -101,7 +95,13 @@ pub extern "C" fn tcpao_judge_syn(
         ≡ judge_syn_export (tables_of form keys.now md5.now)
         source.now destination.now segment.now setting }
 {
-    boundary::calls::judge_syn(form, keys, md5, source, destination, segment, setting)
+    let tables = LentTables::new(form, keys, md5);
+    let arrival = LentArrival {
+        source,
+        destination,
+        segment,
+    };
+    boundary::calls::judge_syn(&tables, &arrival, setting)
 }
 
 // Judges the bare SYN again and, only on accept, opens. Writes the state that it opened, or the empty one where the SYN is only passed.
@@ -122,17 +122,13 @@ pub extern "C" fn tcpao_open_passive(
         source.now destination.now segment.now isn setting
         state.old }
 {
-    boundary::calls::open_passive(
-        form,
-        keys,
-        md5,
+    let tables = LentTables::new(form, keys, md5);
+    let arrival = LentArrival {
         source,
         destination,
         segment,
-        isn,
-        setting,
-        state,
-    )
+    };
+    boundary::calls::open_passive(&tables, &arrival, isn, setting, state)
 }
 
 // Judges an arriving segment on a connection, opening or open.
@@ -150,7 +146,13 @@ pub extern "C" fn tcpao_judge(
         ≡ judge_export (tables_of form keys.now md5.now)
         source.now destination.now segment.now state.old }
 {
-    boundary::calls::judge(form, keys, md5, source, destination, segment, state)
+    let tables = LentTables::new(form, keys, md5);
+    let arrival = LentArrival {
+        source,
+        destination,
+        segment,
+    };
+    boundary::calls::judge(&tables, &arrival, state)
 }
 
 // Signs a segment into `out`; only the signed length's bytes of it are written.
@@ -167,7 +169,8 @@ pub extern "C" fn tcpao_sign(
         ≡ sign_export (tables_of form keys.now md5.now)
         segment.now out.old state.old }
 {
-    boundary::calls::sign(form, keys, md5, segment, out, state)
+    let tables = LentTables::new(form, keys, md5);
+    boundary::calls::sign(&tables, segment, out, state)
 }
 
 // Sets the RecvID asked of the peer.
@@ -176,5 +179,6 @@ pub extern "C" fn tcpao_ask(form: u8, keys: &[u8], md5: &[u8], recv_id: u8, stat
     ensures { leaves result state.new ≡ ask_export (tables_of form keys.now md5.now)
         recv_id state.old }
 {
-    boundary::calls::ask(form, keys, md5, recv_id, state)
+    let tables = LentTables::new(form, keys, md5);
+    boundary::calls::ask(&tables, recv_id, state)
 }

@@ -1,42 +1,26 @@
 -- The opening record: the fields that were read, and the first number that applies.
-use Rattle.std.proofs.Common.{◌≡◌, ℕ, ◌+◌, ◌-◌, ◌≤◌, Bool, true, false, not, List, length, get_or, take, drop, replicate, sym, ap, ◌∙◌, append-nil, arith, length-drop, length-take-le, take_all}
-use lib.Seq.{paste}
-use Rattle.octets.specs.Octets.{get16, get32}
+use Rattle.std.proofs.Common.{◌≡◌, ℕ, Bool, true, false, not, List, get_or, refl, sym, ap, ◌∙◌}
 use Rattle.keys.specs.declared.entry.Pair.{Pair}
 use Rattle.keys.specs.declared.table.TableKind.TheVariants.{Keys}
 use Rattle.keys.specs.Table.{Loaded}
 use Rattle.keys.specs.Table.{fault}
-use Rattle.keys.specs.Table.{Found}
+use Rattle.keys.specs.Table.{Found, found_of, nobody}
+use Rattle.keys.specs.declared.table.Hit.{Hit}
 use Rattle.keys.specs.Entry.{is_family_of}
 use Rattle.keys.specs.Table.{loaded}
-use Rattle.std.specs.Prelude.{Ok}
+use Rattle.std.specs.Prelude.{Ok, Option, Some, None, is_some}
 use Rattle.tables.specs.Tables.{no_index, key_index, after_table, send_entry, recv_entry}
 use Rattle.rules.specs.declared.Outcome.TheVariants.{Good, Bad}
-use Rattle.rules.specs.declared.State.{State}
-use Rattle.rules.specs.Connection.{ao_way, opened}
 use Rattle.rules.specs.Calls.{is_refused}
-use Rattle.recording.specs.Recording.{open_pair_of, open_state_of, open_outcome_of, send_id_of, ask_id_of, desk_entries, desk_tables, desk_answer}
+use Rattle.recording.specs.Recording.{open_pair_of, open_outcome_of, send_id_of, ask_id_of, desk_entries, desk_tables, desk_answer}
 
--- sixteen bytes laid into an array of as many
-pub field_is : (at : ℕ) (b x : List ℕ) → at + 16 ≤ length b
-    → x ≡ paste (replicate 16 0) 0 (take (at + 16 - at) (drop at b)) (length (take (at + 16 - at) (drop at b))) → x ≡ take 16 (drop at b)
-field_is at b x h q =
-    let z : at + 16 - at ≡ 16 = omega arith in
-    let d = length-drop at b in
-    let l : length (take 16 (drop at b)) ≡ 16 = length-take-le 16 (drop at b) (omega arith) in
-    q
-    ∙ (λ i. paste (replicate 16 0) 0 (take (z i) (drop at b)) (length (take (z i) (drop at b))))
-    ∙ ap (paste (replicate 16 0) 0 (take 16 (drop at b))) l
-    ∙ append-nil (take 16 (take 16 (drop at b)))
-    ∙ take_all 16 (take 16 (drop at b)) (omega arith)
-
-pub pair_is : (b : List ℕ) (lp rp : ℕ) (l r : List ℕ) → lp ≡ get16 b 4 → rp ≡ get16 b 6 → l ≡ take 16 (drop 16 b) → r ≡ take 16 (drop 32 b)
-    → record { family = get_or b 1 0; local_port = lp; remote_port = rp; local = l; remote = r } ≡ open_pair_of b
-pair_is b lp rp l r a c d e = λ i. record { family = get_or b 1 0; local_port = a i; remote_port = c i; local = d i; remote = e i }
-
-pub state-is : (b : List ℕ) (p : Pair) (isn peer : ℕ) (q : State) → p ≡ open_pair_of b → isn ≡ get32 b 8 → peer ≡ get32 b 12
-    → q ≡ opened ao_way p isn peer (get_or b 2 0) (get_or b 3 0) → q ≡ open_state_of b
-state-is b p isn peer q a c d e = e ∙ (λ i. opened ao_way (a i) (c i) (d i) (send_id_of b) (ask_id_of b))
+-- a search that finds nothing
+pub none-there : (r : Option Hit) (x : Bool) → is_some r ≡ not x → not (found_of r).there ≡ x
+unfolding nobody
+none-there (Some h) true e = let z : true ≡ false = e in cc
+none-there (Some h) false e = refl
+none-there None true e = refl
+none-there None false e = let z : false ≡ true = e in cc
 
 -- 18, the table's number, 35, 35
 

@@ -9,7 +9,8 @@ use Rattle.keys.specs.Entry.{is_family_of}
 use Rattle.keys.specs.Table.{loaded}
 use Rattle.keys.specs.declared.table.TableKind.TheVariants.{Keys}
 use Rattle.tables.specs.Tables.{Admitted}
-use Rattle.std.specs.Prelude.{Ok}
+use Rattle.std.specs.Prelude.{Result, Ok, Err}
+use Rattle.tables.specs.declared.Refusal.{Refusal}
 use Rattle.tables.specs.Tables.{Tables, key_index, after_table, tables_of, send_entry, recv_entry}
 use Rattle.rules.specs.declared.Outcome.{Outcome}
 use Rattle.rules.specs.declared.Outcome.TheVariants.{Good, Passed, Bad}
@@ -146,6 +147,11 @@ open_tests t r =
 
 unfoldable pub open_outcome_of : List ℕ → List ℕ → Outcome
 open_outcome_of t r = first (open_tests t r) unrefused
+
+-- what the code gives of the opening: nothing applies, or the refusal
+abbrev pub opens_as : Result Unit Refusal → Outcome
+opens_as (Ok x) = unrefused
+opens_as (Err r) = Bad r.number r.index
 
 abbrev pub at_opening_of : Desk → State → Desk
 at_opening_of d q =

@@ -13,9 +13,9 @@ ghost use Rattle.recording.specs.Live.{enough};
 
 use crate::form::{RECORD_BYTES, faulty, record_bytes};
 use crate::line::{Line, verdict_line};
-use crate::opening::{open_outcome, open_state};
-use rules::{Judged, Outcome, State};
-use tables::BYTES;
+use crate::opening::{check_opening, open_state};
+use rules::{Judged, LentArrival, State};
+use tables::LentTables;
 
 // How many bytes a buffer for the table must have: what 64 entries can have, and one more, by which a 65th is seen to begin. What a
 // longer buffer would hold besides changes no line.
@@ -24,6 +24,8 @@ pub const TABLE_BYTES: usize = 64 * 129 + 1;
 // How far a recording has been read. Stage 0 is before the opening, 1 behind it, any other stopped. The first `table_length` bytes of a
 // lent buffer are the table, the first `held` ones of `begun` those of the record that is begun, and what stands behind them means
 // nothing.
+// Kept (may not change): stage is a number and no enum, since each value of the struct is a desk: Desk::advance and finish ask nothing.
+// Kept (project rule): no heap, so the table and the record that is begun stand in fixed buffers beside their lengths.
 #[derive(Clone, Copy)]
 pub struct Desk {
     pub stage: u8,
@@ -49,31 +51,18 @@ struct Told {
     line: Line,
 }
 
-fn smaller(a: usize, b: usize) -> usize
-    ensures { result ≡ min a b }
-{
-    if a < b { a } else { b }
-}
-
 // The live call: the segment comes from the remote side of the state's pair. The only place that judges.
 fn judge_on(table: &[u8], segment: &[u8], state: State) -> Judged
     ensures { result ≡ judged_of (desk_tables table.now) (arrival_from state segment.now) state }
 {
-    let conn = state.conn;
-    let pair = conn.pair;
-    let local = pair.local;
-    let remote = pair.remote;
+    let pair = state.conn.pair;
     let w = keys::entry::width_of(pair.family);
-    let no_md5 = [0u8; 0];
-    tcpao::judge::judge(
-        BYTES,
-        table,
-        &no_md5,
-        &remote[..w],
-        &local[..w],
+    let arrival = LentArrival {
+        source: &pair.remote[..w],
+        destination: &pair.local[..w],
         segment,
-        state,
-    )
+    };
+    tcpao::judge::judge(&LentTables::of_bytes(table, &[]), &arrival, state)
 }
 
 impl Desk {
@@ -96,16 +85,18 @@ impl Desk {
     fn table_bytes(self, room: usize) -> usize
         ensures { result ≡ min self.table_length room }
     {
-        smaller(self.table_length, room)
+        self.table_length.min(room)
     }
 
     // "stops it with a last line"
     fn stop(self, line: Line) -> Told
         ensures { (table : List ℕ) → Given self table (stopped line) result.desk result.line table }
     {
-        let mut desk = self;
-        desk.stage = 2;
-        desk.held = 0;
+        let desk = Desk {
+            stage: 2,
+            held: 0,
+            ..self
+        };
         Told { desk, line }
     }
 
@@ -117,12 +108,14 @@ impl Desk {
             result.desk result.line table.new }
     {
         let at = self.table_bytes(table.len());
-        let n = smaller(bytes[1] as usize, table.len() - at);
+        let n = (bytes[1] as usize).min(table.len() - at);
         octets::copy_at(table, at, &bytes[2..2 + n]);
-        let mut desk = self;
-        desk.held = 0;
-        desk.table_length = at + n;
-        desk.records = std::num::wrapping_add_u64(self.records, 1);
+        let desk = Desk {
+            held: 0,
+            table_length: at + n,
+            records: self.records.wrapping_add(1),
+            ..self
+        };
         Told {
             desk,
             line: Line::Nothing,
@@ -133,11 +126,13 @@ impl Desk {
     fn at_opening(self, state: State) -> Told
         ensures { (table : List ℕ) → Given self table (λ d. at_opening_of d state) result.desk result.line table }
     {
-        let mut desk = self;
-        desk.stage = 1;
-        desk.held = 0;
-        desk.records = std::num::wrapping_add_u64(self.records, 1);
-        desk.state = state;
+        let desk = Desk {
+            stage: 1,
+            held: 0,
+            records: self.records.wrapping_add(1),
+            state,
+            ..self
+        };
         Told {
             desk,
             line: Line::Nothing,
@@ -151,11 +146,9 @@ impl Desk {
             result.desk result.line table.now }
     {
         let n = self.table_bytes(table.len());
-        let outcome = open_outcome(&table[..n], bytes);
-        match outcome {
-            Outcome::Good(_, _) => self.at_opening(open_state(bytes)),
-            Outcome::Passed => self.at_opening(open_state(bytes)),
-            Outcome::Bad(number, _) => self.stop(Line::Refused(number)),
+        match check_opening(&table[..n], bytes) {
+            Ok(()) => self.at_opening(open_state(bytes)),
+            Err(refusal) => self.stop(Line::Refused(refusal.number)),
         }
     }
 
@@ -167,18 +160,17 @@ impl Desk {
     {
         let n = self.table_bytes(table.len());
         let end = 3 + octets::load16(bytes, 1) as usize;
-        let state = self.state;
-        let judged = judge_on(&table[..n], &bytes[3..end], state);
-        let after = judged.state;
-        let verdict = judged.verdict;
-        let mut desk = self;
-        desk.held = 0;
-        desk.records = std::num::wrapping_add_u64(self.records, 1);
-        desk.segments = std::num::wrapping_add_u64(self.segments, 1);
-        desk.state = after;
+        let judged = judge_on(&table[..n], &bytes[3..end], self.state);
+        let desk = Desk {
+            held: 0,
+            records: self.records.wrapping_add(1),
+            segments: self.segments.wrapping_add(1),
+            state: judged.state,
+            ..self
+        };
         Told {
             desk,
-            line: verdict_line(self.segments, verdict),
+            line: verdict_line(self.segments, judged.verdict),
         }
     }
 
@@ -189,14 +181,11 @@ impl Desk {
             (λ d. settled (take (length table.old)) (with_held bytes.now d))
             result.desk result.line table.new }
     {
-        let kind = bytes[0];
-        if kind == 1 {
-            return self.enter(table, bytes);
+        match bytes[0] {
+            1 => self.enter(table, bytes),
+            2 => self.open(table, bytes),
+            _ => self.answer(table, bytes),
         }
-        if kind == 2 {
-            return self.open(table, bytes);
-        }
-        self.answer(table, bytes)
     }
 
     // Nothing changes, and nothing is printed.
@@ -217,27 +206,24 @@ impl Desk {
             (λ d. looked (take (length table.old)) (with_held (take n self.begun) d))
             result.desk result.line table.new }
     {
-        let begun = self.begun;
-        if faulty(self.stage, &begun[..n]) {
+        let begun = &self.begun[..n];
+        if faulty(self.stage, begun) {
             return self.stop(Line::Fault(self.records));
         }
-        if n < record_bytes(begun[0]) {
-            let mut desk = self;
-            desk.held = n;
+        if n < record_bytes(self.begun[0]) {
             return Told {
-                desk,
+                desk: Desk { held: n, ..self },
                 line: Line::Nothing,
             };
         }
-        self.settle(table, &begun[..n])
+        self.settle(table, begun)
     }
 
     // How many bytes of the record that is begun are there: fewer than it has.
     fn held_bytes(self) -> usize
         ensures { (result ≡ held_count self) × (result < record_bytes_of (kind_of self.begun)) × (result < 1601) }
     {
-        let begun = self.begun;
-        self.held % record_bytes(begun[0])
+        self.held % record_bytes(self.begun[0])
     }
 
     // Of these bytes those up to the end of the record that is begun, or that they begin.
@@ -248,10 +234,9 @@ impl Desk {
     {
         let held = self.held_bytes();
         if held == 0 {
-            return smaller(record_bytes(data[0]), data.len());
+            return record_bytes(data[0]).min(data.len());
         }
-        let begun = self.begun;
-        smaller(record_bytes(begun[0]) - held, data.len())
+        (record_bytes(self.begun[0]) - held).min(data.len())
     }
 
     // These bytes behind those that are held.
@@ -259,12 +244,9 @@ impl Desk {
         requires { held_count self + length «data».now ≤ 1601 }
         ensures { Holds self «data».now result }
     {
-        let held = self.held_bytes();
         let mut begun = self.begun;
-        octets::copy_at(&mut begun, held, data);
-        let mut desk = self;
-        desk.begun = begun;
-        desk
+        octets::copy_at(&mut begun, self.held_bytes(), data);
+        Desk { begun, ..self }
     }
 
     // Takes bytes up to the end of a record, or all that there are, and gives the line to print, if there is one. A desk that has
@@ -272,34 +254,36 @@ impl Desk {
     pub fn advance(self, table: &mut [u8], data: &[u8]) -> Step
         ensures { Advanced self table.old «data».now result table.new }
     {
-        let stage = self.stage;
-        if 1 < stage {
+        if self.stage > 1 {
             return self.idle(data.len());
         }
-        if data.len() == 0 {
+        if data.is_empty() {
             return self.idle(0);
         }
         let took = self.to_take(data);
         let n = self.held_bytes() + took;
         let told = self.hold(&data[..took]).look(n, table);
-        let desk = told.desk;
-        let line = told.line;
-        Step { desk, took, line }
+        Step {
+            desk: told.desk,
+            took,
+            line: told.line,
+        }
     }
 
     // What stands at the end of the recording.
     pub fn finish(self) -> Line
         ensures { Ended self result }
     {
-        let stage = self.stage;
-        if 1 < stage {
-            return Line::Nothing;
-        }
-        if stage == 1 {
-            if self.held_bytes() == 0 {
-                return Line::Nothing;
+        match self.stage {
+            0 => Line::Fault(self.records),
+            1 => {
+                if self.held_bytes() == 0 {
+                    Line::Nothing
+                } else {
+                    Line::Fault(self.records)
+                }
             }
+            _ => Line::Nothing,
         }
-        Line::Fault(self.records)
     }
 }

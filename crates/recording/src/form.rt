@@ -7,32 +7,30 @@ use wire::bytes::byte_at;
 // The longest record, its kind among its bytes.
 pub const RECORD_BYTES: usize = 1601;
 
+#[tactic(auto, unfolding(crate::specs::Recording::record_bytes_of))]
 pub(crate) fn record_bytes(kind: u8) -> usize
     ensures { (result ≡ record_bytes_of kind) × (48 ≤ result) × (result ≤ 1601) }
 {
-    if kind == 1 {
-        return 131;
+    match kind {
+        1 => 131,
+        2 => 48,
+        _ => RECORD_BYTES,
     }
-    if kind == 2 {
-        return 48;
-    }
-    RECORD_BYTES
 }
 
 // Entries and the one opening stand before it, segments behind it.
 fn placed(stage: u8, kind: u8) -> bool
     ensures { result ≡ placed_of stage kind }
 {
-    if stage == 0 {
-        return kind == 1 || kind == 2;
+    match stage {
+        0 => kind == 1 || kind == 2,
+        1 => kind == 3,
+        _ => false,
     }
-    if stage == 1 {
-        return kind == 3;
-    }
-    false
 }
 
 // A byte that is not there yet counts as 0.
+#[tactic(auto, unfolding(crate::specs::Recording::faulty))]
 pub(crate) fn faulty(stage: u8, bytes: &[u8]) -> bool
     ensures { result ≡ faulty_of stage bytes.now }
 {
@@ -40,11 +38,9 @@ pub(crate) fn faulty(stage: u8, bytes: &[u8]) -> bool
     if !placed(stage, kind) {
         return true;
     }
-    if kind == 1 {
-        return byte_at(bytes, 1) > 129;
+    match kind {
+        1 => byte_at(bytes, 1) > 129,
+        3 => octets::be16(byte_at(bytes, 1), byte_at(bytes, 2)) > 1598,
+        _ => false,
     }
-    if kind == 3 {
-        return octets::be16(byte_at(bytes, 1), byte_at(bytes, 2)) > 1598;
-    }
-    false
 }

@@ -7,7 +7,7 @@ use rules::Verdict;
 
 // What is printed at once: nothing; the answer to a segment, with its index, number and extension; 38 and the index of a record; a number
 // alone.
-#[derive(Clone, Copy)]
+#[derive(Clone, Copy, PartialEq, Eq, Debug)]
 pub enum Line {
     Nothing,
     Segment(u64, u8, u32),
@@ -27,6 +27,7 @@ pub(crate) fn verdict_line(index: u64, verdict: Verdict) -> Line
 }
 
 // The digits of a number: the bytes from `from` on. What stands before them means nothing.
+// Kept (project rule): no heap, so the digits stand in a fixed buffer.
 #[derive(Clone, Copy)]
 struct Digits {
     bytes: [u8; 20],
@@ -42,13 +43,14 @@ fn decimal(n: u64) -> Digits
     while 1 < i && 10 <= rest {
         i -= 1;
         bytes[i] = 48 + (rest % 10) as u8;
-        rest = rest / 10;
+        rest /= 10;
     }
     bytes[i - 1] = 48 + (rest % 10) as u8;
     Digits { bytes, from: i - 1 }
 }
 
 // A line as bytes: the first `length` ones. What stands behind them means nothing.
+// Kept (project rule): no heap, so a line stands in a fixed buffer.
 #[derive(Clone, Copy)]
 pub struct Text {
     pub bytes: [u8; 64],
@@ -70,11 +72,10 @@ impl Text {
         ensures { (text_of result ≡ text_of self ++ s.now) × (result.length ≡ self.length + length s.now) }
     {
         let mut bytes = self.bytes;
-        let at = self.length;
-        octets::copy_at(&mut bytes, at, s);
+        octets::copy_at(&mut bytes, self.length, s);
         Text {
             bytes,
-            length: at + s.len(),
+            length: self.length + s.len(),
         }
     }
 
@@ -90,10 +91,8 @@ impl Text {
         requires { self.length + 20 ≤ 64 }
         ensures { (text_of result ≡ text_of self ++ decimal_of n) × (result.length ≤ self.length + 20) }
     {
-        let d = decimal(n);
-        let bytes = d.bytes;
-        let from = d.from;
-        self.put_from(&bytes, from)
+        let digits = decimal(n);
+        self.put_from(&digits.bytes, digits.from)
     }
 }
 

@@ -68,7 +68,7 @@ impl Refusal {
     }
 
     // What refuses a table by itself, 0 the key table and 1 the MD5 table.
-    fn in_table(table: u8, fault: Fault) -> Self
+    pub fn in_table(table: u8, fault: Fault) -> Self
         ensures { result ≡ record { number = fault.number; index = record { table = table; entry = fault.index } } }
     {
         Refusal::at(fault.number, table, fault.index)

@@ -3,15 +3,15 @@ use Rattle.std.proofs.Common.{◌≡◌, ℕ, ◌+◌, length, take, sym, ap, ar
 use Rattle.recording.proofs.Holding.{idles, waits, looks, advances, takes}
 use Rattle.recording.proofs.desk.Desk.advance.Goals as goal
 
-pub returns-then-stage-gt1 : goal.returns-then-stage-gt1
-returns-then-stage-gt1 c =
-    let g = idles (take (length c.args.table.now)) c.args.self c.args.table.now c.args.«data».now _ (lt-ltb _ _ c.if-stage-gt1.true) c.idle.ensures in
+pub returns-then-self-gt1 : goal.returns-then-self-gt1
+returns-then-self-gt1 c =
+    let g = idles (take (length c.args.table.now)) c.args.self c.args.table.now c.args.«data».now _ (lt-ltb _ _ c.if-self-gt1.true) c.idle.ensures in
     record { desk = g.0; took = g.1; room = search rules }
 
-pub returns-then-data-eq0 : goal.returns-then-data-eq0
-returns-then-data-eq0 c =
-    let g = waits (take (length c.args.table.now)) c.args.self c.args.table.now c.args.«data».now _ (le-ltb _ _ c.if-stage-gt1.false)
-    c.if-data-eq0.true c.idle-then-data-eq0.ensures in
+pub returns-then-is_empty : goal.returns-then-is_empty
+returns-then-is_empty c =
+    let g = waits (take (length c.args.table.now)) c.args.self c.args.table.now c.args.«data».now _ (le-ltb _ _ c.if-self-gt1.false)
+    (search rules) c.idle-then-is_empty.ensures in
     record { desk = g.0; took = g.1; room = search rules }
 
 pub slice_bounds-hold-end : goal.slice_bounds-hold-end
@@ -35,7 +35,7 @@ returns c =
     let t = c.to_take-took in
     let n = ap (λ (k : ℕ). k + t.result) c.held_bytes.ensures.0 in
     let h = c.hold in
-    let s = le-ltb _ _ c.if-stage-gt1.false in
+    let s = le-ltb _ _ c.if-self-gt1.false in
     record {
       desk =
           advances c.args.self h.result c.args.«data».now t.result _ whole t.ensures.0 t.ensures.1 t.ensures.2 n h.ensures

@@ -11,4 +11,4 @@ returns c =
     let n = c.table_bytes-n in
     answers c.args.self _ c.args.table.now c.args.bytes.now n.result c.load16.result c.judge_on-judged.result _
     (table-part c.args.table.now c.args.self.table_length n.result n.ensures) c.load16.ensures
-    c.judge_on-judged.ensures c.verdict_line.ensures refl refl refl c.wrapping_add_u64.ensures.value c.wrapping_add_u64-2.ensures.value refl
+    c.judge_on-judged.ensures c.verdict_line.ensures refl refl refl refl refl refl

@@ -1,15 +1,15 @@
 -- A fault, a record that is not whole, a whole one.
-use Rattle.std.proofs.Common.{◌≡◌, length, take, sym, refl, ◌∙◌, length-take-le, rules}
+use Rattle.std.proofs.Common.{◌≡◌, length, take, sym, refl, ◌∙◌, arith, length-take-le, rules}
 use Rattle.recording.proofs.Holding.{inside, looks-stop, looks-short, is_whole, looks-whole}
 use Rattle.recording.proofs.desk.Desk.look.Goals as goal
 
+pub shared_ref_as_front-begun : goal.shared_ref_as_front-begun
+shared_ref_as_front-begun c =
+    let whole : length c.args.self.begun ≡ 1601 = search rules in
+    omega (arith, inside c.args.self c.args.n whole c.requires, whole)
+
 pub slice_bounds-begun-end : goal.slice_bounds-begun-end
 slice_bounds-begun-end c =
-    let whole : length c.args.self.begun ≡ 1601 = search rules in
-    inside c.args.self c.args.n whole c.requires
-
-pub slice_bounds-faulty-end : goal.slice_bounds-faulty-end
-slice_bounds-faulty-end c =
     let whole : length c.args.self.begun ≡ 1601 = search rules in
     sym (length-take-le _ _ (inside c.args.self c.args.n whole c.requires))
 
@@ -24,16 +24,6 @@ returns-then-n-record_bytes c =
     let whole : length c.args.self.begun ≡ 1601 = search rules in
     looks-short c.args.self c.args.n whole c.requires (take (length c.args.table.now)) c.args.table.now _ _
     (sym c.if-faulty.false ∙ c.faulty.ensures) c.record_bytes.ensures.0 c.if-n-record_bytes.true (λ p. refl)
-
-pub slice_bounds-begun-end-2 : goal.slice_bounds-begun-end-2
-slice_bounds-begun-end-2 c =
-    let whole : length c.args.self.begun ≡ 1601 = search rules in
-    inside c.args.self c.args.n whole c.requires
-
-pub slice_bounds-settle-end : goal.slice_bounds-settle-end
-slice_bounds-settle-end c =
-    let whole : length c.args.self.begun ≡ 1601 = search rules in
-    sym (length-take-le _ _ (inside c.args.self c.args.n whole c.requires))
 
 pub settle-requires : goal.settle-requires
 settle-requires c =
