@@ -224,7 +224,7 @@ module _ (t : Tables) (s out : List ℕ) (q : State) where
     pub signs : {n : SignedSegment} → n.len ≡ length s + b.added → n.state ≡ after_signing_of b.position q → signed_as q (Ok n) ≡ signed t s out q
     unfolding signed
     signs {n} el es =
-        (λ i. signed_as q (Ok (record { len = (el ∙ ap (λ (k : ℕ). length s + k) adds) i; state = es i })))
+        (λ i. signed_as q (Ok (record { len = (el ∙ ap (λ (k : ℕ). length s + k) adds-as) i; state = es i })))
         ∙ ap (signed_by q s (outgoing t q).entry) (sym begun.0)
 
     pub writes : {c : List ℕ} → length q.conn.pair.local ≡ 16 → length q.conn.pair.remote ≡ 16
