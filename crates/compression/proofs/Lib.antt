@@ -1,5 +1,5 @@
 pub mod Ring
-pub mod Rounds
+pub mod RoundLaws
 pub mod BlockWords
 pub mod Sha1Compression
 pub mod Sha256Compression

@@ -1,11 +1,11 @@
 -- SHA-1's schedule and rounds, as src/sha1.rt comes to them: FIPS 180-4 §6.1.2 with sixteen words of the schedule. Assumes nothing.
-use Rattle.std.proofs.Common.{◌≡◌, ℕ, ◌/◌, List, length, get_or, sym, ap, ◌∙◌, arith}
+use Rattle.std.proofs.Common.{◌≡◌, ℕ, ◌%◌, refl, ◌/◌, List, length, get_or, sym, ap, ◌∙◌, arith}
 use lib.Bits.{bit_xor}
 use Rattle.compression.specs.Words.{ROTL}
-use Rattle.compression.specs.Schedule.{extended, following, rounds}
+use Rattle.compression.specs.Schedule.{extended, following, rounds, rounds_in}
 use Rattle.compression.specs.Sha1Block.{quarter_f, quarter_k, f, K, next, schedule, variables, round, step, sum5, compress_words}
 use Rattle.compression.proofs.Ring.{Mix, From, from_first, from_next}
-use Rattle.compression.proofs.Rounds.{placed, rounds-none, sixteen-more}
+use Rattle.compression.proofs.RoundLaws.{rounds-none, sixteen-more}
 
 -- f_t and K_t by the quarter of t.
 pub function-in : (t q F x y z : ℕ) → t / 20 ≡ q → F ≡ quarter_f q x y z → F ≡ f t x y z
@@ -35,9 +35,9 @@ S = record {
 -- The whole block.
 pub compressed : (h w0 w1 w2 w3 w4 s0 s1 s2 s3 s4 r : List ℕ) → length w0 ≡ 16
     → w1 ≡ following next w0 → w2 ≡ following next w1 → w3 ≡ following next w2 → w4 ≡ following next w3
-    → s0 ≡ rounds step 0 16 (placed 0 w0) (variables h) → s1 ≡ rounds step 16 16 (placed 16 w1) s0
-    → s2 ≡ rounds step 32 16 (placed 32 w2) s1 → s3 ≡ rounds step 48 16 (placed 48 w3) s2
-    → s4 ≡ rounds step 64 16 (placed 64 w4) s3 → r ≡ sum5 h s4 → r ≡ compress_words h w0
+    → s0 ≡ rounds_in step (λ t. t % 16) 0 16 w0 (variables h) → s1 ≡ rounds_in step (λ t. t % 16) 16 16 w1 s0
+    → s2 ≡ rounds_in step (λ t. t % 16) 32 16 w2 s1 → s3 ≡ rounds_in step (λ t. t % 16) 48 16 w3 s2
+    → s4 ≡ rounds_in step (λ t. t % 16) 64 16 w4 s3 → r ≡ sum5 h s4 → r ≡ compress_words h w0
 unfolding compress_words schedule
 compressed h w0 w1 w2 w3 w4 s0 s1 s2 s3 s4 r l e1 e2 e3 e4 f0 f1 f2 f3 f4 er =
     let W : List ℕ = extended next 64 w0 in
@@ -47,9 +47,9 @@ compressed h w0 w1 w2 w3 w4 s0 s1 s2 s3 s4 r l e1 e2 e3 e4 f0 f1 f2 f3 f4 er =
     let p2 : From S 32 32 w2 W = from_next S 16 32 w1 w2 W p1 e2 in
     let p3 : From S 48 16 w3 W = from_next S 32 16 w2 w3 W p2 e3 in
     let p4 : From S 64 0 w4 W = from_next S 48 0 w3 w4 W p3 e4 in
-    let g0 : s0 ≡ rounds step 0 16 W v = sixteen-more step S 0 64 w0 W v v s0 p0 (rounds-none step 0 W v) f0 in
-    let g1 : s1 ≡ rounds step 0 32 W v = sixteen-more step S 16 48 w1 W v s0 s1 p1 g0 f1 in
-    let g2 : s2 ≡ rounds step 0 48 W v = sixteen-more step S 32 32 w2 W v s1 s2 p2 g1 f2 in
-    let g3 : s3 ≡ rounds step 0 64 W v = sixteen-more step S 48 16 w3 W v s2 s3 p3 g2 f3 in
-    let g4 : s4 ≡ rounds step 0 80 W v = sixteen-more step S 64 0 w4 W v s3 s4 p4 g3 f4 in
+    let g0 : s0 ≡ rounds step 0 16 W v = sixteen-more step S 0 0 64 w0 W v v s0 refl p0 (rounds-none step 0 W v) f0 in
+    let g1 : s1 ≡ rounds step 0 32 W v = sixteen-more step S 16 1 48 w1 W v s0 s1 refl p1 g0 f1 in
+    let g2 : s2 ≡ rounds step 0 48 W v = sixteen-more step S 32 2 32 w2 W v s1 s2 refl p2 g1 f2 in
+    let g3 : s3 ≡ rounds step 0 64 W v = sixteen-more step S 48 3 16 w3 W v s2 s3 refl p3 g2 f3 in
+    let g4 : s4 ≡ rounds step 0 80 W v = sixteen-more step S 64 4 0 w4 W v s3 s4 refl p4 g3 f4 in
     er ∙ ap (sum5 h) g4

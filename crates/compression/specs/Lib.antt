@@ -4,4 +4,3 @@ pub mod TableLaws
 pub mod Sha1Block
 pub mod Sha256Block
 pub mod Md5Block
-pub mod Variables

@@ -13,6 +13,12 @@ unfoldable pub rounds : (ℕ → ℕ → List ℕ → List ℕ) → ℕ → ℕ 
 rounds round t zero W s = s
 rounds round t (suc n) W s = round (t + n) (slice_index W (t + n)) (rounds round t n W s)
 
+-- The same where sixteen words w are there and round t takes the one in place `place t`: of the SHAs t % 16, as w is renewed each sixteen
+-- rounds (below); of MD5 the one that it lists
+unfoldable pub rounds_in : (ℕ → ℕ → List ℕ → List ℕ) → (ℕ → ℕ) → ℕ → ℕ → List ℕ → List ℕ → List ℕ
+rounds_in round place t zero w s = s
+rounds_in round place t (suc n) w s = round (t + n) (slice_index w (place (t + n))) (rounds_in round place t n w s)
+
 -- Sixteen words of the schedule are enough, §6.1.3: the sixteen that follow W; and on the way to them sixteen places, of which those before
 -- place i hold the words that follow W, the others still W's own.
 abbrev pub following : (List ℕ → ℕ → ℕ) → List ℕ → List ℕ

@@ -1,6 +1,7 @@
 -- Words of 32 bits, FIPS 180-4 in the standard's names: what SHA-1 and SHA-256 do with them, and those of a block. MD5 cites some of them.
 -- A word is a number below 2 ^ 32, a block a list of bytes. Assumes nothing.
-use Rattle.std.specs.Prelude.{ℕ, zero, suc, ◌+◌, ◌-◌, ◌*◌, ◌/◌, ◌%◌, ◌^◌, List, [], ◌∷◌, ◌++◌, bit_and, bit_or, bit_xor}
+use Rattle.std.specs.Prelude.{ℕ, zero, suc, ◌+◌, ◌-◌, ◌*◌, ◌/◌, ◌%◌, ◌^◌, List, [], ◌∷◌, ◌++◌, map, bit_and, bit_or, bit_xor, slice_index}
+use Rattle.std.specs.List.{range_with_len}
 use Rattle.octets.specs.Octets.{get32}
 
 -- §2.2.2, §3.2: the complement of a word, the sum modulo 2 ^ 32
@@ -9,6 +10,13 @@ not32 x = 2 ^ 32 - 1 - x
 
 abbrev pub add32 : ℕ → ℕ → ℕ
 add32 x y = (x + y) % 2 ^ 32
+
+-- the n words f 0 to f (n - 1); so the sums of n words of two lists, one by one
+abbrev pub made : ℕ → (ℕ → ℕ) → List ℕ
+made n f = map f (range_with_len 0 n)
+
+abbrev pub sums : ℕ → List ℕ → List ℕ → List ℕ
+sums n h s = made n (λ i. add32 (slice_index h i) (slice_index s i))
 
 -- ROTL^n(x) = (x << n) ∨ (x >> 32 - n), ROTR^n(x) = (x >> n) ∨ (x << 32 - n), SHR^n(x) = x >> n
 abbrev pub ROTL : ℕ → ℕ → ℕ

@@ -3,6 +3,7 @@
 #![tactic(auto)]
 
 pub mod md5;
+mod rounds;
 pub mod sha1;
 pub mod sha256;
 pub mod words;

@@ -11,6 +11,7 @@ use crate::hash_algorithm::{DIGEST_ROOM, HashAlgorithm};
 // The chaining value, the block that is begun, the count of bytes modulo 2^64. The count says how many bytes of the block are held;
 // what stands behind them means nothing, nor do the words behind those that the hash uses: they are no part of the view, and are the
 // results that the contracts leave free.
+// Kept (may not change): block and count are flat, and every value is a context; the theorems of specs/BlocksLaws hold of each.
 #[derive(Clone, Copy)]
 pub struct HashContext {
     pub chain: [u32; 8],
@@ -59,7 +60,7 @@ impl HashContext {
         let held = (self.count % 64) as usize;
         octets::copy_at(&mut block, held, data);
         HashContext {
-            chain: hash.compress(chain, &block),
+            chain: hash.compress_all(chain, &block),
             block,
             count,
         }

@@ -2,11 +2,16 @@
 // specs/Blocks): its compression, the chaining value before the first block, the end of its padding, its digest.
 // A chaining value has the room of the longest, eight words; a hash of fewer uses the first ones, and the others mean nothing.
 ghost use Rattle.std.specs.Prelude.{◌≡◌, ◌/◌, ◌≤◌, ◌++◌, length, take, replicate};
-ghost use Rattle.mac.specs.Blocks.{chained};
+ghost use Rattle.mac.specs.Blocks.{Hash, chained};
 ghost use Rattle.mac.specs.Md5.{parts as md5_parts};
+ghost use Rattle.mac.specs.Sha1.{parts as sha1_parts};
+ghost use Rattle.mac.specs.Sha256.{parts as sha256_parts};
 ghost use Rattle.mac.specs.Hmac.{filled as filled_of};
 ghost use Rattle.mac.specs.HashContexts.{parts_of, words_of, digest_bytes_of, digest_room};
 
+use compression::words::{self, HighFirst, LowFirst};
+
+// Kept (no plainer): which one a connection uses is known at run time alone, so contexts over a type H would stand in an enum of contexts.
 #[derive(Clone, Copy)]
 pub enum HashAlgorithm {
     Sha1,
@@ -17,82 +22,80 @@ pub enum HashAlgorithm {
 // The room for a digest: the longest has so many bytes.
 pub const DIGEST_ROOM: usize = 32;
 
-// SHA-1's five words out of the room for eight, and into it.
-fn first_five(h: [u32; 8]) -> [u32; 5]
-    ensures { result ≡ take 5 h }
+// The first N elements.
+pub(crate) fn first<T: Copy, const N: usize>(s: &[T]) -> [T; N]
+    requires { N ≤ length s.now }
+    ensures { result ≡ take N s.now }
 {
-    [h[0], h[1], h[2], h[3], h[4]]
+    *s.first_chunk().unwrap()
 }
 
-fn five_in_eight(h: [u32; 5]) -> [u32; 8]
-    ensures { take 5 result ≡ h }
+// A chaining value in the room of the longest.
+fn in_eight<const N: usize>(h: [u32; N]) -> [u32; 8]
+    requires { N ≤ 8 }
+    ensures { take N result ≡ h.entry }
 {
-    [h[0], h[1], h[2], h[3], h[4], 0, 0, 0]
+    let mut room = [0; 8];
+    room[..N].copy_from_slice(&h);
+    room
 }
 
-// MD5's four.
-fn first_four(h: [u32; 8]) -> [u32; 4]
-    ensures { result ≡ take 4 h }
-{
-    [h[0], h[1], h[2], h[3]]
+// What a hash of N words does with a block.
+trait BlockHash<const N: usize> {
+    ghost parts: { Hash };
+
+    fn compress(h: [u32; N], block: &[u8; 64]) -> [u32; N]
+        ensures { result ≡ parts.compress h.entry block.now };
 }
 
-fn four_in_eight(h: [u32; 4]) -> [u32; 8]
-    ensures { take 4 result ≡ h }
-{
-    [h[0], h[1], h[2], h[3], 0, 0, 0, 0]
-}
+struct Sha1;
 
-// Zeros behind a digest.
-fn in_room(d: &[u8]) -> [u8; DIGEST_ROOM]
-    requires { length d.now ≤ digest_room }
-    ensures { result ≡ filled_of digest_room d.now }
-{
-    let mut out = [0u8; DIGEST_ROOM];
-    octets::copy_at(&mut out, 0, d);
-    out
-}
+impl BlockHash<5> for Sha1 {
+    ghost parts = { sha1_parts };
 
-// A digest of twenty bytes, and one of sixteen, out of the room.
-pub(crate) fn first_twenty(d: [u8; DIGEST_ROOM]) -> [u8; 20]
-    ensures { result ≡ take 20 d }
-{
-    let mut out = [0u8; 20];
-    octets::copy_at(&mut out, 0, &d[..20]);
-    out
-}
-
-pub(crate) fn first_sixteen(d: [u8; DIGEST_ROOM]) -> [u8; 16]
-    ensures { result ≡ take 16 d }
-{
-    let mut out = [0u8; 16];
-    octets::copy_at(&mut out, 0, &d[..16]);
-    out
-}
-
-// MD5's chaining value after the whole blocks of data, each handled from where it lies; between two blocks only the registers are kept.
-fn md5_blocks(h: [u32; 8], data: &[u8]) -> [u32; 8]
-    ensures { take 4 result ≡ chained md5_parts (take 4 h) (length «data».now / 64) «data».now }
-{
-    let mut chain = first_four(h);
-    let n = data.len() / 64;
-    for i in 0..n {
-        let at = 64 * i;
-        let end = at + 64;
-        let w = compression::md5::load(&data[at..end]);
-        let next = compression::md5::compress(chain, w);
-        chain = next;
+    fn compress(h: [u32; 5], block: &[u8; 64]) -> [u32; 5]
+        ensures { result ≡ sha1_parts.compress h block.now }
+    {
+        compression::sha1::compress(h, words::load::<HighFirst>(block))
     }
-    four_in_eight(chain)
 }
 
-// Its registers after the block m, by the same loop: the compiler copies a loop that is called from two places into neither, and what calls
-// it stays small. The room of eight is made here: a caller's own would have to lie in memory, and the SHAs of `compress` would pay for it.
-fn md5_block(h: [u32; 4], m: &[u8]) -> [u32; 4]
-    requires { length m.now ≡ 64 }
-    ensures { result ≡ md5_parts.compress h m.now }
+struct Sha256;
+
+impl BlockHash<8> for Sha256 {
+    ghost parts = { sha256_parts };
+
+    fn compress(h: [u32; 8], block: &[u8; 64]) -> [u32; 8]
+        ensures { result ≡ sha256_parts.compress h block.now }
+    {
+        compression::sha256::compress(h, words::load::<HighFirst>(block))
+    }
+}
+
+struct Md5;
+
+impl BlockHash<4> for Md5 {
+    ghost parts = { md5_parts };
+
+    fn compress(h: [u32; 4], block: &[u8; 64]) -> [u32; 4]
+        ensures { result ≡ md5_parts.compress h block.now }
+    {
+        compression::md5::compress(h, words::load::<LowFirst>(block))
+    }
+}
+
+// The chaining value after the whole blocks of data, each compressed from where it lies. Between two blocks only the words that the hash
+// uses are kept, and not the room of eight, which would cost MD5 a tenth of its time.
+fn compress_blocks<const N: usize, H: BlockHash<N>>(h: [u32; 8], data: &[u8]) -> [u32; 8]
+    requires { N ≤ 8 }
+    ensures { take N result ≡ chained H.parts (take N h) (length «data».now / 64) «data».now }
 {
-    first_four(md5_blocks(four_in_eight(h), m))
+    let (blocks, _) = data.as_chunks::<64>();
+    let mut chain: [u32; N] = first(&h);
+    for block in blocks {
+        chain = H::compress(chain, block);
+    }
+    in_eight(chain)
 }
 
 impl HashAlgorithm {
@@ -112,25 +115,9 @@ impl HashAlgorithm {
         ensures { take (words_of self) result ≡ (parts_of self).initial }
     {
         match self {
-            HashAlgorithm::Sha1 => five_in_eight(compression::sha1::initial()),
+            HashAlgorithm::Sha1 => in_eight(compression::sha1::initial()),
             HashAlgorithm::Sha256 => compression::sha256::initial(),
-            HashAlgorithm::Md5 => four_in_eight(compression::md5::initial()),
-        }
-    }
-
-    // The chaining value after the block m. The SHAs read it in the same way, by one call for both, which costs no call: the compiler
-    // copies in what is called from one place.
-    pub(crate) fn compress(self, h: [u32; 8], m: &[u8]) -> [u32; 8]
-        requires { length m.now ≡ 64 }
-        ensures { take (words_of self) result ≡ (parts_of self).compress (take (words_of self) h) m.now }
-    {
-        if let HashAlgorithm::Md5 = self {
-            return four_in_eight(md5_block(first_four(h), m));
-        }
-        let w = compression::words::load(m);
-        match self {
-            HashAlgorithm::Sha1 => five_in_eight(compression::sha1::compress(first_five(h), w)),
-            _ => compression::sha256::compress(h, w),
+            HashAlgorithm::Md5 => in_eight(compression::md5::initial()),
         }
     }
 
@@ -145,40 +132,26 @@ impl HashAlgorithm {
         }
     }
 
-    // The last chaining value as bytes. MD5 apart again: as one arm of three it would cost the SHAs, which the compiler joins.
+    // The last chaining value as bytes.
     pub(crate) fn digest(self, h: [u32; 8]) -> [u8; DIGEST_ROOM]
         ensures { result ≡ filled_of digest_room ((parts_of self).digest (take (words_of self) h)) }
     {
-        if let HashAlgorithm::Md5 = self {
-            let d = compression::md5::digest(first_four(h));
-            return in_room(&d);
-        }
         match self {
-            HashAlgorithm::Sha1 => {
-                let d = compression::sha1::digest(first_five(h));
-                in_room(&d)
-            }
-            _ => compression::sha256::digest(h),
+            HashAlgorithm::Sha1 => octets::padded(&compression::sha1::digest(first(&h))),
+            HashAlgorithm::Sha256 => compression::sha256::digest(h),
+            HashAlgorithm::Md5 => octets::padded(&compression::md5::digest(first(&h))),
         }
     }
 
-    // The chaining value after the whole blocks of data, each compressed from where it lies. MD5 has a loop of its own: a block takes it so
-    // little time that the room of eight words, written and read between two blocks, would cost a tenth of it.
+    // The chaining value after the whole blocks of data.
     pub(crate) fn compress_all(self, h: [u32; 8], data: &[u8]) -> [u32; 8]
         ensures { take (words_of self) result
             ≡ chained (parts_of self) (take (words_of self) h) (length «data».now / 64) «data».now }
     {
-        if let HashAlgorithm::Md5 = self {
-            return md5_blocks(h, data);
+        match self {
+            HashAlgorithm::Sha1 => compress_blocks::<5, Sha1>(h, data),
+            HashAlgorithm::Sha256 => compress_blocks::<8, Sha256>(h, data),
+            HashAlgorithm::Md5 => compress_blocks::<4, Md5>(h, data),
         }
-        let mut chain = h;
-        let n = data.len() / 64;
-        for i in 0..n {
-            let at = 64 * i;
-            let end = at + 64;
-            let next = self.compress(chain, &data[at..end]);
-            chain = next;
-        }
-        chain
     }
 }

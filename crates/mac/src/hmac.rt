@@ -7,7 +7,7 @@ ghost use Rattle.mac.specs.Hmac.{hmac_start, hmac_absorb, hmac_finished};
 ghost use Rattle.mac.specs.HashContexts.{parts_of, words_of, digest_room, hmac_view};
 
 use crate::hash::HashContext;
-use crate::hash_algorithm::{DIGEST_ROOM, HashAlgorithm, first_twenty};
+use crate::hash_algorithm::{DIGEST_ROOM, HashAlgorithm, first};
 
 // The outer hash's chaining value after the block of its pad, and the inner hash. What HashContext leaves free is left free here too, and
 // so are the words of `outer` behind those that the hash uses.
@@ -17,32 +17,22 @@ pub struct HmacContext {
     pub inner: HashContext,
 }
 
-// Zeros behind a key of at most 64 bytes.
-fn filled(key: &[u8]) -> [u8; 64]
-    requires { length key.now ≤ 64 }
-    ensures { result ≡ filled_of 64 key.now }
-{
-    let mut k = [0u8; 64];
-    octets::copy_at(&mut k, 0, key);
-    k
-}
-
 // A key of more than 64 bytes is hashed first.
 fn key_block(hash: HashAlgorithm, key: &[u8]) -> [u8; 64]
     ensures { result ≡ key_block_of (hash_of (parts_of hash)) 64 key.now }
 {
     if key.len() <= 64 {
-        return filled(key);
+        return octets::padded(key);
     }
-    let d = crate::hash::hash(hash, key);
-    filled(&d)
+    octets::padded(&crate::hash::hash(hash, key))
 }
 
 // The key's block, each byte xor x.
 fn xored(k: [u8; 64], x: u8) -> [u8; 64]
     ensures { result ≡ xored_of x k }
 {
-    let mut out = [0u8; 64];
+    // Kept (proof): `k.map(|b| b ^ x)` was tried: the search finds nothing of what a closure gives that captures x.
+    let mut out = k;
     for i in 0..64 {
         out[i] = k[i] ^ x;
     }
@@ -54,7 +44,7 @@ fn pad(hash: HashAlgorithm, k: [u8; 64], x: u8) -> [u32; 8]
     ensures { take (words_of hash) result ≡ (parts_of hash).compress (parts_of hash).initial (xored_of x k) }
 {
     let p = xored(k, x);
-    hash.compress(hash.initial(), &p)
+    hash.compress_all(hash.initial(), &p)
 }
 
 impl HmacContext {
@@ -113,7 +103,7 @@ pub fn hmac(hash: HashAlgorithm, key: &[u8], data: &[u8]) -> [u8; DIGEST_ROOM]
 pub fn hmac_sha1(key: &[u8], data: &[u8]) -> [u8; 20]
     ensures { result ≡ hmac_sha1_of key.now «data».now }
 {
-    first_twenty(hmac(HashAlgorithm::Sha1, key, data))
+    first(&hmac(HashAlgorithm::Sha1, key, data))
 }
 
 pub fn hmac_sha256(key: &[u8], data: &[u8]) -> [u8; 32]

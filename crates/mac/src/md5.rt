@@ -3,11 +3,11 @@
 ghost use Rattle.std.specs.Prelude.{◌≡◌};
 ghost use Rattle.mac.specs.Md5.{md5 as md5_of};
 
-use crate::hash_algorithm::{HashAlgorithm, first_sixteen};
+use crate::hash_algorithm::{HashAlgorithm, first};
 
 // MD5 of a whole message.
 pub fn md5(data: &[u8]) -> [u8; 16]
     ensures { result ≡ md5_of «data».now }
 {
-    first_sixteen(crate::hash::hash(HashAlgorithm::Md5, data))
+    first(&crate::hash::hash(HashAlgorithm::Md5, data))
 }

@@ -5,7 +5,7 @@ ghost use Rattle.mac.specs.Aes as Fips;
 ghost use Rattle.mac.specs.AesWords as Words;
 
 // For each byte x, with s = S-box(x), the bytes {02} s, s, s, {03} s of a word, the first one lowest.
-const MIX_TABLE: [u32; 256] = [
+static MIX_TABLE: [u32; 256] = [
     0xa56363c6, 0x847c7cf8, 0x997777ee, 0x8d7b7bf6, 0x0df2f2ff, 0xbd6b6bd6, 0xb16f6fde, 0x54c5c591,
     0x50303060, 0x03010102, 0xa96767ce, 0x7d2b2b56, 0x19fefee7, 0x62d7d7b5, 0xe6abab4d, 0x9a7676ec,
     0x45caca8f, 0x9d82821f, 0x40c9c989, 0x877d7dfa, 0x15fafaef, 0xeb5959b2, 0xc947478e, 0x0bf0f0fb,
@@ -40,25 +40,23 @@ const MIX_TABLE: [u32; 256] = [
     0xc3414182, 0xb0999929, 0x772d2d5a, 0x110f0f1e, 0xcbb0b07b, 0xfc5454a8, 0xd6bbbb6d, 0x3a16162c,
 ];
 
-// The table with its rule: made once for a message and lent, as the S-box is for a key expansion.
-pub(crate) fn table() -> [u32; 256]
-    ensures { Words.Mixing result }
+// The table with its rule.
+fn table() -> &'static [u32; 256]
+    ensures { Words.Mixing result.now }
 {
-    MIX_TABLE
+    &MIX_TABLE
 }
 
 // The entry of a word's lowest byte.
-pub(crate) fn entry(t: &[u32; 256], x: u32) -> u32
-    requires { Words.Mixing t.now }
+pub(crate) fn entry(x: u32) -> u32
     ensures { Words.bytes result ≡ Words.multiples (Fips.sbox (x % 2 ^ 8)) }
 {
-    t[(x % 256) as usize]
+    table()[(x % 256) as usize]
 }
 
 // The S-box of a word's lowest byte, which stands second in its entry.
-pub(crate) fn sub(t: &[u32; 256], x: u32) -> u8
-    requires { Words.Mixing t.now }
+pub(crate) fn sub(x: u32) -> u8
     ensures { result ≡ Fips.sbox (x % 2 ^ 8) }
 {
-    ((entry(t, x) >> 8) % 256) as u8
+    ((entry(x) >> 8) % 256) as u8
 }

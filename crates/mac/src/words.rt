@@ -8,7 +8,7 @@ ghost use Rattle.mac.specs.AesWords as Words;
 pub(crate) fn word(a: u8, b: u8, c: u8, d: u8) -> u32
     ensures { Words.bytes result ≡ a ∷ b ∷ c ∷ d ∷ [] }
 {
-    d as u32 * 16777216 + c as u32 * 65536 + b as u32 * 256 + a as u32
+    u32::from_le_bytes([a, b, c, d])
 }
 
 // A block, or a round key, as words.
@@ -26,23 +26,13 @@ pub(crate) fn load(b: [u8; 16]) -> [u32; 4]
 pub(crate) fn store(s: [u32; 4]) -> [u8; 16]
     ensures { result ≡ Words.state s }
 {
+    let a = s[0].to_le_bytes();
+    let b = s[1].to_le_bytes();
+    let c = s[2].to_le_bytes();
+    let d = s[3].to_le_bytes();
     [
-        (s[0] % 256) as u8,
-        ((s[0] >> 8) % 256) as u8,
-        ((s[0] >> 16) % 256) as u8,
-        ((s[0] >> 24) % 256) as u8,
-        (s[1] % 256) as u8,
-        ((s[1] >> 8) % 256) as u8,
-        ((s[1] >> 16) % 256) as u8,
-        ((s[1] >> 24) % 256) as u8,
-        (s[2] % 256) as u8,
-        ((s[2] >> 8) % 256) as u8,
-        ((s[2] >> 16) % 256) as u8,
-        ((s[2] >> 24) % 256) as u8,
-        (s[3] % 256) as u8,
-        ((s[3] >> 8) % 256) as u8,
-        ((s[3] >> 16) % 256) as u8,
-        ((s[3] >> 24) % 256) as u8,
+        a[0], a[1], a[2], a[3], b[0], b[1], b[2], b[3], c[0], c[1], c[2], c[3], d[0], d[1], d[2],
+        d[3],
     ]
 }
 
@@ -50,37 +40,13 @@ pub(crate) fn store(s: [u32; 4]) -> [u8; 16]
 pub(crate) fn load_keys(k: [[u8; 16]; 11]) -> [[u32; 4]; 11]
     ensures { Words.round_keys result ≡ k }
 {
-    [
-        load(k[0]),
-        load(k[1]),
-        load(k[2]),
-        load(k[3]),
-        load(k[4]),
-        load(k[5]),
-        load(k[6]),
-        load(k[7]),
-        load(k[8]),
-        load(k[9]),
-        load(k[10]),
-    ]
+    k.map(load)
 }
 
 pub(crate) fn store_keys(w: [[u32; 4]; 11]) -> [[u8; 16]; 11]
     ensures { result ≡ Words.round_keys w }
 {
-    [
-        store(w[0]),
-        store(w[1]),
-        store(w[2]),
-        store(w[3]),
-        store(w[4]),
-        store(w[5]),
-        store(w[6]),
-        store(w[7]),
-        store(w[8]),
-        store(w[9]),
-        store(w[10]),
-    ]
+    w.map(store)
 }
 
 // AddRoundKey.

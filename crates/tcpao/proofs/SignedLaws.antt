@@ -15,7 +15,6 @@ use Rattle.wire.specs.Header.{header_end_of}
 use Rattle.keys.specs.declared.entry.Secret.{Secret}
 use Rattle.keys.specs.declared.entry.Entry.{Entry}
 use Rattle.keys.specs.Entry.{key_of}
-use Rattle.rules.specs.declared.Outcome.TheVariants.{Good}
 use Rattle.rules.specs.declared.State.{State}
 use Rattle.rules.specs.declared.Hidden.{Hidden}
 use Rattle.rules.specs.Mac.{Flow, leaving_hidden_of, blanked, pseudo_header, front, segment_mac}
@@ -24,7 +23,7 @@ use Rattle.rules.proofs.DigestLaws.{length-digest}
 use Rattle.rules.specs.Checksum.{with_checksum_of}
 use Rattle.rules.proofs.ChecksumLaws.{pseudo-even}
 use Rattle.rules.proofs.MacLaws.{length-mac}
-use Rattle.rules.specs.Segment.{inserted, with_option, Whole, padding, option_of, option_bytes, signed_with, digested_with}
+use Rattle.rules.specs.Segment.{inserted, with_option, Whole, padding, option_of, option_bytes, md5_option_bytes, signed_with, digested_with}
 use Rattle.rules.specs.Connection.{local_address, remote_address, is_md5_of, leaving, extension_of_lem}
 use Rattle.rules.specs.Calls.{authenticated, digested, signed_segment, written}
 use Rattle.traffic.specs.Padded.{padded}
@@ -37,16 +36,18 @@ use Rattle.tcpao.specs.SignedBytes.{Form, ao_form, md5_form, form_of, option_wit
 use Rattle.tcpao.specs.SignBegin.{blank_header_of, ao_front, md5_front, front_of_lem, mac_place_of, Ready, Starts, Fed, Writable, with_mac}
 use Rattle.tcpao.specs.SignBegin.{checked_header, ended, finished}
 use Rattle.tcpao.specs.declared.sign_begun.SignBegun.{SignBegun}
+use Rattle.tcpao.specs.declared.sign_begun.Carrier.{Carrier}
+use Rattle.tcpao.specs.declared.sign_begun.Carrier.TheVariants.{Ao, Md5}
 use Rattle.tcpao.proofs.CheckedLaws.{checked-is}
 
 -- The head.
 
 -- bytes that are read one by one
-abbrev reads : ℕ → ℕ → List ℕ → List ℕ
+abbrev pub reads : ℕ → ℕ → List ℕ → List ℕ
 reads zero i s = []
 reads (suc n) i s = get_or s i 0 ∷ reads n (suc i) s
 
-reads-is : (n i : ℕ) (s : List ℕ) → i + n ≤ length s → reads n i s ≡ take n (drop i s)
+pub reads-is : (n i : ℕ) (s : List ℕ) → i + n ≤ length s → reads n i s ≡ take n (drop i s)
 reads-is zero i s h = refl
 reads-is (suc n) i s h =
     ap (λ (l : List ℕ). get_or s i 0 ∷ l) (reads-is n (suc i) s (omega arith))
@@ -283,13 +284,13 @@ module _ (f : Form) (q : State) (s : List ℕ) (can : Signable s f) where
   front-is {end = end} {added = added} ends adds heads =
       ap (take (end + added)) heads ∙ take_at blank (zeros (60 - length blank)) (end + added) (omega (arith, blank-long, ends, adds))
 
-  pub starts_is : (x : ℕ) (v : MacView) {added n way : ℕ} {h : List ℕ} (m : MacContext) (u : Sum) → mac_place_of way ≡ 20 + length f.head
+  pub starts_is : (x : ℕ) (v : MacView) (way : Carrier) {added n : ℕ} {h : List ℕ} (m : MacContext) (u : Sum) → mac_place_of way ≡ 20 + length f.head
       → n ≡ f.bytes → added ≡ added_by f → h ≡ padded 60 blank → mac_view m ≡ v → u ≡ added_to begun (pseudo (length s + added))
       → Starts x f v q s
-      (record { outcome = Good x q.ask_id; way = way; added = added; header = h; mac = m; mac_bytes = n; sum = u })
-  starts_is x v m u stands counts adds heads macs sums =
+      (record { position = x; carrier = way; added = added; header = h; mac = m; mac_bytes = n; sum = u })
+  starts_is x v way m u stands counts adds heads macs sums =
       record {
-        outcome = refl;
+        position = refl;
         ready =
             record {
               place = stands;
@@ -408,18 +409,20 @@ module _ (x : ℕ) (e : Secret) (q : State) (s : List ℕ) (can : Signable s (ao
       ∙ ap (λ (v : Secret). summed q (signed_with k r (segment_mac v (leaving_hidden_of v) flow (extension_of_lem x) 20 (signed_with k r (zeros v.mac_bytes) s)) s))
       (sym under)
 
-  pub ao-starts : {end added ext : ℕ} (f : Flow) (v : Hidden) (m : MacContext) {h : List ℕ} (u : Sum) → end ≡ header_end_of s → added ≡ option_bytes n
-      → f ≡ flow → ext ≡ extension_of_lem x → v ≡ hides
-      → h ≡ padded 60 (inserted (blank_option 29 (4 + n) q.send_id q.ask_id added) (take end s))
-      → mac_view m ≡ fronted_by e v f ext 20 (length s + added) (take (end + added) h)
-      → u ≡ added_to begun (pseudo_header (local_address q.conn.pair) (remote_address q.conn.pair) (length s + added))
+  pub ao-starts : {old : List ℕ} {added ext len : ℕ} → len ≡ length s → (f : Flow) (v : Hidden) (m : MacContext) {h : List ℕ} (u : Sum) → old ≡ take (header_end_of s) s
+      → added ≡ option_bytes n → f ≡ flow → ext ≡ extension_of_lem x → v ≡ hides
+      → h ≡ padded 60 (inserted (blank_option 29 (4 + n) q.send_id q.ask_id added) old)
+      → mac_view m ≡ fronted_by e v f ext 20 (len + added) (take (length old + added) h)
+      → u ≡ added_to begun (pseudo_header (local_address q.conn.pair) (remote_address q.conn.pair) (len + added))
       → Starts x (ao_form e q) (ao_front x e q s) q s
-      (record { outcome = Good x q.ask_id; way = 0; added = added; header = h; mac = m; mac_bytes = n; sum = u })
-  ao-starts {end = end} {added = added} f v m u ends adds flows exts hid heads macs sums =
-      let hb = heads ∙ (λ i. padded 60 (inserted (ao-blank e q adds i) (take (ends i) s))) in
+      (record { position = x; carrier = Ao; added = added; header = h; mac = m; mac_bytes = n; sum = u })
+  ao-starts {added = added} lens f v m u olds adds flows exts hid heads macs sums =
+      let ends = ap length olds ∙ length-take-le (header_end_of s) s can.inside in
+      let hb = heads ∙ (λ i. padded 60 (inserted (ao-blank e q adds i) (olds i))) in
       let t = front-is (ao_form e q) q s can ends adds hb in
-      starts_is (ao_form e q) q s can x (ao_front x e q s) m u refl refl adds hb
-      (macs ∙ (λ i. fronted_by e (hid i) (flows i) (exts i) 20 (length s + adds i) (t i))) sums
+      starts_is (ao_form e q) q s can x (ao_front x e q s) Ao m u refl refl adds hb
+      (macs ∙ (λ i. fronted_by e (hid i) (flows i) (exts i) 20 (lens i + adds i) (t i)))
+      (sums ∙ (λ i. added_to begun (pseudo_header (local_address q.conn.pair) (remote_address q.conn.pair) (lens i + added))))
 
 -- MD5.
 
@@ -443,17 +446,20 @@ module _ (e : Secret) (q : State) (s : List ℕ) (can : Signable s md5_form) whe
       ∙ ap (λ (v : Secret). summed q (digested_with (segment_digest (key_of v) (leaving q.conn).source (leaving q.conn).destination (digested_with (zeros 16) s)) s))
       (sym under)
 
-  pub md5-starts : (x : ℕ) {end : ℕ} (f : Flow) (m : MacContext) {h : List ℕ} (u : Sum) → end ≡ header_end_of s → f ≡ leaving q.conn
-      → h ≡ padded 60 (inserted (blank_option 19 18 0 0 20) (take end s))
-      → mac_view m ≡ digested_by e f (length s + 20) (take (end + 20) h)
-      → u ≡ added_to begun (pseudo_header (local_address q.conn.pair) (remote_address q.conn.pair) (length s + 20))
+  pub md5-starts : (x : ℕ) {old : List ℕ} {added len : ℕ} → len ≡ length s → (f : Flow) (m : MacContext) {h : List ℕ} (u : Sum) → old ≡ take (header_end_of s) s
+      → added ≡ md5_option_bytes → f ≡ leaving q.conn
+      → h ≡ padded 60 (inserted (blank_option 19 18 0 0 added) old)
+      → mac_view m ≡ digested_by e f (len + added) (take (length old + added) h)
+      → u ≡ added_to begun (pseudo_header (local_address q.conn.pair) (remote_address q.conn.pair) (len + added))
       → Starts x md5_form (md5_front e q s) q s
-      (record { outcome = Good x q.ask_id; way = 1; added = 20; header = h; mac = m; mac_bytes = 16; sum = u })
-  md5-starts x {end = end} f m u ends flows heads macs sums =
-      let hb = heads ∙ (λ i. padded 60 (inserted (blank_option 19 18 0 0 20) (take (ends i) s))) in
-      let t = front-is md5_form q s can ends refl hb in
-      starts_is md5_form q s can x (md5_front e q s) m u refl refl refl hb
-      (macs ∙ (λ i. digested_by e (flows i) (length s + 20) (t i))) sums
+      (record { position = x; carrier = Md5; added = added; header = h; mac = m; mac_bytes = 16; sum = u })
+  md5-starts x {added = added} lens f m u olds adds flows heads macs sums =
+      let ends = ap length olds ∙ length-take-le (header_end_of s) s can.inside in
+      let hb = heads ∙ (λ i. padded 60 (inserted (blank_option 19 18 0 0 (adds i)) (olds i))) in
+      let t = front-is md5_form q s can ends adds hb in
+      starts_is md5_form q s can x (md5_front e q s) Md5 m u refl refl adds hb
+      (macs ∙ (λ i. digested_by e (flows i) (lens i + adds i) (t i)))
+      (sums ∙ (λ i. added_to begun (pseudo_header (local_address q.conn.pair) (remote_address q.conn.pair) (lens i + added))))
 
 -- By the way of the connection.
 module _ (x : ℕ) (e : Secret) (q : State) (s : List ℕ) (can : Signable s (form_of e q)) (b : SignBegun)
@@ -479,7 +485,7 @@ pub fed-ends : (b c : SignBegun) {d y : List ℕ} → Fed b d c → d ≡ y → 
 fed-ends b c f e q =
     let v = f.mac ∙ ap (mac_absorb (mac_view b.mac)) e in
     let u = f.sum ∙ ap (added_to b.sum) e in
-    let place = ap mac_place_of f.way in
+    let place = ap mac_place_of f.carrier in
     let cut : mac_length_of c.mac_bytes ≡ mac_length_of b.mac_bytes = ap mac_length_of f.bytes in
     q
     ∙ (λ i. checked_header (paste (f.header i) (place i) (take (cut i) (mac_finished (v i))) (length (take (cut i) (mac_finished (v i))))) (u i))

@@ -20,7 +20,7 @@ use Rattle.traffic.specs.Padded.{padded}
 use Rattle.traffic.specs.MacContext.{MacView, mac_view, mac_absorb, mac_finished, fronted_by, digested_by}
 use Rattle.checks.specs.Begin.{mac_length_of}
 use Rattle.checks.specs.GroupLaws.{is_final}
-use Rattle.tcpao.specs.SignedBytes.{Form, ao_form, md5_form, form_of, option_with, added_by}
+use Rattle.tcpao.specs.SignedBytes.{Form, ao_form, md5_form, form_of, option_with, added_by, Signable}
 use Rattle.tcpao.specs.declared.sign_begun.SignBegun.{SignBegun}
 use Rattle.tcpao.specs.declared.sign_begun.Carrier.{Carrier}
 use Rattle.tcpao.specs.declared.sign_begun.Carrier.TheVariants.{Ao, Md5}
@@ -63,10 +63,11 @@ pub record Starts (x : ℕ) (f : Form) (v : MacView) (q : State) (s : List ℕ) 
   pub position : b.position ≡ x
   pub ready : Ready f v q s b
 
--- Good at a position, and the rest waits there; or a number, which is given as it is
+-- Good at a position, where the segment may be signed so and the rest waits; or a number, which is given as it is
 abbrev pub SignBegins : Tables → List ℕ → ℕ → State → Result SignBegun Outcome → Type 0
 SignBegins t s room q (Ok b) =
     (check_sign t s room q ≡ Good b.position q.ask_id)
+    × Signable s (form_of (outgoing t q).entry.secret q)
     × Ready (form_of (outgoing t q).entry.secret q) (front_of_lem b.position (outgoing t q).entry.secret q s) q s b
 SignBegins t s room q (Err e) = (check_sign t s room q ≡ e) × (is_final e ≡ true)
 

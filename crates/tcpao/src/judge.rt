@@ -10,9 +10,7 @@ use checks::begun::{Way, finished};
 use checks::check::{arrival_pair, begin_syn, check, check_syn};
 use keys::entry::Pair;
 use rules::{Judged, LentArrival, Outcome, State, SynJudged, Verdict};
-use states::writers::{
-    empty, is_md5, is_open, opened, with_accepted, with_counted, with_drop,
-};
+use states::writers::{empty, is_md5, is_open, opened, with_accepted, with_counted, with_drop};
 use tables::LentTables;
 use wire::header::sequence;
 

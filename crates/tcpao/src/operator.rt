@@ -11,11 +11,13 @@ use rules::State;
 use states::writers::with_asked;
 use tables::{LentTables, Refusal};
 
-// 10 to 17 and 45 with the entry's table and index, or 44, or how many key entries there are.
+// 10 to 17 and 45 with the entry's table and index, or 44, or how many key entries there are: that the tables are those of some bytes is
+// what `parts` says.
 pub fn check_table(tables: &LentTables<'_>) -> Result<usize, Refusal>
     ensures answer { result ≡ tables.now.answer }
     ensures number { table_answer result ≡ table_number tables.now }
 {
+    let _ = tables.parts();
     tables.check()
 }
 

@@ -1,10 +1,11 @@
 // Signing: document 01, "A connection's life" and "What the MAC covers". The number is decided first (`checks::signing`); only then is a
 // byte of the output written, and only the signed length's. The whole call is one begin, one piece of data and one end. Assumes nothing at
 // the call; the functions below it say what the tests left.
-ghost use Rattle.std.specs.Prelude.{◌≡◌, ◌++◌, ◌+◌, ◌≤◌, length};
+ghost use Rattle.std.specs.Prelude.{◌≡◌, ◌++◌, ◌+◌, ◌≤◌, false, length};
 ghost use Rattle.keys.specs.Table.{found_of};
 ghost use Rattle.rules.specs.Answers.{signing_answer, signed_number};
-ghost use Rattle.rules.specs.Calls.{outgoing as outgoing_of, after_signing_of, written, signed, output};
+ghost use Rattle.rules.specs.Connection.{is_md5_of};
+ghost use Rattle.rules.specs.Calls.{is_refused, outgoing as outgoing_of, after_signing_of, written, signed, output};
 ghost use Rattle.rules.specs.Results.{signed_as};
 ghost use Rattle.tcpao.specs.SignBegin.{SignBegins, Writable, finished};
 
@@ -16,10 +17,14 @@ use rules::{Outcome, SignedSegment, State};
 use states::writers::{is_md5, is_open, with_sent};
 use tables::{LentTables, Refusal};
 
-// The entry signed under: the outgoing key's; on the MD5 way the one that matches the pair.
+// The entry signed under: the outgoing key's; on the MD5 way the one that matches the pair. In tables that are not refused the MAC by TCP-AO
+// has at most 16 bytes: that they are those of some bytes is what `parts` says.
 fn outgoing(tables: &LentTables<'_>, state: State) -> Option<Hit>
-    ensures { found_of result ≡ outgoing_of tables.now state }
+    ensures entry { found_of result ≡ outgoing_of tables.now state }
+    ensures short { is_refused tables.now.answer ≡ false → is_md5_of state.conn ≡ false
+        → (found_of result).entry.secret.mac_bytes ≤ 16 }
 {
+    let _ = tables.parts();
     if is_md5(state.conn) {
         tables.find_md5(state.conn.pair)
     } else {

@@ -25,8 +25,8 @@ pub struct Covered<'a> {
 }
 
 impl Covered<'_> {
-    // "the TCP header with checksum and MAC bytes zero", and the ports of hidden sides; "With flag 0 only the header's first 20 bytes, data offset as sent, and TCP-AO
-    // remain."
+    // "the TCP header with checksum and MAC bytes zero", and the ports of hidden sides; "With flag 0 only the header's first 20 bytes,
+    // data offset as sent, and TCP-AO remain."
     #[tactic(auto, unfolding(rules::specs::Mac::covered_header))]
     fn covered_header(&self) -> Assembled<60>
         ensures { result

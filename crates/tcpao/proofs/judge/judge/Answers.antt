@@ -1,6 +1,7 @@
 -- The answer and the state, from what `check` gives.
-use Rattle.tables.specs.Tables.{tables_of}
-use Rattle.rules.specs.Connection.{arrival_of}
+use Rattle.std.proofs.Common.{ℕ, List, ap, ◌∙◌}
+use Rattle.wire.specs.Header.{sequence}
+use Rattle.rules.specs.Connection.{Arrival}
 use Rattle.tcpao.proofs.Judging.{at-number, judged-is}
 use Rattle.tcpao.proofs.Numbered.{judged-numbered}
 use Rattle.tcpao.proofs.judge.judge.Goals as goal
@@ -8,15 +9,13 @@ use Rattle.tcpao.proofs.judge.judge.Goals as goal
 pub after_judging-next-requires : goal.after_judging-next-requires
 after_judging-next-requires c =
     let a = c.args in
-    let s = arrival_of a.source.now a.destination.now a.segment.now in
-    at-number (tables_of a.form a.keys.now a.md5.now) a.state.conn a.state.seen s c.check-o.ensures c.sequence.ensures
+    at-number a.tables.now a.state.conn a.state.seen a.arrival.now c.check-outcome.ensures
+    (c.sequence.ensures ∙ ap (λ (a : Arrival). sequence a.segment) c.arrival.view_is)
 
 pub returns : goal.returns
 returns c =
     let a = c.args in
-    let s = arrival_of a.source.now a.destination.now a.segment.now in
     let both =
-    judged-numbered (tables_of a.form a.keys.now a.md5.now) s a.state
-    (judged-is (tables_of a.form a.keys.now a.md5.now) s a.state c.check-o.ensures
-    c.verdict_of-verdict.ensures c.index_of-index.ensures c.after_judging-next.ensures) in
+    judged-numbered a.tables.now a.arrival.now a.state
+    (judged-is a.tables.now a.arrival.now a.state c.check-outcome.ensures c.from.ensures c.index.ensures c.after_judging-next.ensures) in
     record { answer = both.0; number = both.1 }

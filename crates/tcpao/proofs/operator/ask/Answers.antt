@@ -1,15 +1,21 @@
--- The tests, then the answer by their outcome.
-use Rattle.tables.specs.Tables.{tables_of}
-use mathlib.Core.Path.{◌∙◌}
-use Rattle.rules.specs.Calls.{settled_by_lem, asked}
+-- The tests, then the answer by what they come to: the laws of OpenAnswers.
+use Rattle.std.proofs.Common.{Ok}
+use Rattle.tcpao.proofs.OpenAnswers.{ask-err, ask-ok}
 use Rattle.tcpao.proofs.Numbered.{asked-numbered}
 use Rattle.tcpao.proofs.operator.ask.Goals as goal
 
+pub returns-in_err-map_err : goal.returns-in_err-map_err
+returns-in_err-map_err c =
+    let a = c.args in
+    let both =
+    asked-numbered a.tables.now a.recv_id a.state
+    (ask-err a.tables.now a.recv_id a.state c.from_residual.result c.ask_faults.ensures c.map_err.ensures.cases c.in_err-map_err.was c.from_residual.ensures) in
+    record { answer = both.0; number = both.1 }
+
 pub returns : goal.returns
-unfolding asked
 returns c =
     let a = c.args in
     let both =
-    asked-numbered (tables_of a.form a.keys.now a.md5.now) a.recv_id a.state
-    (c.settled_by.ensures ∙ (λ i. settled_by_lem (c.ask_faults-outcome.ensures i) a.state (c.with_asked.ensures i))) in
+    asked-numbered a.tables.now a.recv_id a.state
+    (ask-ok a.tables.now a.recv_id a.state c.ask_faults.ensures c.map_err.ensures.cases c.in_ok-map_err.was c.with_asked.ensures) in
     record { answer = both.0; number = both.1 }
