@@ -22,6 +22,7 @@ use traffic::flow::{Flow, arriving_hidden};
 use wire::bytes::same_throughout;
 
 // By which way a segment goes: by TCP-AO, with the IDs of the entry that was found for it, or by MD5, which has none.
+// Kept (no plainer): an Option's shape alone: MD5 is a way of its own and no lack of IDs, which None would say.
 #[derive(Clone, Copy)]
 pub enum Way {
     Ao(Ids),
@@ -29,6 +30,7 @@ pub enum Way {
 }
 
 // What every test but 29 let through: its position and RNextKeyID, its way, the MAC after its front, and the MAC carried, of so many bytes.
+// Kept (project rule): fixed memory, and no reference between the steps: a carried MAC has the array's first mac_bytes bytes.
 #[derive(Clone, Copy)]
 pub struct Begun {
     pub position: u64,

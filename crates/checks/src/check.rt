@@ -58,6 +58,7 @@ fn entry_for(tables: &LentTables<'_>, pair: Pair, id: u8) -> Option<Hit>
 }
 
 // With a state, opening or open: every test but 29. "A connection goes by the way it was opened and never accepts the other".
+// Kept (no plainer): parameters one by one: tables and arrival are structs already, of two owners, and conn is a part of the state.
 pub fn begin(
     tables: &LentTables<'_>,
     arrival: &LentArrival<'_>,
@@ -134,6 +135,7 @@ pub fn arrival_pair(arrival: &LentArrival<'_>) -> Pair
 
 // A bare SYN, without a state: every test but 29, with the way and the IDs of the entry that was found. Ticket 9: "a bare SYN without one by
 // the table that matches, else as before". "For a bare SYN .. the destination ISN is zero", and it has "[its] own number as position".
+// Kept (no plainer): parameters one by one: tables and arrival are structs already, of two owners, and strict is the caller's setting.
 pub fn begin_syn(
     tables: &LentTables<'_>,
     arrival: &LentArrival<'_>,

@@ -72,6 +72,7 @@ impl<'a> SizedSegment<'a> {
     }
 
     // The segment's TCP-AO, if it has one: it lies in the header.
+    // Kept (no plainer): beside md5: each is one field of what the header's options give, under the option's name.
     pub fn ao(&self) -> Occurrence
         ensures option { result ≡ ao_of self.now }
         ensures place { Lies self.now result }
@@ -88,6 +89,7 @@ impl<'a> SizedSegment<'a> {
     }
 
     // "TCP-AO is kind 29, length, KeyID, RNextKeyID, MAC."
+    // Kept (no plainer): beside rnext_key_id: one byte each, under the field's name.
     pub fn key_id(&self) -> u8
         ensures { result ≡ key_id_of self.now }
     {

@@ -33,6 +33,8 @@ fn i(x: u32, y: u32, z: u32) -> u32
     y ^ (x | !z)
 }
 
+// Kept (no plainer): RFC 1321 gives the four functions by stretches of t, and so does this; t is a constant where it is called.
+// Kept (no plainer): t < 64 is the fact of a loop's counter; a type of round numbers would be made and unmade in each round.
 fn function(t: usize, x: u32, y: u32, z: u32) -> u32
     requires { t < 64 }
     ensures { result ≡ function_of t x y z }
@@ -217,17 +219,11 @@ pub fn compress(h: [u32; 4], x: [u32; 16]) -> [u32; 4]
 }
 
 // The registers as bytes, and a count of bits, the lowest byte first.
+// Kept (no plainer): one line in each hash, of its own byte order and size; a generic one would be given both here in the same line.
 pub fn digest(h: [u32; 4]) -> [u8; 16]
     ensures { result ≡ digest_of h }
 {
-    let a = h[0].to_le_bytes();
-    let b = h[1].to_le_bytes();
-    let c = h[2].to_le_bytes();
-    let d = h[3].to_le_bytes();
-    [
-        a[0], a[1], a[2], a[3], b[0], b[1], b[2], b[3], c[0], c[1], c[2], c[3], d[0], d[1], d[2],
-        d[3],
-    ]
+    octets::padded(h.map(u32::to_le_bytes).as_flattened())
 }
 
 pub fn count_bytes(x: u64) -> [u8; 8]

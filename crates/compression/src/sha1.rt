@@ -10,6 +10,8 @@ use crate::words::{ch, maj};
 struct Sha1;
 
 // f_t and K_t.
+// Kept (no plainer): FIPS 180-4 gives f_t by stretches of t, and so does this; t is a constant where it is called.
+// Kept (no plainer): t < 80 is the fact of a loop's counter; a type of round numbers would be made and unmade in each round.
 fn function(t: usize, x: u32, y: u32, z: u32) -> u32
     requires { t < 80 }
     ensures { result ≡ f_of t x y z }
@@ -96,7 +98,6 @@ pub fn initial() -> [u32; 5]
 pub fn compress(h: [u32; 5], words: [u32; 16]) -> [u32; 5]
     ensures { result ≡ compress_words h words }
 {
-    // Kept (no plainer): written out, as the round's number has to be a constant where f_t and K_t are picked; SHA-256 has one stretch less.
     let mut w = words;
     let s = sixteen_rounds::<5, Sha1>(h, &w, 0);
     next_words::<Sha1>(&mut w);
@@ -113,13 +114,5 @@ pub fn compress(h: [u32; 5], words: [u32; 16]) -> [u32; 5]
 pub fn digest(h: [u32; 5]) -> [u8; 20]
     ensures { result ≡ digest_of h }
 {
-    let a = h[0].to_be_bytes();
-    let b = h[1].to_be_bytes();
-    let c = h[2].to_be_bytes();
-    let d = h[3].to_be_bytes();
-    let e = h[4].to_be_bytes();
-    [
-        a[0], a[1], a[2], a[3], b[0], b[1], b[2], b[3], c[0], c[1], c[2], c[3], d[0], d[1], d[2],
-        d[3], e[0], e[1], e[2], e[3],
-    ]
+    octets::padded(h.map(u32::to_be_bytes).as_flattened())
 }

@@ -10,6 +10,7 @@ use crate::words::{ch, maj};
 
 struct Sha256;
 
+// Kept (no plainer): (4.4) and (4.5) of FIPS 180-4 are two functions, which differ in numbers; so they are here.
 fn big_sigma0(x: u32) -> u32
     ensures { result ≡ Sigma0 x }
 {
@@ -22,6 +23,7 @@ fn big_sigma1(x: u32) -> u32
     x.rotate_right(6) ^ x.rotate_right(11) ^ x.rotate_right(25)
 }
 
+// Kept (no plainer): so are (4.6) and (4.7).
 fn sigma0(x: u32) -> u32
     ensures { result ≡ sigma0_of x }
 {
@@ -188,17 +190,5 @@ pub fn compress(h: [u32; 8], words: [u32; 16]) -> [u32; 8]
 pub fn digest(h: [u32; 8]) -> [u8; 32]
     ensures { result ≡ digest_of h }
 {
-    let a = h[0].to_be_bytes();
-    let b = h[1].to_be_bytes();
-    let c = h[2].to_be_bytes();
-    let d = h[3].to_be_bytes();
-    let e = h[4].to_be_bytes();
-    let f = h[5].to_be_bytes();
-    let g = h[6].to_be_bytes();
-    let h = h[7].to_be_bytes();
-    [
-        a[0], a[1], a[2], a[3], b[0], b[1], b[2], b[3], c[0], c[1], c[2], c[3], d[0], d[1], d[2],
-        d[3], e[0], e[1], e[2], e[3], f[0], f[1], f[2], f[3], g[0], g[1], g[2], g[3], h[0], h[1],
-        h[2], h[3],
-    ]
+    octets::padded(h.map(u32::to_be_bytes).as_flattened())
 }

@@ -7,6 +7,7 @@ ghost use Rattle.std.specs.Prelude.{◌≡◌, length};
 ghost use Rattle.digests.specs.Digests.{gives, into, room, sha1_into, hmac_sha1_into, sha256_into, hmac_sha256_into, aes128_into, cmac_into, md5_into};
 
 // Puts the digest at the front of out.
+// Kept (C interface): 0 says to C that nothing was written.
 fn give(digest: &[u8], out: &mut [u8]) -> u64
     ensures { gives result out.new ≡ into (room (length digest.now) out.old) (length digest.now) digest.now out.old }
 {
@@ -18,6 +19,7 @@ fn give(digest: &[u8], out: &mut [u8]) -> u64
 }
 
 // SHA-1 of the message.
+// Kept (C interface): `mac_sha1`, `mac_sha256` and `mac_md5` are each this call on lent bytes, and give a number.
 pub fn sha1(message: &[u8], out: &mut [u8]) -> u64
     ensures { gives result out.new ≡ sha1_into message.now out.old }
 {
@@ -25,6 +27,8 @@ pub fn sha1(message: &[u8], out: &mut [u8]) -> u64
 }
 
 // HMAC-SHA-1 of the message under a key of any length.
+// Kept (C interface): `mac_hmac_sha1` and `mac_hmac_sha256` are each this call on lent bytes, and give a number.
+// Kept (C interface): C lends key, message and out one by one, so these parameters come as they are.
 pub fn hmac_sha1(key: &[u8], message: &[u8], out: &mut [u8]) -> u64
     ensures { gives result out.new ≡ hmac_sha1_into key.now message.now out.old }
 {
@@ -46,6 +50,7 @@ pub fn hmac_sha256(key: &[u8], message: &[u8], out: &mut [u8]) -> u64
 }
 
 // One block encrypted by AES-128.
+// Kept (C interface): 0 says to C that nothing was written.
 pub fn aes128(key: &[u8], block: &[u8], out: &mut [u8]) -> u64
     ensures { gives result out.new ≡ aes128_into key.now block.now out.old }
 {
@@ -60,6 +65,7 @@ pub fn aes128(key: &[u8], block: &[u8], out: &mut [u8]) -> u64
 }
 
 // AES-CMAC of the message.
+// Kept (C interface): 0 says to C that nothing was written.
 pub fn aes128_cmac(key: &[u8], message: &[u8], out: &mut [u8]) -> u64
     ensures { gives result out.new ≡ cmac_into key.now message.now out.old }
 {

@@ -5,6 +5,7 @@ ghost use Rattle.std.specs.Prelude.{◌≡◌};
 ghost use Rattle.keys.specs.Algorithm.{traffic_key_bytes_of, mac_bytes_of, output_bits_of};
 
 // Algorithm 1.
+// Kept (no plainer): no function takes an algorithm as its type, since a table's byte names it at run time: a trait would bound none.
 #[derive(Clone, Copy)]
 pub struct HmacSha1_96;
 
@@ -65,6 +66,7 @@ pub fn traffic_key_bytes(algorithm: u8) -> usize
 }
 
 // The MAC's length where the entry's kind has no byte for it.
+// Kept (may not change): 0 of an algorithm that is not listed: the clause `number`.
 pub fn mac_bytes(algorithm: u8) -> u8
     ensures number { result ≡ mac_bytes_of algorithm }
     ensures first { HmacSha1_96.MAC_BYTES ≡ mac_bytes_of 1 }
@@ -81,6 +83,7 @@ pub fn mac_bytes(algorithm: u8) -> u8
     }
 }
 
+// Kept (may not change): 0 of an algorithm that is not listed: the clause `number`.
 pub fn output_bits(algorithm: u8) -> u16
     ensures number { result ≡ output_bits_of algorithm }
     ensures first { HmacSha1_96.OUTPUT_BITS ≡ output_bits_of 1 }

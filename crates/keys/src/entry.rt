@@ -32,6 +32,7 @@ pub struct Ids {
 
 // How an entry signs: bit 0 of the flags says that all options are covered, bits 1 and 2 that the local and the remote side's address and
 // port count as zero; the key is the first key_len bytes.
+// Kept (may not change): the table's bytes, of which any may come: `entry_of` reads any algorithm and key_len; 13 and 16 refuse them.
 #[derive(Clone, Copy)]
 pub struct Secret {
     pub flags: u8,
@@ -49,6 +50,7 @@ pub struct Entry {
 }
 
 // A socket pair. The bytes of an address field that the family does not use mean nothing.
+// Kept (may not change): the family is a state's byte: `states::state::decode` takes any, and 18 refuses those other than 4 and 6.
 #[derive(Clone, Copy, PartialEq, Eq, Debug)]
 pub struct Pair {
     pub family: u8,
@@ -91,6 +93,7 @@ fn family_of(kind: u8) -> u8
 }
 
 // How many bytes an address has.
+// Kept (may not change): the family is a byte of a table or a state, of which any may come; `width` gives 16 for all but 4.
 #[tactic(auto, unfolding(crate::specs::Entry::width))]
 pub fn width_of(family: u8) -> usize
     ensures { result ≡ width family }

@@ -46,6 +46,7 @@ fn port_faults(s: Selector) -> Result<(), u8>
     Ok(())
 }
 
+// Kept (may not change): the family is a selector's byte, of which any may come: `side_tests` answers for each.
 fn side_faults(family: u8, s: Side) -> Result<(), u8>
     ensures { result ≡ checked (side_tests family s) }
 {

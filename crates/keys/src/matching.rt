@@ -9,6 +9,7 @@ ghost use Rattle.keys.specs.Match.{fixed, holds, matches as matches_of, overlap,
 use crate::entry::{EntryBytes, Ids, Pair, Selector, Side, width_of};
 
 // How many bits a prefix length fixes, of an address of the family.
+// Kept (may not change): the family is a selector's byte, of which any may come: `fixed`, `holds` and `matches` answer for each.
 #[tactic(auto, unfolding(crate::specs::Entry::width))]
 pub fn fixed_bits(family: u8, bits: u8) -> u8
     ensures { result ≡ fixed family bits }

@@ -23,6 +23,7 @@ pub enum TableKind {
 }
 
 // What the loader refuses a table with: a number, at the entry of an index.
+// Kept (no plainer): beside `tables::Refusal`, whose index says which of two tables; one type over its index would be longer in each use.
 #[derive(Clone, Copy, PartialEq, Eq, Debug)]
 pub struct Fault {
     pub number: u8,
@@ -188,6 +189,7 @@ pub fn load(table: &[u8], limit: usize, kind: TableKind) -> Result<usize, Fault>
     };
     let mut rest = table;
     let mut index = 0;
+    // Kept (no plainer): `Entries` ends at an entry that is not whole, where 12, 11 and 10 are still told apart: a `for` asks them twice.
     while !rest.is_empty() {
         if index == limit {
             return Err(Fault { number: 12, index });

@@ -31,6 +31,7 @@ pub fn be16(a: u8, b: u8) -> u16
     u16::from_be_bytes([a, b])
 }
 
+// Kept (no plainer): the word of `mac`'s AES has the other byte order, and each of the two is one call of the library.
 pub fn be32(a: u8, b: u8, c: u8, d: u8) -> u32
     ensures { result ≡ be32_of a b c d }
 {
@@ -46,6 +47,7 @@ pub fn load16(s: &[u8], at: usize) -> u16
 }
 
 // The number in the four bytes from `at` on.
+// Kept (no plainer): each reader asks for its own bytes, at + 4 ≤ length; a type that holds a string and a place would say no more.
 pub fn load32(s: &[u8], at: usize) -> u32
     requires { at + 4 ≤ length s.now }
     ensures { result ≡ get32 s.now at }
@@ -54,11 +56,12 @@ pub fn load32(s: &[u8], at: usize) -> u32
 }
 
 // The number in the eight bytes from `at` on.
+// Kept (no plainer): as of `load32`, the fact is one of leaves, each with its own bytes.
 pub fn load64(s: &[u8], at: usize) -> u64
     requires { at + 8 ≤ length s.now }
     ensures { result ≡ get64 s.now at }
 {
-    load32(s, at) as u64 * 4294967296 + load32(s, at + 4) as u64
+    ((load32(s, at) as u64) << 32) | load32(s, at + 4) as u64
 }
 
 pub fn bytes16(x: u16) -> [u8; 2]

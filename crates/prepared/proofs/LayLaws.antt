@@ -7,9 +7,7 @@ use native.Mathlib.Omega.{arith}
 use lib.ListN.{length, get_or, take, drop, length-append}
 use lib.Seq.{paste, paste-zero, take-paste, drop-paste, take-length, drop-drop}
 use Rattle.octets.specs.Octets.{bytes16}
-use Rattle.keys.specs.Entry.{size, entry_of, item_at, sound, entries}
-use Rattle.keys.proofs.EntryLaws.{sound-inside}
-use Rattle.keys.proofs.WalkLaws.{tail, tail-whole, entry_at, size_at, sound-there, size-inside, entries-cut, entries-on, entries_over}
+use Rattle.keys.specs.Entry.{entries}
 use Rattle.keys.specs.declared.entry.Entry.{Entry}
 use Rattle.prepared.specs.Prepared.{send_part, recv_part, bits_part, mark_of, mark_part, stored_address_of, ports_part, slot, back, joined, columns, image, prepared_bytes}
 use Rattle.prepared.specs.Parts.{part_bytes_of, part_of, put}
@@ -113,68 +111,49 @@ put-more f s k m o x y at i j h a b =
       omega arith,
     )
 
--- the walk: the parts of the entries that it has passed are put, and what is left stands from byte `from` on
-pub record Putting (f : Entry → List ℕ) (k : ℕ) (t o : List ℕ) (at from to : ℕ) (out : List ℕ) : Type 0 where
+-- the walk: the parts of the entries that it has passed are put, and `rest` are left
+pub record Putting (f : Entry → List ℕ) (k : ℕ) (t o : List ℕ) (at to : ℕ) (rest : List Entry) (out : List ℕ) : Type 0 where
   pub passed : List Entry
-  pub all : passed ++ entries (drop from t) ≡ entries t
+  pub all : passed ++ rest ≡ entries t
   pub same : length out ≡ length o
   pub done : Put f k passed o at to out
 
-pub putting-start : (f : Entry → List ℕ) (k : ℕ) (t o : List ℕ) (at : ℕ) → Putting f k t o at 0 at o
+pub putting-start : (f : Entry → List ℕ) (k : ℕ) (t o : List ℕ) (at : ℕ) (l : List Entry) → l ≡ entries t → Putting f k t o at at l o
 unfolding joined
-putting-start f k t o at = record { passed = []; all = refl; same = refl; done = (paste-zero o at [], omega arith, omega arith) }
+putting-start f k t o at l e = record { passed = []; all = e; same = refl; done = (paste-zero o at [], omega arith, omega arith) }
 
-module _ {f : Entry → List ℕ} {k : ℕ} {t o : List ℕ} {at from to : ℕ} {out : List ℕ} (w : Putting f k t o at from to out) where
-  stopped : entries (drop from t) ≡ [] → Put f k (entries t) o at to out
-  stopped e =
+module _ {f : Entry → List ℕ} {k : ℕ} {t o : List ℕ} {at to : ℕ} {rest : List Entry} {out : List ℕ} (w : Putting f k t o at to rest out) where
+  pub putting-over : rest ≡ [] → Put f k (entries t) o at to out
+  putting-over e =
       let p : w.passed ≡ entries t = sym (append-nil w.passed) ∙ ap (λ (l : List Entry). w.passed ++ l) (sym e) ∙ w.all in
       subst (λ (l : List Entry). Put f k l o at to out) p w.done
 
-  pub putting-over : length t ≤ from → Put f k (entries t) o at to out
-  putting-over h = stopped (entries_over t from h)
+  module _ (e : Entry) (r : List Entry) (n : rest ≡ e ∷ r) where
+    next : w.passed ++ (e ∷ r) ≡ entries t
+    next = ap (λ (l : List Entry). w.passed ++ l) (sym n) ∙ w.all
 
-  module _ (n : ℕ) (ne : n ≡ size_at t from) where
-    pub putting-cut : n ≡ 0 → Put f k (entries t) o at to out
-    putting-cut z = stopped (entries-cut t from n ne z)
+    pub putting-room : at + k * length (entries t) ≤ length o → (to + k ≤ length out) × (to + k ≤ length o)
+    putting-room h =
+        let p = length w.passed in
+        let l = length r in
+        let q : length (entries t) ≡ p + suc l = sym (ap length next) ∙ length-append w.passed _ in
+        let a : at + k * (p + suc l) ≤ length o = subst (λ (j : ℕ). at + k * j ≤ length o) q h in
+        let m : k * (p + suc l) ≡ k * p + k + k * l = omega arith in
+        let s = w.same in
+        let d = w.done.2 in (omega arith, omega arith)
 
-    module _ (y : n ≡ 0 → ⊥) where
-      there : sound (item_at t from) ≡ true
-      there = sound-there t from n ne y
-
-      pub putting-step : (1 ≤ n) × (from + n ≤ length t)
-      putting-step = size-inside t from n ne there
-
-      pub putting-whole : size (get_or (tail t from) 0 0) ≤ length (tail t from)
-      putting-whole = tail-whole t from (sound-inside t from there)
-
-      next : w.passed ++ ((item_at t from).entry ∷ entries (drop (from + n) t)) ≡ entries t
-      next = ap (λ (l : List Entry). w.passed ++ l) (sym (entries-on t from n ne there)) ∙ w.all
-
-      pub putting-room : at + k * length (entries t) ≤ length o → (to + k ≤ length out) × (to + k ≤ length o)
-      putting-room r =
-          let p = length w.passed in
-          let l = length (entries (drop (from + n) t)) in
-          let q : length (entries t) ≡ p + suc l = sym (ap length next) ∙ length-append w.passed _ in
-          let a : at + k * (p + suc l) ≤ length o = subst (λ (j : ℕ). at + k * j ≤ length o) q r in
-          let m : k * (p + suc l) ≡ k * p + k + k * l = omega arith in
-          let s = w.same in
-          let h = w.done.2 in (omega arith, omega arith)
-
-      pub putting-next : (e : Entry) (s : ℕ) (new : List ℕ) → e ≡ entry_of (tail t from) → s ≡ k → at + k * length (entries t) ≤ length o
-          → length new ≡ length out → (new ≡ put out to (f e)) × (length (f e) ≡ k) → Putting f k t o at (from + n) (to + s) new
-      putting-next e s new ee se r ln h =
-          let a = w.passed in
-          let end = w.done.2 in
-          let room = putting-room r in
-          record {
-            passed = a ++ (e ∷ []);
-            all =
-                append_assoc a (e ∷ []) _
-                ∙ ap (λ (x : Entry). a ++ (x ∷ entries (drop (from + n) t))) (entry_at t from e ee)
-                ∙ next;
-            same = ln ∙ w.same;
-            done = put-more f k a (e ∷ []) o out new at to (to + s) (omega arith) w.done (put_one f k e out new to s se h);
-          }
+    pub putting-next : at + k * length (entries t) ≤ length o → (s : ℕ) (new : List ℕ) → s ≡ k
+        → length new ≡ length out → (new ≡ put out to (f e)) × (length (f e) ≡ k) → Putting f k t o at (to + s) r new
+    putting-next h s new se ln pe =
+        let a = w.passed in
+        let end = w.done.2 in
+        let room = putting-room h in
+        record {
+          passed = a ++ (e ∷ []);
+          all = append_assoc a (e ∷ []) _ ∙ next;
+          same = ln ∙ w.same;
+          done = put-more f k a (e ∷ []) o out new at to (to + s) (omega arith) w.done (put_one f k e out new to s se pe);
+        }
 
 -- both tables: as many bytes as the entries of both have
 

@@ -25,8 +25,9 @@ use Rattle.keys.specs.Table.{Found}
 use Rattle.prepared.specs.Prepared.{key_count_of, md5_count, total, prepared_bytes, fits, clean_family, clean_selector, front_ids, raw_selector, mark_of}
 use Rattle.prepared.specs.Prepared.{bits_at, mark_at, slot_at, front_at_lem, back_at, stored_at, stored_from, key_part, md5_part}
 use Rattle.prepared.specs.Scan.{get64, top, near_bits, near_front_of, last_byte_of, near_last_of, near_rest, near_back_of, local_bits}
-use Rattle.prepared.specs.Scan.{near_local_of, alike, port_in_lem, possible, nearby, close, named, id_at, candidate}
-use Rattle.prepared.specs.Scan.{NoneClose, NoneNamed, hit, First, Asks}
+use Rattle.prepared.specs.Scan.{near_local_of, alike, port_in_lem, possible, nearby, close, id_at, candidate}
+use Rattle.prepared.specs.Scan.{NoneClose, NoneNamed, NoneIn, candidate_of, wanted_of, hit, First, Asks}
+use Rattle.prepared.specs.declared.stored.Wanted.{Wanted}
 use Rattle.prepared.specs.ScanLaws.{both_true, front-id, no-candidate, found-nobody, found_first}
 
 -- tests
@@ -41,42 +42,10 @@ and-false : (a : Bool) → false ≡ (a && false)
 and-false true = refl
 and-false false = refl
 
--- ports
-
-module _ (x y a b low port : ℕ) (xe : x ≡ a) (ye : y ≡ b) (le : low ≡ min x y) where
-  low-is : leb low port ≡ leb (min a b) port
-  low-is = λ i. leb ((le ∙ (λ j. min (xe j) (ye j))) i) port
-
-  pub port-below : (c : Bool) → port < low → false ≡ (leb (min a b) port && c)
-  port-below c h = and_no (leb (min a b) port) c (leb low port) low-is (lt-leb low port h)
-
-  pub port-within : (high : ℕ) → high ≡ max x y → low ≤ port → leb port high ≡ (leb (min a b) port && leb port (max a b))
-  port-within high he h =
-      and_yes (leb (min a b) port) (leb port (max a b)) (leb low port) (leb port high) low-is (le-leb low port h)
-      (λ i. leb port ((he ∙ (λ j. max (xe j) (ye j))) i))
-
 -- a slot, as the code cuts it, and its first bits
 
-part-is : (t : List ℕ) (f n : ℕ) → take (f + n - f) (drop f t) ≡ take n (drop f t)
+pub part-is : (t : List ℕ) (f n : ℕ) → take (f + n - f) (drop f t) ≡ take n (drop f t)
 part-is t f n = ap (λ (k : ℕ). take k (drop f t)) (add-sub_cancel_left f n)
-
-abbrev slot_cut : List ℕ → ℕ → ℕ → List ℕ
-slot_cut t n i = take (4 + 4 * n + 24 * i + 24 - (4 + 4 * n + 24 * i)) (drop (4 + 4 * n + 24 * i) t)
-
-slot_is : (t : List ℕ) (n i : ℕ) → slot_cut t n i ≡ slot_at t n i
-slot_is t n i = part-is t (4 + 4 * n + 24 * i) 24
-
-abbrev back_cut : List ℕ → ℕ → ℕ → List ℕ
-back_cut t n i = take (4 + 28 * n + 101 * i + 101 - (4 + 28 * n + 101 * i)) (drop (4 + 28 * n + 101 * i) t)
-
-back_is : (t : List ℕ) (n i : ℕ) → back_cut t n i ≡ back_at t n i
-back_is t n i = part-is t (4 + 28 * n + 101 * i) 101
-
-pub most-four : (f : ℕ) → f ≡ 4 → ◌≡◌ {A = ℕ} 24 (cond (eqb f 4) 24 64)
-most-four f e = rw (eq-eqb f 4 e)
-
-pub most_other : (f : ℕ) → (f ≡ 4 → ⊥) → ◌≡◌ {A = ℕ} 64 (cond (eqb f 4) 24 64)
-most_other f e = rw (ne_eqb f 4 e)
 
 -- the first bits of two numbers
 
@@ -169,131 +138,46 @@ module _ (f : ℕ) (r : List ℕ) (upper lower g n : ℕ) (ge : g ≡ clean_fami
           rw local-long-is
           (and_yes _ _ (eqb x upper) b (λ i. eqb (xe i) upper) (eq-eqb x upper u) (q ∙ (λ i. top (local-bits i - 64) (ye i) lower)))
 
--- both addresses
+-- a block of a column
 
-module _ (t : List ℕ) (n i high low upper lower : ℕ) (a : Bool) (ae : a ≡ near_back_of (slot_cut t n i) (bits_at t n i) (mark_at t n i) high low)
-  where
-    back-near : a ≡ near_back_of (slot_at t n i) (bits_at t n i) (mark_at t n i) high low
-    back-near = ae ∙ (λ k. near_back_of (slot_is t n i k) (bits_at t n i) (mark_at t n i) high low)
-
-    pub alike-not : a ≡ false → false ≡ alike t n high low upper lower i
-    unfolding alike
-    alike-not h = and_no _ _ a back-near h
-
-    pub alike_local : a ≡ true → (r : Bool) → r ≡ near_local_of (get_or (slot_cut t n i) 0 0) (back_cut t n i) upper lower
-        → r ≡ alike t n high low upper lower i
-    unfolding alike
-    alike_local h r e =
-        and_yes _ _ a r back-near h (e ∙ (λ k. near_local_of (get_or (slot_is t n i k) 0 0) (back_is t n i k) upper lower))
-
--- the columns, test by test
-
-pub short : (limit mark bits m : ℕ) → bits < limit → true ≡ possible limit mark bits m
-short limit mark bits m h = rw (lt-ltb bits limit h)
-
-pub long : (limit mark bits m : ℕ) → limit ≤ bits → eqb m mark ≡ possible limit mark bits m
-long limit mark bits m h = rw (le-ltb bits limit h)
-
-module _ (t : List ℕ) (n i limit mark remote local high : ℕ) where
-  abbrev is_nearby : Bool
-  is_nearby = nearby t n limit mark remote local high i
-
-  abbrev can : Bool
-  can = possible limit mark (bits_at t n i) (mark_at t n i)
-
-  module _ (a : Bool) (ae : a ≡ can) where
-    pub nearby-cannot : a ≡ false → false ≡ is_nearby
-    unfolding nearby
-    nearby-cannot h = and_no _ _ a ae h
-
-    module _ (ah : a ≡ true) (b : Bool) (be : b ≡ port_in_lem (slot_cut t n i) 16 remote) where
-      remote-is : b ≡ port_in_lem (slot_at t n i) 16 remote
-      remote-is = be ∙ (λ k. port_in_lem (slot_is t n i k) 16 remote)
-
-      pub nearby-no : b ≡ false → false ≡ is_nearby
-      unfolding nearby
-      nearby-no h = and_yes _ _ a false ae ah (and_no _ _ b remote-is h)
-
-      module _ (bh : b ≡ true) (c : Bool) (ce : c ≡ port_in_lem (slot_cut t n i) 20 local) where
-        local-is : c ≡ port_in_lem (slot_at t n i) 20 local
-        local-is = ce ∙ (λ k. port_in_lem (slot_is t n i k) 20 local)
-
-        pub nearby-not : c ≡ false → false ≡ is_nearby
-        unfolding nearby
-        nearby-not h = and_yes _ _ a false ae ah (and_yes _ _ b false remote-is bh (and_no _ _ c local-is h))
-
-        pub nearby-front : c ≡ true → (r : Bool) → r ≡ near_front_of (slot_cut t n i) (bits_at t n i) high → r ≡ is_nearby
-        unfolding nearby
-        nearby-front h r e =
-            and_yes _ _ a r ae ah
-            (and_yes _ _ b r remote-is bh
-            (and_yes _ _ c r local-is h (e ∙ (λ k. near_front_of (slot_is t n i k) (bits_at t n i) high))))
-
-  module _ (low upper lower : ℕ) (a : Bool) (ae : a ≡ is_nearby) where
-    abbrev is_close : Bool
-    is_close = close t n limit mark remote local high low upper lower i
-
-    pub close-not : a ≡ false → false ≡ is_close
-    unfolding close
-    close-not h = and_no _ _ a ae h
-
-    pub close-alike : a ≡ true → (r : Bool) → r ≡ alike t n high low upper lower i → r ≡ is_close
-    unfolding close
-    close-alike h r e = and_yes _ _ a r ae h e
-
-  module _ (low upper lower ids id : ℕ) where
-    pub named-not : (get_or t (ids + i) 0 ≡ id → ⊥) → false ≡ named t n ids id limit mark remote local high low upper lower i
-    unfolding named
-    named-not e = and_no _ _ false (sym (ne_eqb _ _ e)) refl
-
-    pub named-close : (b : Bool) → get_or t (ids + i) 0 ≡ id → b ≡ close t n limit mark remote local high low upper lower i
-        → b ≡ named t n ids id limit mark remote local high low upper lower i
-    unfolding named
-    named-close b e be = and_yes _ _ true b (sym (eq-eqb _ _ e)) refl be
-
--- a block of a column, as the code cuts it
-
-abbrev block_cut : List ℕ → ℕ → ℕ → List ℕ
-block_cut t at i = take (at + i + 32 - (at + i)) (drop (at + i) t)
-
-block-byte : (t : List ℕ) (at i j : ℕ) → i ≤ j → j < i + 32 → get_or (block_cut t at i) (j - i) 0 ≡ get_or t (at + j) 0
+block-byte : (t : List ℕ) (at i j : ℕ) → i ≤ j → j < i + 32 → get_or (take 32 (drop (at + i) t)) (j - i) 0 ≡ get_or t (at + j) 0
 block-byte t at i j l h =
     let e : at + i + (j - i) ≡ at + j = omega arith in
-    (λ k. get_or (part-is t (at + i) 32 k) (j - i) 0)
-    ∙ get_or-take 32 (drop (at + i) t) (j - i) 0 (omega arith)
+    get_or-take 32 (drop (at + i) t) (j - i) 0 (omega arith)
     ∙ get_or-drop (at + i) t (j - i) 0
     ∙ ap (λ (k : ℕ). get_or t k 0) e
 
-and-both-left : (a b c : Bool) → a ≡ false → ((a && b) && c) ≡ false
-and-both-left a b c e = rw e
+and-none : (x a b c : Bool) → a ≡ false → (x && ((a && b) && c)) ≡ false
+and-none true a b c e = rw e
+and-none false a b c e = refl
 
 and-three : (a b c d : Bool) → (a && b) ≡ false → (a && ((b && c) && d)) ≡ false
 and-three true true c d e = let z : ◌≡◌ {A = ℕ} 0 1 = cc in absurd (omega arith)
 and-three true false c d e = refl
 and-three false b c d e = refl
 
-none-block : (test : ℕ → Bool) (i : ℕ) → ((j : ℕ) → i ≤ j → j < i + 32 → test j ≡ false) → First test i (i + 32) (i + 32)
-none-block test i f = record { from = omega arith; few = omega arith; none = f; there = λ l. absurd (omega arith) }
+module _ (t : List ℕ) (n i : ℕ) (w : Wanted) (b : Bool) where
+  pub none-close : (by : By) (x y : List ℕ) → x ≡ take 32 (drop (4 + 2 * n + i) t) → y ≡ take 32 (drop (4 + 3 * n + i) t) → NoneClose x y w.limit w.mark b
+      → NoneIn (candidate_of by t n w) i b
+  unfolding candidate close nearby
+  none-close by x y xe ye f e j l h =
+      and-none (id_at by t n j) (possible w.limit w.mark (bits_at t n j) (mark_at t n j)) _ _
+      ((λ k. possible w.limit w.mark (sym (ap (λ (s : List ℕ). get_or s (j - i) 0) xe ∙ block-byte t (4 + 2 * n) i j l h) k)
+      (sym (ap (λ (s : List ℕ). get_or s (j - i) 0) ye ∙ block-byte t (4 + 3 * n) i j l h) k))
+      ∙ f e (j - i) (omega arith))
 
-module _ (t : List ℕ) (n i limit mark remote local high low upper lower : ℕ) (b : Bool) where
-  pub none-close : NoneClose (block_cut t (4 + 2 * n) i) (block_cut t (4 + 3 * n) i) limit mark b → b ≡ false
-      → First (close t n limit mark remote local high low upper lower) i (i + 32) (i + 32)
-  unfolding close nearby
-  none-close f e =
-      none-block (close t n limit mark remote local high low upper lower) i
-      (λ j l h. and-both-left (possible limit mark (bits_at t n j) (mark_at t n j)) _ _
-      ((λ k. possible limit mark (sym (block-byte t (4 + 2 * n) i j l h) k) (sym (block-byte t (4 + 3 * n) i j l h) k))
-      ∙ f e (j - i) (omega arith)))
-
-  pub none_named : (ids id : ℕ) → NoneNamed (block_cut t ids i) (block_cut t (4 + 2 * n) i) (block_cut t (4 + 3 * n) i) id limit mark b
-      → b ≡ false → First (named t n ids id limit mark remote local high low upper lower) i (i + 32) (i + 32)
-  unfolding named close nearby
-  none_named ids id f e =
-      none-block (named t n ids id limit mark remote local high low upper lower) i
-      (λ j l h. and-three (eqb (get_or t (ids + j) 0) id) (possible limit mark (bits_at t n j) (mark_at t n j)) _ _
-      ((λ k. eqb (sym (block-byte t ids i j l h) k) id
-      && possible limit mark (sym (block-byte t (4 + 2 * n) i j l h) k) (sym (block-byte t (4 + 3 * n) i j l h) k))
-      ∙ f e (j - i) (omega arith)))
+  -- in the column that begins at `ids`
+  pub none_named : (by : By) (ids id : ℕ) (z x y : List ℕ) → ((j : ℕ) → id_at by t n j ≡ eqb (get_or t (ids + j) 0) id)
+      → z ≡ take 32 (drop (ids + i) t) → x ≡ take 32 (drop (4 + 2 * n + i) t) → y ≡ take 32 (drop (4 + 3 * n + i) t)
+      → NoneNamed z x y id w.limit w.mark b → NoneIn (candidate_of by t n w) i b
+  unfolding candidate close nearby
+  none_named by ids id z x y ie ze xe ye f e j l h =
+      and-three (id_at by t n j) (possible w.limit w.mark (bits_at t n j) (mark_at t n j)) _ _
+      (ap (λ (q : Bool). q && possible w.limit w.mark (bits_at t n j) (mark_at t n j)) (ie j)
+      ∙ (λ k. eqb (sym (ap (λ (s : List ℕ). get_or s (j - i) 0) ze ∙ block-byte t ids i j l h) k) id
+      && possible w.limit w.mark (sym (ap (λ (s : List ℕ). get_or s (j - i) 0) xe ∙ block-byte t (4 + 2 * n) i j l h) k)
+      (sym (ap (λ (s : List ℕ). get_or s (j - i) 0) ye ∙ block-byte t (4 + 3 * n) i j l h) k))
+      ∙ f e (j - i) (omega arith))
 
 -- a scan, turn by turn: no entry from i on and before r passes the test
 
@@ -351,97 +235,49 @@ module _ {test : ℕ → Bool} {i end r : ℕ} (w : Passed test i end r) where
       let b = s.from in
       record { from = omega arith; few = s.few; none = joined test i r q w.none s.none; there = s.there }
 
--- the kinds of question
-module _ (t : List ℕ) (n limit mark remote local high low upper lower i end r : ℕ) (by : By) where
-  pub skip-any : by ≡ Any → First (close t n limit mark remote local high low upper lower) i end r
-      → First (candidate by t n limit mark remote local high low upper lower) i end r
-  unfolding candidate
-  skip-any e s = rw e s
+-- where a scan found nothing it has passed all, and where it found an entry none is before it
 
-  pub skip-send : (id : ℕ) → by ≡ Send id → First (named t n 4 id limit mark remote local high low upper lower) i end r
-      → First (candidate by t n limit mark remote local high low upper lower) i end r
-  unfolding candidate named
-  skip-send id e s = rw e s
-
-  pub skip-recv : (id : ℕ) → by ≡ Recv id → First (named t n (4 + n) id limit mark remote local high low upper lower) i end r
-      → First (candidate by t n limit mark remote local high low upper lower) i end r
-  unfolding candidate named
-  skip-recv id e s = rw e s
+pub none-first : (test : ℕ → Bool) (i end r : ℕ) → ((j : ℕ) → i ≤ j → j < r → test j ≡ false) → i ≤ r → r ≡ end → First test i end end
+none-first test i end r f h e = record { from = omega arith; few = omega arith; none = λ j x y. f j x (omega arith); there = λ l. absurd (omega arith) }
 
 -- a search, turn by turn
 
--- what it is asked with: the bytes are a table of n entries, and the numbers are those of the pair
-pub record Asked (t : List ℕ) (n end : ℕ) (p : Pair) (limit mark high low upper lower : ℕ) : Type 0 where
-  pub octets : Octets t
-  pub room : prepared_bytes n ≤ length t
-  pub inside : end ≤ n
-  pub remote-octets : Octets p.remote
-  pub remote-length : length p.remote ≡ 16
-  pub local-octets : Octets p.local
-  pub limit_is : limit ≡ 8 * width p.family
-  pub mark-is : mark ≡ mark_of p.family p.remote
-  pub high_is : high ≡ get64 p.remote 0
-  pub low-is : low ≡ get64 p.remote 7
-  pub upper_is : upper ≡ get64 p.local 0
-  pub lower-is : lower ≡ get64 p.local 8
+-- an entry that is no candidate is no hit
+module _ (t : List ℕ) (n : ℕ) (by : By) (p : Pair) (octets : Octets t) (room : prepared_bytes n ≤ length t) (ro : Octets p.remote) (rl : length p.remote ≡ 16) (lo : Octets p.local) where
+  pub no-hit : (w : Wanted) (j : ℕ) → w ≡ wanted_of p → j < n → candidate_of by t n w j ≡ false → hit by p t n j ≡ false
+  no-hit w j we h e = no-candidate t n j octets room h by p ro rl lo (ap (λ (v : Wanted). candidate_of by t n v j) (sym we) ∙ e)
 
--- no entry from `first` on and before i is a hit, and entry i has the ID
-pub record Seeking (t : List ℕ) (n : ℕ) (by : By) (p : Pair) (first end limit mark high low upper lower i : ℕ) : Type 0 where
-  pub asked : Asked t n end p limit mark high low upper lower
-  pub from : first ≤ i
-  pub few : i ≤ end
-  pub none : (j : ℕ) → first ≤ j → j < i → hit by p t n j ≡ false
-  pub has : i < end → has_id_of by (front_ids (front_at_lem t n i)) ≡ true
+  module _ {first end i r : ℕ} (w : Passed (hit by p t n) first end i) (v : Wanted) (ve : v ≡ wanted_of p) (h : end ≤ n) (s : First (candidate_of by t n v) i end r) where
+    passed : (j : ℕ) → first ≤ j → j < r → hit by p t n j ≡ false
+    passed = joined (hit by p t n) first i r w.none (λ j x y. let l = s.few in no-hit v j ve (omega arith) (s.none j x y))
 
-module _ (t : List ℕ) (n : ℕ) (by : By) (p : Pair) (first end limit mark high low upper lower : ℕ) where
-  abbrev Next : ℕ → ℕ → Type 0
-  Next i r = First (candidate by t n limit mark p.remote_port p.local_port high low upper lower) i end r
+    pub search-over : r ≡ end → First (hit by p t n) first end end
+    search-over e = let a = w.from in let b = s.from in none-first (hit by p t n) first end r passed (omega arith) e
 
-  -- entries that are no candidates are passed by
-  seek-by : (i r : ℕ) → Asked t n end p limit mark high low upper lower → first ≤ i → ((j : ℕ) → first ≤ j → j < i → hit by p t n j ≡ false)
-      → Next i r → Seeking t n by p first end limit mark high low upper lower r
-  unfolding candidate
-  seek-by i r a l h s =
-      let b = s.from in
-      record {
-        asked = a;
-        from = omega arith;
-        few = s.few;
-        none = joined (hit by p t n) first i r h (no a s);
-        has = λ x. front-id t n r by ∙ (and-true (id_at by t n r) _ (s.there x)).0;
-      }
-    where
-      no : Asked t n end p limit mark high low upper lower → Next i r → (j : ℕ) → i ≤ j → j < r → hit by p t n j ≡ false
-      no a s j x y =
-          let b = s.few in
-          let c = a.inside in
-          no-candidate t n j a.octets a.room (omega arith) by p a.remote-octets a.remote-length a.local-octets
-          ((λ k. candidate by t n (sym a.limit_is k) (sym a.mark-is k) p.remote_port p.local_port
-          (sym a.high_is k) (sym a.low-is k) (sym a.upper_is k) (sym a.lower-is k) j)
-          ∙ s.none j x y)
+    module _ (l : r < end) (b : Bool) (e : b ≡ matches (clean_selector (raw_selector (front_at_lem t n r) (back_at t n r))) p) where
+      has : has_id_of by (front_ids (front_at_lem t n r)) ≡ true
+      unfolding candidate
+      has = front-id t n r by ∙ (and-true (id_at by t n r) _ (s.there l)).0
 
-  pub seek-start : (r : ℕ) → Asked t n end p limit mark high low upper lower → Next first r → Seeking t n by p first end limit mark high low upper lower r
-  seek-start r a s = seek-by first r a (omega arith) (λ j x y. absurd (omega arith)) s
-
-  module _ (i : ℕ) (w : Seeking t n by p first end limit mark high low upper lower i) where
-    pub seek-over : end ≤ i → First (hit by p t n) first end i
-    seek-over h = record { from = w.from; few = w.few; none = w.none; there = λ l. absurd (omega arith) }
-
-    module _ (h : i < end) (b : Bool) (e : b ≡ matches (clean_selector (raw_selector (front_at_lem t n i) (back_at t n i))) p) where
-      pub seek-here : b ≡ true → First (hit by p t n) first end i
+      pub search-here : b ≡ true → First (hit by p t n) first end r
       unfolding hit
-      seek-here q = record { from = w.from; few = w.few; none = w.none; there = λ l. both_true _ _ (w.has h) (sym e ∙ q) }
+      search-here q =
+          let a = w.from in
+          let c = s.from in record { from = omega arith; few = s.few; none = passed; there = λ x. both_true _ _ has (sym e ∙ q) }
 
-      miss : b ≡ false → hit by p t n i ≡ false
+      miss : b ≡ false → hit by p t n r ≡ false
       unfolding hit
-      miss q = rw (w.has h) (sym e ∙ q)
+      miss q = rw has (sym e ∙ q)
 
-      pub seek-next : b ≡ false → (r : ℕ) → Next (i + 1) r → Seeking t n by p first end limit mark high low upper lower r
-      seek-next q r s =
-          let c = w.from in
-          seek-by (i + 1) r w.asked (omega arith)
-          (joined (hit by p t n) first i (i + 1) w.none (λ j l m. ap (hit by p t n) (let z : j ≡ i = omega arith in z) ∙ miss q))
-          s
+      pub search-next : b ≡ false → Passed (hit by p t n) first end (r + 1)
+      search-next q =
+          let a = w.from in
+          let c = s.from in
+          record {
+            from = omega arith;
+            few = omega arith;
+            none = joined (hit by p t n) first r (r + 1) passed (λ j x y. ap (hit by p t n) (let z : j ≡ r = omega arith in z) ∙ miss q);
+          }
 
 -- a limit is a byte
 pub limit-fits : (g w : ℕ) → w ≡ width g → 8 * w < 256

@@ -2,7 +2,9 @@
 -- prepared table means; the searches' contracts (src/stored.rt) say that by Prepared.antt alone.
 use Rattle.std.specs.Prelude.{ℕ, ◌+◌, ◌*◌, ◌-◌, ◌/◌, ◌%◌, ◌^◌, ◌≤◌, ◌<◌, max, min, Bool, true, false, cond, ◌&&◌, ◌||◌, ◌≡◌, List, get_or}
 use Rattle.std.specs.Prelude.{leb, ltb, eqb}
-use Rattle.octets.specs.Octets.{get16, get32}
+use Rattle.octets.specs.Octets.{get16}
+pub use Rattle.octets.specs.Octets.{get64}
+use Rattle.keys.specs.Entry.{width}
 use Rattle.keys.specs.Match.{fixed, matches}
 use Rattle.keys.specs.Table.{has_id_of}
 use Rattle.keys.specs.declared.entry.Pair.{Pair}
@@ -10,12 +12,9 @@ use Rattle.keys.specs.declared.table.TableKind.{TableKind}
 use Rattle.keys.specs.declared.table.TableKind.TheVariants.{Keys, Md5}
 use Rattle.keys.specs.declared.table.By.{By}
 use Rattle.keys.specs.declared.table.By.TheVariants.{Any, Send, Recv}
-use Rattle.prepared.specs.Prepared.{clean_family, clean_selector, front_ids, raw_selector, send_at, recv_at, bits_at, mark_at, slot_at}
+use Rattle.prepared.specs.Prepared.{clean_family, clean_selector, front_ids, raw_selector, send_at, recv_at, bits_at, mark_at, slot_at, mark_of}
 use Rattle.prepared.specs.Prepared.{front_at_lem, back_at}
-
--- the number in eight bytes
-abbrev pub get64 : List ℕ → ℕ → ℕ
-get64 s at = get32 s at * 2 ^ 32 + get32 s (at + 4)
+use Rattle.prepared.specs.declared.stored.Wanted.{Wanted}
 
 -- the first n bits of two numbers of 64 bits agree
 abbrev pub top : ℕ → ℕ → ℕ → Bool
@@ -81,11 +80,6 @@ unfoldable pub close : List ℕ → ℕ → ℕ → ℕ → ℕ → ℕ → ℕ 
 close t n limit mark remote local high low upper lower i =
     nearby t n limit mark remote local high i && alike t n high low upper lower i
 
--- and has the ID in the column that begins at `ids`
-unfoldable pub named : List ℕ → ℕ → ℕ → ℕ → ℕ → ℕ → ℕ → ℕ → ℕ → ℕ → ℕ → ℕ → ℕ → Bool
-named t n ids id limit mark remote local high low upper lower i =
-    eqb (get_or t (ids + i) 0) id && close t n limit mark remote local high low upper lower i
-
 abbrev pub id_at : By → List ℕ → ℕ → ℕ → Bool
 id_at Any t n i = true
 id_at (Send id) t n i = eqb (send_at t n i) id
@@ -94,6 +88,34 @@ id_at (Recv id) t n i = eqb (recv_at t n i) id
 unfoldable pub candidate : By → List ℕ → ℕ → ℕ → ℕ → ℕ → ℕ → ℕ → ℕ → ℕ → ℕ → ℕ → Bool
 candidate by t n limit mark remote local high low upper lower i =
     id_at by t n i && close t n limit mark remote local high low upper lower i
+
+-- the same, where a search is asked with these numbers
+abbrev pub nearby_of : List ℕ → ℕ → Wanted → ℕ → Bool
+nearby_of t n w i = nearby t n w.limit w.mark w.remote w.local w.high i
+
+abbrev pub alike_of : List ℕ → ℕ → Wanted → ℕ → Bool
+alike_of t n w i = alike t n w.high w.low w.upper w.lower i
+
+abbrev pub candidate_of : By → List ℕ → ℕ → Wanted → ℕ → Bool
+candidate_of by t n w i = candidate by t n w.limit w.mark w.remote w.local w.high w.low w.upper w.lower i
+
+-- the numbers of a pair
+abbrev pub wanted_of : Pair → Wanted
+wanted_of p =
+    record {
+      limit = 8 * width p.family;
+      mark = mark_of p.family p.remote;
+      remote = p.remote_port;
+      local = p.local_port;
+      high = get64 p.remote 0;
+      low = get64 p.remote 7;
+      upper = get64 p.local 0;
+      lower = get64 p.local 8;
+    }
+
+-- where r says that no entry of the block that begins with entry i passes
+abbrev pub NoneIn : (ℕ → Bool) → ℕ → Bool → Type 0
+NoneIn test i r = r ≡ false → (j : ℕ) → i ≤ j → j < i + 32 → test j ≡ false
 
 -- where r says that no entry of a block is possible, and none that has the ID
 abbrev pub NoneClose : List ℕ → List ℕ → ℕ → ℕ → Bool → Type 0

@@ -6,8 +6,8 @@ ghost use Rattle.prepared.specs.Parts.{part_of, part_bytes_of, put as put_of};
 ghost use Rattle.prepared.specs.Prepared.{slot, ports_part, back, joined, prepared_bytes, max_entries, image};
 
 use crate::mark::{mark_of, stored_address};
-use keys::entry::{Entry, entry_of};
-use keys::table::size_at;
+use keys::entry::Entry;
+use keys::table::Entries;
 
 // The parts that an entry is stored in: a byte in each of four columns, a slot, a back.
 #[derive(Clone, Copy)]
@@ -119,16 +119,10 @@ fn put_parts(table: &[u8], part: Part, out: &mut [u8], at: usize) -> usize
         × (result ≡ at + part_bytes_of part * length (entries table.now)) }
 {
     let size = part_bytes(part);
-    let mut from: usize = 0;
     let mut to = at;
-    while from < table.len() {
-        let n = size_at(table, from);
-        if n == 0 {
-            return to;
-        }
-        put_part(out, to, part, entry_of(&table[from..]));
-        from = from + n;
-        to = to + size;
+    for entry in Entries::of(table) {
+        put_part(out, to, part, entry.entry());
+        to += size;
     }
     to
 }

@@ -36,12 +36,8 @@ taken-some p t c s l = go (nat_lt 1 c.stage) refl
     go false e = rw e (part-some c.begun s (held_count c) (mod-lt c.held (bytes-some (slice_index c.begun 0))) l)
 
 -- for a loop over the bytes b, of which those before `at` are taken: it goes on, and stays inside
-pub goes_on : (p t : List ℕ) (c : C.Desk) (b : List ℕ) (at n : ℕ) → at < length b → n ≡ taken (desk_view p t c) (take (length b - at) (drop at b))
-    → (0 < n) × (at + n ≤ length b)
-goes_on p t c b at n h e =
-    let s = take (length b - at) (drop at b) in
-    let l = length-take (length b - at) (drop at b) in
-    let d = length-drop at b in
-    let w = taken-le (desk_view p t c) s in
-    let z = taken-some p t c s (omega arith) in
+pub goes_on : (p t : List ℕ) (c : C.Desk) (b : List ℕ) (n : ℕ) → 0 < length b → n ≡ taken (desk_view p t c) b → (0 < n) × (n ≤ length b)
+goes_on p t c b n h e =
+    let w = taken-le (desk_view p t c) b in
+    let z = taken-some p t c b h in
     (omega arith, omega arith)

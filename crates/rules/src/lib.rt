@@ -13,6 +13,7 @@ use std::marker::Model;
 use tables::{Index, Refusal};
 
 // Where a number names no entry.
+// Kept (may not change): zeros beside every number that names no entry: `index_of` and the theorems of specs/Demand2 say `no_index`.
 pub const NO_INDEX: Index = Index { table: 0, entry: 0 };
 
 // What the tests of an arriving or outgoing segment come to: its position and RNextKeyID; pass; or document 01's or 02's number, with the
@@ -54,6 +55,7 @@ pub struct Hidden {
 }
 
 // "A verdict is accept with its extension, pass, or drop with a number."
+// Kept (may not change): three answers, which the theorems of specs/History and specs/Passes read; a Result has two.
 #[derive(Clone, Copy, PartialEq, Eq, Debug)]
 pub enum Verdict {
     Accept(u32),
@@ -104,6 +106,7 @@ pub struct State {
 }
 
 // "The new state stands beside it." The index is an entry's where a table is refused (10 to 17, 45), else zeros.
+// Kept (may not change): theorems read verdict, index and state of every judgement: specs/Demand2, specs/Sentences.
 #[derive(Clone, Copy, PartialEq, Eq, Debug)]
 pub struct Judged {
     pub verdict: Verdict,
@@ -112,6 +115,7 @@ pub struct Judged {
 }
 
 // What a bare SYN gets that is judged without a state.
+// Kept (may not change): theorems read verdict and index of every judgement: specs/Demand2, specs/Passes.
 #[derive(Clone, Copy, PartialEq, Eq, Debug)]
 pub struct SynJudged {
     pub verdict: Verdict,

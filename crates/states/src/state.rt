@@ -2,9 +2,8 @@
 // Every value of the type is a state, and so is every string of STATE_BYTES bytes; `decode` assumes that it gets so many.
 ghost use Rattle.std.specs.Prelude.{◌≡◌, ◌+◌, ◌*◌, ◌≤◌, [], ◌∷◌, ◌++◌, length};
 ghost use Rattle.std.proofs.Math.Seq.{paste};
-ghost use Rattle.rules.specs.Connection.{slots};
 ghost use Rattle.states.specs.LayoutLaws.{head_of};
-ghost use Rattle.states.specs.Layout.{drops_at, state_bytes, words_at_lem, word_bytes, decode_pair, decode_connection, decode_of};
+ghost use Rattle.states.specs.Layout.{drops_at, state_bytes, words_at_lem, word_bytes, decode_connection, decode_of};
 ghost use Rattle.states.specs.Layout.{encode_of};
 
 use keys::entry::Pair;
@@ -63,31 +62,20 @@ fn head(s: State) -> [u8; 16]
 {
     let conn = s.conn;
     let pair = conn.pair;
-    let local_port = octets::bytes16(pair.local_port);
-    let remote_port = octets::bytes16(pair.remote_port);
-    let isn = octets::bytes32(conn.isn);
-    let peer_isn = octets::bytes32(conn.peer_isn);
-    [
-        pair.family,
-        conn.stage,
-        s.send_id,
-        s.ask_id,
-        local_port[0],
-        local_port[1],
-        remote_port[0],
-        remote_port[1],
-        isn[0],
-        isn[1],
-        isn[2],
-        isn[3],
-        peer_isn[0],
-        peer_isn[1],
-        peer_isn[2],
-        peer_isn[3],
-    ]
+    let mut out = [0u8; 16];
+    out[FAMILY] = pair.family;
+    out[STAGE] = conn.stage;
+    out[SEND_ID] = s.send_id;
+    out[ASK_ID] = s.ask_id;
+    octets::copy_at(&mut out, LOCAL_PORT, &octets::bytes16(pair.local_port));
+    octets::copy_at(&mut out, REMOTE_PORT, &octets::bytes16(pair.remote_port));
+    octets::copy_at(&mut out, ISN, &octets::bytes32(conn.isn));
+    octets::copy_at(&mut out, PEER_ISN, &octets::bytes32(conn.peer_isn));
+    out
 }
 
 // The parts of a state, one behind the other.
+// Kept (may not change): way is a byte, of which any is a state's: the clauses `back` of encode and decode.
 fn join(
     head: [u8; 16],
     local: [u8; 16],
@@ -123,44 +111,38 @@ pub fn encode(s: State) -> [u8; STATE_BYTES]
     )
 }
 
-fn pair_from(bytes: &[u8]) -> Pair
-    requires { length bytes.now ≡ state_bytes }
-    ensures { result ≡ decode_pair bytes.now }
+// Numbers of eight bytes each, read one behind the other from `at` on.
+fn words_from<const N: usize>(bytes: &[u8], at: usize) -> [u64; N]
+    requires { at + 8 * N ≤ length bytes.now }
+    ensures { result ≡ words_at_lem N bytes.now at }
 {
-    Pair {
+    let mut words = [0; N];
+    let mut place = at;
+    for word in &mut words {
+        *word = load64(bytes, place);
+        place += 8;
+    }
+    words
+}
+
+fn conn_from(bytes: &[u8]) -> Connection
+    requires { length bytes.now ≡ state_bytes }
+    ensures { result ≡ decode_connection bytes.now }
+{
+    let pair = Pair {
         family: bytes[FAMILY],
         local_port: octets::load16(bytes, LOCAL_PORT),
         remote_port: octets::load16(bytes, REMOTE_PORT),
         local: padded(&bytes[LOCAL..REMOTE]),
         remote: padded(&bytes[REMOTE..SENT]),
-    }
-}
-
-#[tactic(auto, unfolding(crate::specs::Layout::decode_connection))]
-fn conn_from(bytes: &[u8]) -> Connection
-    requires { length bytes.now ≡ state_bytes }
-    ensures { result ≡ decode_connection bytes.now }
-{
+    };
     Connection {
         stage: bytes[STAGE],
         way: bytes[WAY],
-        pair: pair_from(bytes),
+        pair,
         isn: octets::load32(bytes, ISN),
         peer_isn: octets::load32(bytes, PEER_ISN),
     }
-}
-
-fn drops_from(bytes: &[u8]) -> [u64; SLOTS]
-    requires { length bytes.now ≡ state_bytes }
-    ensures { result ≡ words_at_lem slots bytes.now drops_at }
-{
-    let mut drops = [0; SLOTS];
-    let mut place = DROPS;
-    for count in &mut drops {
-        *count = load64(bytes, place);
-        place += 8;
-    }
-    drops
 }
 
 pub fn decode(bytes: &[u8]) -> State
@@ -175,6 +157,6 @@ pub fn decode(bytes: &[u8]) -> State
         send_id: bytes[SEND_ID],
         ask_id: bytes[ASK_ID],
         accepted: load64(bytes, ACCEPTED),
-        drops: drops_from(bytes),
+        drops: words_from(bytes, DROPS),
     }
 }

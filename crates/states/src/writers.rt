@@ -28,6 +28,7 @@ pub fn pair_of(local: &[u8], remote: &[u8], local_port: u16, remote_port: u16) -
 }
 
 // Whether an address is the one that a pair of this family holds in a field. What stands behind an IPv4 address there means nothing.
+// Kept (may not change): the family is a state's byte, of which any may come: the contract answers for each by `width`.
 pub fn is_address(address: &[u8], family: u8, field: [u8; 16]) -> bool
     ensures { result ≡ same_bytes address.now (take (width family) field) }
 {
@@ -52,6 +53,7 @@ pub fn is_md5(conn: Connection) -> bool
 }
 
 // "Opening sets each reference to that side's ISN"; of the counts, "All are 0 at opening; the segment that opens is not counted."
+// Kept (may not change): way is a byte, of which any is a state's: `opened` and `opening` of specs/Connection take each.
 pub fn opened(way: u8, pair: Pair, isn: u32, peer_isn: u32, send_id: u8, ask_id: u8) -> State
     ensures { result ≡ opened_of way pair isn peer_isn send_id ask_id }
 {

@@ -16,12 +16,15 @@ use prepared::stored::MAX_ENTRIES;
 use std::marker::Model;
 
 // The form of two buffers that are the tables' own bytes.
+// Kept (C interface): the form is a number in C's calls; from `new` on it is a variant of `Form`.
 const BYTES: u8 = 0;
 
 // One form of all the others, which are a prepared table's.
+// Kept (C interface): a number of the form, as BYTES.
 const PREPARED: u8 = 1;
 
 // Which entry a number of the tables names: table 0 is the key table, table 1 the MD5 table; entries are counted from 0.
+// Kept (C interface): the table is the number that C finds in a result's bits.
 #[derive(Clone, Copy, PartialEq, Eq, Debug)]
 pub struct Index {
     pub table: u8,
@@ -58,6 +61,7 @@ impl<'a> Model for LentTables<'a> {
 
 impl Refusal {
     // A number that names an entry.
+    // Kept (C interface): the table is a number, as `Index` holds it for C.
     fn at(number: u8, table: u8, entry: usize) -> Self
         ensures { result ≡ record { number = number; index = record { table = table; entry = entry } } }
     {
@@ -83,6 +87,7 @@ impl Refusal {
 }
 
 // 45, where each table by itself is valid and the key table has n entries.
+// Kept (may not change): n is a parameter beside the tables, as `after_crossing` and `besides` of specs/Tables hand it on.
 fn check_crossing(keys: &[u8], md5: &[u8], n: usize) -> Result<usize, Refusal>
     ensures { result ≡ after_crossing (crossing (entries keys.now) (entries md5.now)) n }
 {
@@ -127,6 +132,7 @@ fn check_prepared(keys: &[u8], md5: &[u8]) -> Result<usize, Refusal>
 impl<'a> LentTables<'a> {
     // Of the form's number as C gives it: 0 says that the two buffers are the tables' own bytes, any other value that `keys` is a prepared
     // table.
+    // Kept (C interface): the form is the number that C gives, of which any byte may come.
     pub fn new(form: u8, keys: &'a [u8], md5: &'a [u8]) -> Self
         ensures { result ≡ tables_of form keys.now md5.now }
     {
@@ -172,6 +178,7 @@ impl<'a> LentTables<'a> {
         }
     }
 
+    // Kept (no plainer): beside find_md5: other buffers and another prepared search; a helper with two closures says more than two arms.
     #[tactic(auto, unfolding(crate::specs::Tables::prepared_tables))]
     fn find_key(&self, pair: Pair, by: By) -> Option<Hit>
         ensures { found_of result ≡ found (answers by pair) 0 self.now.keys }
@@ -183,6 +190,7 @@ impl<'a> LentTables<'a> {
     }
 
     // The key entry that matches the pair and has the SendID.
+    // Kept (no plainer): beside find_recv: both are find_key, by the ID that each is named after.
     pub fn find_send(&self, pair: Pair, id: u8) -> Option<Hit>
         ensures { found_of result ≡ send_entry self.now pair id }
     {

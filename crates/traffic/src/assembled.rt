@@ -6,6 +6,7 @@ ghost use Rattle.rules.specs.Mac.{blank as blank_of, blank_if_of};
 use std::marker::Model;
 
 // The parts are the first `len` bytes; what stands behind them means nothing.
+// Kept (project rule): no heap, so room and length stand together, under an invariant; `Digits`, `Text` and `Words` lie in programs.
 #[derive(Drop)]
 pub struct Assembled<const N: usize> {
     bytes: [u8; N],
@@ -23,6 +24,7 @@ impl<const N: usize> Model for Assembled<N> {
 }
 
 impl<const N: usize> Assembled<N> {
+    // Kept (no plainer): `[u8; N]` has no `Default` for every N, so that none can be derived, and one by hand would be this again.
     pub fn new() -> Self
         ensures { result ≡ [] }
     {
@@ -56,6 +58,7 @@ impl<const N: usize> Assembled<N> {
     }
 
     // So of a side that is hidden, and nothing of another.
+    // Kept (no plainer): a link of a chain of calls; with a closure in place of the flag each caller would write the `if`.
     pub fn blank_if(self, hidden: bool, i: usize, n: usize) -> Self
         requires { i + n ≤ length self }
         ensures value { result ≡ blank_if_of hidden i n self.entry }

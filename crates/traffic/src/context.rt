@@ -64,6 +64,7 @@ impl MacContext {
         }
     }
 
+    // Kept (no plainer): a match over the three MACs, a line to each; a dyn value could not be kept as plain bytes between calls.
     #[tactic(auto, unfolding(crate::specs::MacContext::mac_finished, mac::specs::Hmac::filled))]
     pub fn finish(self) -> [u8; DIGEST_ROOM]
         ensures { result ≡ mac_finished (mac_view self) }

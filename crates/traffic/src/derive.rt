@@ -22,8 +22,8 @@ fn context(flow: &Flow) -> Assembled<44>
     ensures { result ≡ context_of (flow_of flow.now) }
 {
     Assembled::new()
-        .push(flow.source_bytes())
-        .push(flow.destination_bytes())
+        .push(flow.used(&flow.source))
+        .push(flow.used(&flow.destination))
         .push(&octets::bytes16(flow.source_port))
         .push(&octets::bytes16(flow.destination_port))
         .push(&octets::bytes32(flow.source_isn))
@@ -60,6 +60,8 @@ pub(crate) fn master_key(secret: &Secret) -> &[u8]
 }
 
 // The traffic key, the algorithm's MAC under the master key; zeros stand behind one that is shorter than its room.
+// Kept (project rule): no heap, and a key's length is known at run time alone, so it stands in the room of the longest.
+// Kept (no plainer): the two MACs that there are, a line to each, as the document has them.
 #[tactic(auto, unfolding(rules::specs::Mac::traffic_key_of, rules::specs::Mac::applied, mac::specs::Hmac::filled))]
 pub fn traffic_key(secret: Secret, flow: Flow) -> [u8; DIGEST_ROOM]
     ensures { result ≡ padded digest_room (traffic_key_of secret (flow_of flow)) }

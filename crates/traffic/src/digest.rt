@@ -15,6 +15,7 @@ use mac::hash::HashContext;
 use mac::hash_algorithm::HashAlgorithm;
 
 // "the TCP pseudo-header", of a segment of len bytes, and "the TCP header, excluding options, and assuming a checksum of zero"
+// Kept (no plainer): 20 ≤ length is a fact of leaves, which callers have from `well_sized`; a type of its own would hold the same bytes.
 #[tactic(auto, using(crate::proofs::Pieces::zeros_first), unfolding(rules::specs::Digest::digest_front))]
 fn front(flow: Flow, len: usize, header: &[u8]) -> Assembled<60>
     requires { 20 ≤ length header.now }

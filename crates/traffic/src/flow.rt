@@ -1,7 +1,8 @@
 // Who sends a segment to whom: document 01, "Traffic keys", "'source' is whoever sent the segment".
 // Traffic keys and pseudo-headers are made from it; document 02, Ticket 10, says what of it counts as zero there. Every value is a flow;
 // where the family is not 4, addresses have sixteen bytes.
-ghost use Rattle.std.specs.Prelude.{◌≡◌, ◌≤◌, length, eqb};
+ghost use Rattle.std.specs.Prelude.{◌≡◌, ◌≤◌, length, take, eqb};
+ghost use Rattle.keys.specs.Entry.{width};
 ghost use Rattle.rules.specs.Mac.{leaving_hidden_of, arriving_hidden_of, pseudo_header as pseudo_header_of, blanked as blanked_of};
 ghost use Rattle.traffic.specs.Flow.{flow_of, pseudo_end_of};
 
@@ -57,21 +58,13 @@ pub(crate) fn pseudo_end(width: usize, len: usize) -> Assembled<8>
 }
 
 impl Flow {
-    // The addresses: the bytes of their fields that the family uses.
+    // An address: the bytes of its field, the source's or the destination's, that the family uses.
     #[tactic(auto, unfolding(keys::specs::Entry::width))]
-    pub(crate) fn source_bytes(&self) -> &[u8]
-        ensures value { result.now ≡ (flow_of self.now).source }
+    pub(crate) fn used<'a>(&self, field: &'a [u8; 16]) -> &'a [u8]
+        ensures value { result.now ≡ take (width self.now.family) field.now }
         ensures room { length result.now ≤ 16 }
     {
-        &self.source[..width_of(self.family)]
-    }
-
-    #[tactic(auto, unfolding(keys::specs::Entry::width))]
-    pub(crate) fn destination_bytes(&self) -> &[u8]
-        ensures value { result.now ≡ (flow_of self.now).destination }
-        ensures room { length result.now ≤ 16 }
-    {
-        &self.destination[..width_of(self.family)]
+        &field[..width_of(self.family)]
     }
 
     // "the IP pseudo-header as for the checksum", of a segment of len bytes
@@ -79,11 +72,11 @@ impl Flow {
     pub(crate) fn pseudo_header(&self, len: usize) -> Assembled<40>
         ensures { result ≡ pseudo_header_of (flow_of self.now).source (flow_of self.now).destination len }
     {
-        let source = self.source_bytes();
+        let source = self.used(&self.source);
         let end = pseudo_end(source.len(), len);
         Assembled::new()
             .push(source)
-            .push(self.destination_bytes())
+            .push(self.used(&self.destination))
             .push(end.as_slice())
     }
 

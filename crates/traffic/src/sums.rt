@@ -21,6 +21,7 @@ pub fn pseudo_sum(source: &[u8], destination: &[u8], len: usize) -> Sum
 }
 
 // A segment's "one's complement sum, pseudo-header and checksum included".
+// Kept (may not change): `judge` and `judge_syn` of `tcpao`, which docs name, take these parameters one by one, and all hand them on.
 #[tactic(auto, using(crate::proofs::SumPieces::segment_added))]
 pub fn segment_sum(source: &[u8], destination: &[u8], segment: &[u8]) -> u16
     ensures { result ≡ segment_sum_of source.now destination.now segment.now }

@@ -1,6 +1,7 @@
 // The header of a TCP segment: document 01, "The option in a segment"; field places by RFC 793, section 3.1.
 // Assumes nothing: each reader takes any bytes, and one that is not there counts as 0.
-ghost use Rattle.std.specs.Prelude.{◌≡◌};
+ghost use Rattle.std.specs.Prelude.{◌≡◌, ◌/◌, ◌%◌, ◌^◌, ◌<◌, get_or, eqb};
+ghost use Rattle.octets.specs.Octets.{get16};
 ghost use Rattle.wire.specs.Header.{source_port_of, destination_port_of, sequence as sequence_of, data_offset_of, header_end_of};
 ghost use Rattle.wire.specs.Header.{syn as syn_of, ack as ack_of, well_sized_of, header_of_lem};
 
@@ -22,16 +23,32 @@ pub struct Header {
     pub options: Option<Seen>,
 }
 
+// The two bytes at a place of the header as a number.
+fn word_at(segment: &[u8], at: usize) -> u16
+    requires { at < 20 }
+    ensures { result ≡ get16 segment.now at }
+{
+    octets::be16(byte_at(segment, at), byte_at(segment, at + 1))
+}
+
+// A flag of byte 13, by its place, that of FIN being 0.
+fn flag(segment: &[u8], bit: u32) -> bool
+    requires { bit < 8 }
+    ensures { result ≡ eqb (get_or segment.now 13 0 / 2 ^ bit % 2) 1 }
+{
+    (byte_at(segment, 13) >> bit) % 2 == 1
+}
+
 pub fn source_port(segment: &[u8]) -> u16
     ensures { result ≡ source_port_of segment.now }
 {
-    octets::be16(byte_at(segment, 0), byte_at(segment, 1))
+    word_at(segment, 0)
 }
 
 pub fn destination_port(segment: &[u8]) -> u16
     ensures { result ≡ destination_port_of segment.now }
 {
-    octets::be16(byte_at(segment, 2), byte_at(segment, 3))
+    word_at(segment, 2)
 }
 
 pub fn sequence(segment: &[u8]) -> u32
@@ -62,13 +79,13 @@ pub fn header_end(segment: &[u8]) -> usize
 pub fn syn(segment: &[u8]) -> bool
     ensures { result ≡ syn_of segment.now }
 {
-    (byte_at(segment, 13) >> 1) % 2 == 1
+    flag(segment, 1)
 }
 
 pub fn ack(segment: &[u8]) -> bool
     ensures { result ≡ ack_of segment.now }
 {
-    (byte_at(segment, 13) >> 4) % 2 == 1
+    flag(segment, 4)
 }
 
 // 20 to 65,535 bytes, a data offset of 5 words or more, and the header inside the segment.

@@ -48,6 +48,7 @@ enum Step {
 }
 
 // The length of the option at a place, if its byte is there, says at least `least`, and does not run past the area.
+// Kept (no plainer): at < length is a fact of two leaves, which the walk in `read` has from its own test.
 #[tactic(auto, unfolding(crate::specs::OptionSteps::length_at_lem))]
 fn length_at(area: &[u8], at: usize, least: usize) -> Option<usize>
     requires { at < length area.now }
