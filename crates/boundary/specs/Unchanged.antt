@@ -54,7 +54,8 @@ ActivelyMd5Refused = (t : Tables) (local remote : List ℕ) (local_port remote_p
 
 -- Preparing that is refused.
 abbrev pub PrepareRefused : Type 0
-PrepareRefused = (k m out : List ℕ) (n : ℕ) (i : Index) → prepare_answer k m (length out) ≡ refused_with n i → (prepare_export k m out).out ≡ out
+PrepareRefused = (k m out : List ℕ) (n : ℕ) (i : Index) → prepare_answer k m (length out) ≡ refused_with n i
+    → (prepare_export k m out).out ≡ out
 
 -- The calls on a connection, whose state is decode_of b.
 

@@ -146,7 +146,7 @@ impl Begun {
     }
 }
 
-// Data and end, of a segment that is there whole. Its data begin behind the header, or at the end of a segment that is shorter than it says.
+// Data and end, of a segment that is there whole. Its data begin behind the header, or at the end of one that is shorter than it says.
 pub fn finished(begun: Begun, segment: &[u8]) -> Outcome
     ensures { result
         ≡ ended begun (agrees begun (mac_absorb (mac_view begun.mac) (drop (header_end_of segment.now) segment.now))) }

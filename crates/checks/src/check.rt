@@ -47,8 +47,8 @@ fn peer_isn(conn: Connection, number: u32) -> u32
     if is_open(conn) { conn.peer_isn } else { number }
 }
 
-// The entry that matches the pair and has the KeyID as its RecvID. In tables that are not refused its MAC has at most 16 bytes: that they are
-// those of some bytes is what `parts` says.
+// The entry that matches the pair and has the KeyID as its RecvID. In tables that are not refused its MAC has at most 16 bytes: that they
+// are those of some bytes is what `parts` says.
 fn entry_for(tables: &LentTables<'_>, pair: Pair, id: u8) -> Option<Hit>
     ensures entry { found_of result ≡ recv_entry tables.now pair id }
     ensures short { is_refused tables.now.answer ≡ false → (found_of result).entry.secret.mac_bytes ≤ 16 }
@@ -133,8 +133,8 @@ pub fn arrival_pair(arrival: &LentArrival<'_>) -> Pair
     )
 }
 
-// A bare SYN, without a state: every test but 29, with the way and the IDs of the entry that was found. Ticket 9: "a bare SYN without one by
-// the table that matches, else as before". "For a bare SYN .. the destination ISN is zero", and it has "[its] own number as position".
+// A bare SYN, without a state: every test but 29, with the way and the IDs of the entry that was found. Ticket 9: "a bare SYN without one
+// by the table that matches, else as before". "For a bare SYN .. the destination ISN is zero", and it has "[its] own number as position".
 // Kept (no plainer): parameters one by one: tables and arrival are structs already, of two owners, and strict is the caller's setting.
 pub fn begin_syn(
     tables: &LentTables<'_>,

@@ -84,7 +84,7 @@ pub(crate) fn next_words<H: Schedule>(w: &mut [u32; 16])
 pub(crate) fn sum<const N: usize>(h: [u32; N], s: [u32; N]) -> [u32; N]
     ensures { result ≡ sums N h.entry s.entry }
 {
-    // Kept (proof): `array::from_fn` was tried: nothing is known of what a generic function's closure gives, without clauses longer than this.
+    // Kept (proof): `array::from_fn` was tried: nothing is known of what a generic function's closure gives.
     let mut out = h;
     for i in 0..N {
         out[i] = out[i].wrapping_add(s[i]);

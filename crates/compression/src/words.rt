@@ -53,7 +53,7 @@ pub fn load<O: ByteOrder>(m: &[u8]) -> [u32; 16]
     ensures { result ≡ words_by O.word 16 m.now }
 {
     let mut words = [0u32; 16];
-    // Kept (proof): `array::from_fn` was tried: nothing is known of what a generic function's closure gives, without clauses longer than this.
+    // Kept (proof): `array::from_fn` was tried: nothing is known of what a generic function's closure gives.
     for t in 0..16 {
         words[t] = O::load(m, 4 * t);
     }

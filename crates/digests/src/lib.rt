@@ -4,7 +4,8 @@
 #![tactic(auto)]
 
 ghost use Rattle.std.specs.Prelude.{◌≡◌, length};
-ghost use Rattle.digests.specs.Digests.{gives, into, room, sha1_into, hmac_sha1_into, sha256_into, hmac_sha256_into, aes128_into, cmac_into, md5_into};
+ghost use Rattle.digests.specs.Digests.{gives, into, room, sha1_into, hmac_sha1_into, sha256_into, hmac_sha256_into, aes128_into};
+ghost use Rattle.digests.specs.Digests.{cmac_into, md5_into};
 
 // Puts the digest at the front of out.
 // Kept (C interface): 0 says to C that nothing was written.

@@ -49,7 +49,7 @@ impl TcpMd5 {
     pub const MAC_BYTES: usize = 16;
 }
 
-// Kept (no plainer): a table's byte names the algorithm, and each of the three is one match over it; a trait or an enum adds a fourth match.
+// Kept (no plainer): a table's byte names the algorithm, and each is one match over it; a trait or an enum adds a fourth match.
 // Kept (may not change): 0 of an algorithm that is not listed (`number` of each).
 pub fn traffic_key_bytes(algorithm: u8) -> usize
     ensures number { result ≡ traffic_key_bytes_of algorithm }

@@ -12,7 +12,8 @@ use Rattle.keys.specs.declared.table.TableKind.{TableKind}
 use Rattle.keys.specs.declared.table.TableKind.TheVariants.{Keys, Md5}
 use Rattle.keys.specs.declared.table.By.{By}
 use Rattle.keys.specs.declared.table.By.TheVariants.{Any, Send, Recv}
-use Rattle.prepared.specs.Prepared.{clean_family, clean_selector, front_ids, raw_selector, send_at, recv_at, bits_at, mark_at, slot_at, mark_of}
+use Rattle.prepared.specs.Prepared.{clean_family, clean_selector, front_ids, raw_selector, send_at, recv_at, bits_at, mark_at}
+use Rattle.prepared.specs.Prepared.{slot_at, mark_of}
 use Rattle.prepared.specs.Prepared.{front_at_lem, back_at}
 use Rattle.prepared.specs.declared.stored.Wanted.{Wanted}
 

@@ -1,5 +1,6 @@
 // A prepared table, read: its counts and length, and the searches. Any bytes may come as one.
-ghost use Rattle.std.specs.Prelude.{cond, true, false, ◌≡◌, ◌+◌, ◌*◌, ◌/◌, ◌%◌, ◌^◌, ◌≤◌, ◌<◌, eqb, length, take, drop, unwrap_or, IfSome, MatchOption};
+ghost use Rattle.std.specs.Prelude.{cond, true, false, ◌≡◌, ◌+◌, ◌*◌, ◌/◌, ◌%◌, ◌^◌, ◌≤◌, ◌<◌, eqb, length, take, drop};
+ghost use Rattle.std.specs.Prelude.{unwrap_or, IfSome, MatchOption};
 ghost use Rattle.octets.specs.Each.{Octets};
 ghost use Rattle.octets.specs.Octets.{get16};
 ghost use Rattle.keys.specs.Match.{matches as matches_of};
@@ -235,7 +236,8 @@ impl<'a> Stored<'a> {
     // The entry as it is stored: its front put together, and its back.
     fn raw(&self, i: usize) -> RawEntry<'a>
         requires { i < self.now.n }
-        ensures { (result.front ≡ front_at_lem self.now.bytes.now self.now.n i) × (result.back.now ≡ back_at self.now.bytes.now self.now.n i) }
+        ensures { (result.front ≡ front_at_lem self.now.bytes.now self.now.n i)
+            × (result.back.now ≡ back_at self.now.bytes.now self.now.n i) }
     {
         let t = self.bytes;
         let s = self.slot(i).bytes;
@@ -367,7 +369,9 @@ impl<'a> Stored<'a> {
     // Whether entry i matches the pair.
     fn matches_at(&self, i: usize, pair: Pair) -> bool
         requires { i < self.now.n }
-        ensures { result ≡ matches_of (clean_selector (raw_selector (front_at_lem self.now.bytes.now self.now.n i) (back_at self.now.bytes.now self.now.n i))) pair }
+        ensures { result
+            ≡ matches_of (clean_selector (raw_selector (front_at_lem self.now.bytes.now self.now.n i)
+            (back_at self.now.bytes.now self.now.n i))) pair }
     {
         matches(self.raw(i).selector(), pair)
     }

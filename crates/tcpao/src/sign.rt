@@ -17,8 +17,8 @@ use rules::{Outcome, SignedSegment, State};
 use states::writers::{is_md5, is_open, with_sent};
 use tables::{LentTables, Refusal};
 
-// The entry signed under: the outgoing key's; on the MD5 way the one that matches the pair. In tables that are not refused the MAC by TCP-AO
-// has at most 16 bytes: that they are those of some bytes is what `parts` says.
+// The entry signed under: the outgoing key's; on the MD5 way the one that matches the pair. In tables that are not refused the MAC by
+// TCP-AO has at most 16 bytes: that they are those of some bytes is what `parts` says.
 fn outgoing(tables: &LentTables<'_>, state: State) -> Option<Hit>
     ensures entry { found_of result ≡ outgoing_of tables.now state }
     ensures short { is_refused tables.now.answer ≡ false → is_md5_of state.conn ≡ false
