@@ -137,23 +137,22 @@ fn side_of(e: &[u8], family: u8, ports: usize, at: usize) -> Side
     }
 }
 
-// The bytes of a table from an entry on, of a known kind, that is there whole. In contracts it is that entry.
+// The bytes of a table from an entry on that is there whole. In contracts it is that entry.
 #[derive(Drop)]
 pub struct EntryBytes<'a> {
     pub(crate) bytes: &'a [u8],
 }
 
 impl<'a> Model for EntryBytes<'a> {
-    ghost use Rattle.std.specs.Prelude.{true, ◌≡◌, ◌<◌, length, get_or};
+    ghost use Rattle.std.specs.Prelude.{◌<◌, length, get_or};
     ghost use Rattle.keys.specs.declared.entry.Entry.{Entry};
-    ghost use Rattle.keys.specs.Entry.{known_kind_of, body, entry_of};
+    ghost use Rattle.keys.specs.Entry.{body, entry_of};
 
     ghost Value = { Entry };
 
     ghost view = { λ e. entry_of e.bytes.now };
 
-    ghost invariant = { λ e. (known_kind_of (get_or e.bytes.now 0 0) ≡ true)
-        × (body (get_or e.bytes.now 0 0) < length e.bytes.now) };
+    ghost invariant = { λ e. body (get_or e.bytes.now 0 0) < length e.bytes.now };
 }
 
 impl<'a> EntryBytes<'a> {
@@ -233,4 +232,12 @@ impl<'a> EntryBytes<'a> {
             secret: self.secret(),
         }
     }
+}
+
+// The entry whose bytes begin with e's.
+pub fn entry_of(e: &[u8]) -> Entry
+    requires { size (get_or e.now 0 0) ≤ length e.now }
+    ensures { result ≡ entry_of e.now }
+{
+    EntryBytes { bytes: e }.entry()
 }

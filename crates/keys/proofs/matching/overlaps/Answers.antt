@@ -18,22 +18,22 @@ unfolding overlap
 returns-then-family-other c = rw (ne_eqb _ _ (λ z. c.if-family-other.true (c.family-family.ensures ∙ z)))
 
 pub ports_meet-requires : goal.ports_meet-requires
-ports_meet-requires c = omega (arith, room (get_or c.entry.inside.bytes.now 0 0) _ c.entry.invariant.1)
+ports_meet-requires c = omega (arith, room (get_or c.entry.inside.bytes.now 0 0) _ c.entry.invariant)
 
 pub ports_meet-requires-then-ports_meet : goal.ports_meet-requires-then-ports_meet
-ports_meet-requires-then-ports_meet c = omega (arith, room (get_or c.entry.inside.bytes.now 0 0) _ c.entry.invariant.1)
+ports_meet-requires-then-ports_meet c = omega (arith, room (get_or c.entry.inside.bytes.now 0 0) _ c.entry.invariant)
 
 pub overflow_add-width_of : goal.overflow_add-width_of
 overflow_add-width_of c =
-    omega (arith, sides-room _ _ _ _ (family-is _ _ c.entry.inside.bytes.now c.family-family.ensures c.entry.view_is) c.width_of.ensures c.entry.invariant.1)
+    omega (arith, sides-room _ _ _ _ (family-is _ _ c.entry.inside.bytes.now c.family-family.ensures c.entry.view_is) c.width_of.ensures c.entry.invariant)
 
 pub addresses_meet-requires : goal.addresses_meet-requires
 addresses_meet-requires c =
-    omega (arith, c.width_of.ensures, sides-room _ _ _ _ (family-is _ _ c.entry.inside.bytes.now c.family-family.ensures c.entry.view_is) c.width_of.ensures c.entry.invariant.1)
+    omega (arith, c.width_of.ensures, sides-room _ _ _ _ (family-is _ _ c.entry.inside.bytes.now c.family-family.ensures c.entry.view_is) c.width_of.ensures c.entry.invariant)
 
 pub addresses_meet-requires-then-addresses_meet : goal.addresses_meet-requires-then-addresses_meet
 addresses_meet-requires-then-addresses_meet c =
-    omega (arith, sides-room _ _ _ _ (family-is _ _ c.entry.inside.bytes.now c.family-family.ensures c.entry.view_is) refl c.entry.invariant.1)
+    omega (arith, sides-room _ _ _ _ (family-is _ _ c.entry.inside.bytes.now c.family-family.ensures c.entry.view_is) refl c.entry.invariant)
 
 pub returns-then-addresses_meet : goal.returns-then-addresses_meet
 unfolding entry_of

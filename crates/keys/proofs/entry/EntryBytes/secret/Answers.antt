@@ -5,19 +5,19 @@ use Rattle.keys.proofs.entry.EntryBytes.secret.Goals.{then-extra_of-eq1, else-ex
 use Rattle.keys.proofs.entry.EntryBytes.secret.Goals as goal
 
 pub bounds-self-inside-2 : goal.bounds-self-inside-2
-bounds-self-inside-2 c = omega (arith, room (get_or c.self.inside.bytes.now 0 0) _ c.self.invariant.1)
+bounds-self-inside-2 c = omega (arith, room (get_or c.self.inside.bytes.now 0 0) _ c.self.invariant)
 
 pub overflow_add-at : goal.overflow_add-at
-overflow_add-at c = omega (arith, c.sides_end-end.ensures, c.extra_of.ensures, room (get_or c.self.inside.bytes.now 0 0) _ c.self.invariant.1)
+overflow_add-at c = omega (arith, c.sides_end-end.ensures, c.extra_of.ensures, room (get_or c.self.inside.bytes.now 0 0) _ c.self.invariant)
 
 pub overflow_add-at-2 : goal.overflow_add-at-2
-overflow_add-at-2 c = omega (arith, c.sides_end-end.ensures, c.extra_of.ensures, room (get_or c.self.inside.bytes.now 0 0) _ c.self.invariant.1)
+overflow_add-at-2 c = omega (arith, c.sides_end-end.ensures, c.extra_of.ensures, room (get_or c.self.inside.bytes.now 0 0) _ c.self.invariant)
 
 pub overflow_add-at-3 : goal.overflow_add-at-3
-overflow_add-at-3 c = omega (arith, c.sides_end-end.ensures, c.extra_of.ensures, room (get_or c.self.inside.bytes.now 0 0) _ c.self.invariant.1)
+overflow_add-at-3 c = omega (arith, c.sides_end-end.ensures, c.extra_of.ensures, room (get_or c.self.inside.bytes.now 0 0) _ c.self.invariant)
 
 pub slice_bounds-copy_from_slice-end-2 : goal.slice_bounds-copy_from_slice-end-2
-slice_bounds-copy_from_slice-end-2 c = omega (arith, c.sides_end-end.ensures, c.extra_of.ensures, room (get_or c.self.inside.bytes.now 0 0) _ c.self.invariant.1)
+slice_bounds-copy_from_slice-end-2 c = omega (arith, c.sides_end-end.ensures, c.extra_of.ensures, room (get_or c.self.inside.bytes.now 0 0) _ c.self.invariant)
 
 pub returns : goal.returns
 unfolding entry_of secret_of_lem

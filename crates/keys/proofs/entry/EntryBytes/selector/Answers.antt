@@ -9,7 +9,7 @@ unfolding entry_of selector_of_lem
 side_of-requires c =
     let k = get_or c.self.inside.bytes.now 0 0 in
     let f : c.family-family.result ≡ family_of_lem k = c.family-family.ensures ∙ sym (ap (λ (e : Entry). e.selector.family) c.self.view_is) in
-    let r = sides-room k _ _ _ f refl c.self.invariant.1 in
+    let r = sides-room k _ _ _ f refl c.self.invariant in
     (omega arith, omega arith)
 
 pub overflow_add-width_of : goal.overflow_add-width_of
@@ -17,14 +17,14 @@ unfolding entry_of selector_of_lem
 overflow_add-width_of c =
     let k = get_or c.self.inside.bytes.now 0 0 in
     let f : c.family-family.result ≡ family_of_lem k = c.family-family.ensures ∙ sym (ap (λ (e : Entry). e.selector.family) c.self.view_is) in
-    omega (arith, sides-room k _ _ _ f c.width_of.ensures c.self.invariant.1)
+    omega (arith, sides-room k _ _ _ f c.width_of.ensures c.self.invariant)
 
 pub side_of-requires-2 : goal.side_of-requires-2
 unfolding entry_of selector_of_lem
 side_of-requires-2 c =
     let k = get_or c.self.inside.bytes.now 0 0 in
     let f : c.family-family.result ≡ family_of_lem k = c.family-family.ensures ∙ sym (ap (λ (e : Entry). e.selector.family) c.self.view_is) in
-    let r = sides-room k _ _ _ f c.width_of.ensures c.self.invariant.1 in
+    let r = sides-room k _ _ _ f c.width_of.ensures c.self.invariant in
     let w = c.width_of.ensures in
     (omega arith, omega arith)
 
