@@ -188,6 +188,7 @@ pub fn load(table: &[u8], limit: usize, kind: TableKind) -> Result<usize, Fault>
     };
     let mut rest = table;
     let mut index = 0;
+    // Kept (no plainer): what is left may begin with no whole entry (11, 10), so this is no loop over `Entries`; each fault has the index.
     while !rest.is_empty() {
         if index == limit {
             return Err(Fault { number: 12, index });
