@@ -35,10 +35,6 @@ and_no a b r e h = rw (sym e ∙ h)
 and_yes : (a b r q : Bool) → r ≡ a → r ≡ true → q ≡ b → q ≡ (a && b)
 and_yes a b r q e h g = rw (sym e ∙ h) g
 
-and-false : (a : Bool) → false ≡ (a && false)
-and-false true = refl
-and-false false = refl
-
 -- the local address
 
 module _ (f : ℕ) (r : List ℕ) (upper lower g n : ℕ) (ge : g ≡ clean_family f) (ne : n ≡ fixed g (get_or r 4 0)) where
@@ -173,42 +169,12 @@ module _ (t : List ℕ) (n : ℕ) (by : By) (p : Pair) (octets : Octets t) (room
 -- the counts and the length
 
 module _ (t : List ℕ) where
-  pub fits-short : length t < 4 → false ≡ fits t
-  unfolding fits
-  fits-short h =
-      rw (ne_eqb (length t) (prepared_bytes (total t)) (λ e. omega arith), sym (and-false (leb (md5_count t) 1024)))
-      (and-false (leb (key_count_of t) 1024))
-
-  pub fits-keys : (n : ℕ) → n ≡ key_count_of t → 1024 < n → false ≡ fits t
-  unfolding fits
-  fits-keys n e h = let q : leb (key_count_of t) 1024 ≡ false = lt-leb (key_count_of t) 1024 (omega arith) in rw q
-
-  pub fits-md5s : (m : ℕ) → m ≡ md5_count t → 1024 < m → false ≡ fits t
-  unfolding fits
-  fits-md5s m e h =
-      let q : leb (md5_count t) 1024 ≡ false = lt-leb (md5_count t) 1024 (omega arith) in
-      rw q (and-false (leb (key_count_of t) 1024))
-
-  pub fits_by : (n m : ℕ) → n ≡ key_count_of t → m ≡ md5_count t → n ≤ 1024 → m ≤ 1024 → eqb (length t) (4 + 129 * (n + m)) ≡ fits t
-  unfolding fits
-  fits_by n m ne me h k =
-      let q : leb (key_count_of t) 1024 ≡ true = le-leb (key_count_of t) 1024 (omega arith) in
-      let r : leb (md5_count t) 1024 ≡ true = le-leb (md5_count t) 1024 (omega arith) in
-      rw (q, r) (λ i. eqb (length t) (4 + 129 * (ne i + me i)))
-
   pub fits-length : fits t ≡ true → length t ≡ 4 + 129 * (key_count_of t + md5_count t)
   unfolding fits
   fits-length h =
       let a = and-true (leb (key_count_of t) 1024) _ h in
       let b = and-true (leb (md5_count t) 1024) (eqb (length t) (prepared_bytes (total t))) a.1 in
       eqb-true _ _ b.1
-
-  pub fits-counts : fits t ≡ true → (key_count_of t ≤ 1024) × (md5_count t ≤ 1024)
-  unfolding fits
-  fits-counts h =
-      let a = and-true (leb (key_count_of t) 1024) _ h in
-      let b = and-true (leb (md5_count t) 1024) (eqb (length t) (prepared_bytes (total t))) a.1 in
-      (leb-true _ _ a.0, leb-true _ _ b.0)
 
 -- what the code found
 

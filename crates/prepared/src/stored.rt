@@ -407,6 +407,7 @@ impl<'a> Stored<'a> {
 }
 
 // How many key entries and MD5 entries a table has that fits.
+#[tactic(auto, unfolding(crate::specs::Prepared::fits))]
 fn counts(t: &[u8]) -> Option<(usize, usize)>
     ensures { MatchOption result (fits_of t.now ≡ false)
         (λ c. (fits_of t.now ≡ true) × (c.0 ≡ key_count_of t.now) × (c.1 ≡ md5_count t.now)) }
