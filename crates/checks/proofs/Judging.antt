@@ -11,7 +11,7 @@ use lib.Seq.{take_at}
 use lib.Dec.{eqb}
 use borrow.Author.Tests.{eqb-true, not-false}
 use Rattle.std.specs.Prelude.{Some, Result, Ok, Err}
-use Rattle.core.specs.Result.{result_and, IsErr, IsErrAnd}
+use Rattle.std.specs.Result.{result_and, IsErr, IsErrAnd}
 use Rattle.wire.specs.Header.{source_port_of, destination_port_of, sequence, header_of_lem}
 use Rattle.wire.specs.declared.header.Header.{Header}
 use Rattle.keys.specs.Entry.{width}

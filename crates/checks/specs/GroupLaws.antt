@@ -1,6 +1,6 @@
 -- Groups of tests one behind another: what a call gives that asks them one by one. Assumes nothing.
 use Rattle.std.specs.Prelude.{ℕ, ◌≡◌, refl, Bool, true, false, cond, List, [], ◌∷◌, Result, Ok, Err}
-use Rattle.core.specs.Result.{result_and}
+use Rattle.std.specs.Result.{result_and}
 use Rattle.std.proofs.Common.{sym, ap, ◌∙◌, arith}
 use Rattle.tables.specs.Tables.{Admitted}
 use Rattle.rules.specs.declared.Outcome.{Outcome}

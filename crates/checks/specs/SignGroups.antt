@@ -2,7 +2,7 @@
 -- segment and the output. Joined in this order they are `sign_tests` of the crate `rules` (SignLaws). A reader need not believe these: the
 -- calls cite the crate `rules` alone.
 use Rattle.std.specs.Prelude.{ℕ, ◌+◌, Bool, cond, not, ◌&&◌, List, [], ◌∷◌, ◌++◌, ltb, eqb, Result, Ok, Option}
-use Rattle.core.specs.Result.{result_and}
+use Rattle.std.specs.Result.{result_and}
 use Rattle.wire.specs.Options.{is_malformed, ao_in, md5_in}
 use Rattle.wire.specs.declared.options.Seen.{Seen}
 use Rattle.wire.specs.declared.header.Header.{Header}

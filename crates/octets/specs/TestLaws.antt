@@ -1,7 +1,7 @@
 -- Laws of `first` and `checked`: which tests failed where an outcome was given, and what holds of every outcome.
 -- Assumes nothing.
 use Rattle.std.specs.Prelude.{ℕ, ◌≡◌, refl, Bool, true, false, cond, ◌&&◌, List, [], ◌∷◌, ◌++◌, Result, Ok, Err}
-use Rattle.core.specs.Result.{result_and}
+use Rattle.std.specs.Result.{result_and}
 use Rattle.std.proofs.Common.{ap, sym, ◌∙◌, arith}
 use Rattle.octets.specs.Tests.{any, Test, tests, joined, first, checked}
 

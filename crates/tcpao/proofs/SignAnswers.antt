@@ -18,7 +18,7 @@ use Rattle.tables.specs.Tables.{Admitted, Tables, tables_of, send_entry, md5_ent
 use Rattle.tables.proofs.ValidLaws.{taken-held}
 use Rattle.tables.proofs.SearchLaws.{send-proper, send-nobody}
 use Rattle.std.specs.Prelude.{Result, Ok, Err}
-use Rattle.core.specs.Result.{result_and}
+use Rattle.std.specs.Result.{result_and}
 use Rattle.rules.specs.declared.Outcome.{Outcome}
 use Rattle.rules.specs.declared.Outcome.TheVariants.{Good, Passed, Bad}
 use Rattle.rules.specs.declared.State.{State}

@@ -1,7 +1,7 @@
 -- From seam to seam: the laws of Judging.
 use Rattle.std.proofs.Common.{◌≡◌, ℕ, List, Ok, Err, refl, sym, ap, ◌∙◌, Bool, cond, ◌||◌, Some, false, true}
 use mathlib.Core.Path.{subst}
-use Rattle.core.specs.Result.{result_and}
+use Rattle.std.specs.Result.{result_and}
 use Rattle.octets.specs.Tests.{checked}
 use Rattle.rules.specs.declared.Outcome.{Outcome}
 use Rattle.rules.specs.Connection.{Arrival}
