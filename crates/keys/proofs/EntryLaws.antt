@@ -109,18 +109,6 @@ module _ (t : List ℕ) (at : ℕ) where
       let l = length-drop at t in
       omega arith
 
-  pub entries_next : sound (item_at t at) ≡ true → entries (drop at t) ≡ (item_at t at).entry ∷ entries (drop (at + size (get_or t at 0)) t)
-  unfolding entries_of
-  entries_next h = let i = sound-inside h in rw (items_at (omega arith), h)
-
-  pub entries-stop : sound (item_at t at) ≡ false → entries (drop at t) ≡ []
-  unfolding entries_of
-  entries-stop h = go (leb (length t) at) refl
-    where
-      go : (b : Bool) → leb (length t) at ≡ b → entries (drop at t) ≡ []
-      go true e = ap entries_of (items-end (leb-true (length t) at e))
-      go false e = rw (items_at (leb-false (length t) at e), h)
-
 -- bytes
 
 pub take-octets : (n : ℕ) (s : List ℕ) → Octets s → Octets (take n s)

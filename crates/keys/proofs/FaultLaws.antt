@@ -5,7 +5,7 @@ use Rattle.std.proofs.lemmas.Bool.{not-false}
 use Rattle.octets.specs.Tests.{Test, test, first, checked}
 use Rattle.octets.specs.TestLaws.{NoneApplies, each_gives, first-none, first-append, first_past, first_passes, none-applied, none-split}
 use Rattle.keys.specs.Entry.{Item, sound}
-use Rattle.keys.specs.Table.{number_of, clashing, kind_listed_of, listed_tests, entry_tests, own_tests, item_tests}
+use Rattle.keys.specs.Table.{number_of, clashing, kind_listed_of, own_tests, item_tests}
 use Rattle.keys.specs.Clash.{Passed}
 use Rattle.keys.proofs.MatchLaws.{and-true}
 use Rattle.keys.specs.declared.table.TableKind.{TableKind}
@@ -91,14 +91,6 @@ unfolding number_of
 given-last n b l p = number_past l (test n b ∷ []) p
 
 -- the tests of either kind of table
-
-pub listed-lacks : (kind : TableKind) (e : Entry) → lacks 0 (listed_tests kind e) ≡ true
-listed-lacks Keys e = refl
-listed-lacks Md5 e = refl
-
-pub entry-lacks : (kind : TableKind) (e : Entry) → lacks 0 (entry_tests kind e) ≡ true
-entry-lacks Keys e = refl
-entry-lacks Md5 e = refl
 
 pub item-lacks : (kind : TableKind) (before : List Entry) (x : Item) → lacks 0 (item_tests kind before x) ≡ true
 item-lacks Keys before x = refl

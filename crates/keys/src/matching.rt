@@ -59,8 +59,8 @@ fn addresses_meet(e: &[u8], family: u8, at: usize, b: Side) -> bool
 pub(crate) fn overlaps(entry: &EntryBytes<'_>, b: Selector) -> bool
     ensures { result ≡ overlap entry.now.selector b }
 {
-    let family = entry.family();
-    if family != b.family {
+    let (family, other) = (entry.family(), b.family);
+    if family != other {
         return false;
     }
     let e = entry.bytes;

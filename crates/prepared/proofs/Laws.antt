@@ -1,26 +1,15 @@
 -- Laws that the proofs of clean.rt share: addresses whose bits are cleared, and keys that are padded.
-use Prim.Native.Nat.{ℕ, zero, suc, ◌+◌, ◌*◌, ◌-◌, ◌/◌, ◌%◌, ◌^◌, ◌≤◌, ◌<◌, min}
+use Prim.Native.Nat.{ℕ, zero, suc, ◌+◌, ◌*◌, ◌-◌, ◌<◌, min}
 use mathlib.Core.Path.{◌≡◌, sym, ap, ◌∙◌}
 use mathlib.Core.List.{List, [], ◌∷◌, ◌++◌}
 use native.Mathlib.Omega.{arith}
 use native.Mathlib.Numerals.{add-one}
-use native.Mathlib.Nat.{sub-zero, zero-add, div-mul-le_self, mod-eq_of_lt}
-use lib.ListN.{length, get_or, take, drop, set, replicate, length-take}
+use native.Mathlib.Nat.{sub-zero, zero-add}
+use lib.ListN.{length, get_or, take, drop, set, replicate}
 use lib.Seq.{paste, take-length, take_all, take-suc, take-suc-set}
 use Rattle.keys.specs.declared.entry.Side.{Side}
-use Rattle.prepared.specs.Prepared.{kept, clear, cut, clean_family, clean_side, clean_selector, raw_local, raw_remote, raw_selector}
+use Rattle.prepared.specs.Prepared.{kept, clear, clean_family, clean_side, clean_selector, raw_local, raw_remote, raw_selector}
 use Rattle.prepared.specs.ClearLaws.{clear-length, clear_at}
-
--- a byte whose lowest k bits are cleared
-
-keep-small : (x k : ℕ) → x < 256 → x / 2 ^ k * 2 ^ k < 256
-keep-small x k h = let a = div-mul-le_self x (2 ^ k) in omega arith
-
-pub keep_same : (x k : ℕ) → x < 256 → x / 2 ^ k * 2 ^ k % 2 ^ 64 ≡ x / 2 ^ k * 2 ^ k
-keep_same x k h = let a = keep-small x k h in mod-eq_of_lt (omega arith)
-
-pub keep-fits : (x k : ℕ) → x < 256 → x / 2 ^ k * 2 ^ k % 2 ^ 64 < 256
-keep-fits x k h = let a = keep-small x k h in let b = keep_same x k h in omega arith
 
 -- an address, byte by byte
 
@@ -55,13 +44,6 @@ laid m s x e = e ∙ (λ i. take-length s i ++ dropped i)
   where
     dropped : drop (0 + length s) (blank m) ≡ blank (m - length s)
     dropped = ap (λ (k : ℕ). drop k (blank m)) (zero-add (length s)) ∙ drop-zeros (length s) m
-
-pub laid-cut : (n : ℕ) (k x : List ℕ) → length k ≡ 80 → n ≤ 80
-    → x ≡ paste (blank 80) 0 (take n k) (length (take n k)) → x ≡ cut n k
-laid-cut n k x l h e =
-    let t = length-take n k in
-    let z : length (take n k) ≡ n = omega arith in
-    laid 80 (take n k) x e ∙ ap (λ (m : ℕ). take n k ++ blank (80 - m)) z
 
 -- a selector from its parts
 

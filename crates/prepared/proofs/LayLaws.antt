@@ -1,6 +1,5 @@
 -- Laws for writing: parts put one behind the other, and the walk over a table's entries that puts a part of each.
 use Prim.Native.Nat.{ℕ, suc, ◌+◌, ◌*◌, ◌≤◌}
-use mathlib.Core.Bool.{true}
 use mathlib.Core.Path.{◌≡◌, refl, sym, ap, ◌∙◌, subst}
 use mathlib.Core.List.{List, [], ◌∷◌, ◌++◌, append_assoc, append-nil}
 use native.Mathlib.Omega.{arith}
@@ -123,11 +122,6 @@ unfolding joined
 putting-start f k t o at l e = record { passed = []; all = e; same = refl; done = (paste-zero o at [], omega arith, omega arith) }
 
 module _ {f : Entry → List ℕ} {k : ℕ} {t o : List ℕ} {at to : ℕ} {rest : List Entry} {out : List ℕ} (w : Putting f k t o at to rest out) where
-  pub putting-over : rest ≡ [] → Put f k (entries t) o at to out
-  putting-over e =
-      let p : w.passed ≡ entries t = sym (append-nil w.passed) ∙ ap (λ (l : List Entry). w.passed ++ l) (sym e) ∙ w.all in
-      subst (λ (l : List Entry). Put f k l o at to out) p w.done
-
   module _ (e : Entry) (r : List Entry) (n : rest ≡ e ∷ r) where
     next : w.passed ++ (e ∷ r) ≡ entries t
     next = ap (λ (l : List Entry). w.passed ++ l) (sym n) ∙ w.all

@@ -1,23 +1,16 @@
 -- Laws that the proofs of mark.rt share, and those of stored.rt that put a front together or look at a block of the columns.
-use Prim.Native.Nat.{ℕ, zero, suc, ◌+◌, ◌*◌, ◌-◌, ◌%◌, ◌≤◌, ◌<◌}
-use mathlib.Core.Bool.{Bool, true, false, cond, not, ◌&&◌, ◌||◌}
+use Prim.Native.Nat.{ℕ, suc, ◌+◌, ◌*◌, ◌-◌, ◌%◌, ◌≤◌, ◌<◌}
+use mathlib.Core.Bool.{Bool, true, false, cond}
 use mathlib.Core.Path.{◌≡◌, refl, sym, ap, ◌∙◌}
 use mathlib.Core.List.{List, [], ◌∷◌, ◌++◌, append_assoc, append-nil}
-use mathlib.Core.Logic.{⊎_elim}
 use native.Mathlib.Omega.{arith}
-use native.Mathlib.Nat.{eq-or-lt_of_le, add-sub_cancel_left}
 use lib.Dec.{eqb}
 use lib.ListN.{length, get_or, take, drop, set, replicate, length-append, length-take, length-drop}
-use lib.Seq.{paste, set_at, take_at, take-nil, take-length, take-take, drop-drop, drop-append-add, get_or-take, get_or-drop}
+use lib.Seq.{paste, set_at, take_at, take-length, drop-append-add}
 use Rattle.std.specs.List.{fold}
 use Rattle.octets.specs.Octets.{padded_of}
 use Rattle.keys.specs.Entry.{width}
-use Rattle.keys.specs.Match.{matches}
-use Rattle.keys.specs.declared.entry.Entry.{Entry}
-use Rattle.keys.specs.declared.entry.Pair.{Pair}
-use Rattle.keys.specs.declared.entry.Selector.{Selector}
-use Rattle.keys.specs.declared.table.TableKind.{TableKind}
-use Rattle.prepared.specs.Prepared.{octet_sum_of, address_of, stored_address_of, clean_family, clean_selector, raw_selector, stored_entry}
+use Rattle.prepared.specs.Prepared.{octet_sum_of, address_of, stored_address_of, clean_family}
 use Rattle.prepared.specs.Prepared.{front_at_lem, slot_at}
 use Rattle.prepared.proofs.Laws.{drop-zeros, laid}
 
@@ -65,26 +58,6 @@ module _ (f w : ℕ) (we : w ≡ width f) (a x : List ℕ) where
 
 -- a front put together
 
-drop-take : (m n : ℕ) (l : List ℕ) → drop m (take n l) ≡ take (n - m) (drop m l)
-drop-take zero n l = ap (λ (k : ℕ). take k l) (let e : n ≡ n - 0 = omega arith in e)
-drop-take (suc m) n [] = ap (drop (suc m)) (take-nil n) ∙ sym (take-nil (n - suc m))
-drop-take (suc m) zero (x ∷ l) = ap (λ (k : ℕ). take k (drop m l)) (let e : 0 ≡ 0 - suc m = omega arith in e)
-drop-take (suc m) (suc n) (x ∷ l) = drop-take m n l ∙ ap (λ (k : ℕ). take k (drop m l)) (let e : n - m ≡ suc n - suc m = omega arith in e)
-
--- the bytes from j to e of the 24 at `at`, as the code cuts them
-cut-is : (t : List ℕ) (at j e : ℕ) → j ≤ e → e ≤ 24
-    → take (at + e - (at + j)) (drop (at + j) t) ≡ take (e - j) (drop j (take 24 (drop at t)))
-cut-is t at j e h k =
-    let z : at + e - (at + j) ≡ e - j = omega arith in
-    let y : e - j ≤ 24 - j = omega arith in
-    (λ i. take (z i) (sym (drop-drop j at t) i))
-    ∙ sym (ap (take (e - j)) (drop-take j 24 (drop at t)) ∙ take-take (e - j) (24 - j) (drop j (drop at t)) y)
-
-byte-is : (t : List ℕ) (at : ℕ) → get_or t at 0 ≡ get_or (take 24 (drop at t)) 0 0
-byte-is t at =
-    let e : at + 0 ≡ at = omega arith in
-    sym (get_or-take 24 (drop at t) 0 0 (omega arith) ∙ get_or-drop at t 0 0 ∙ ap (λ (k : ℕ). get_or t k 0) e)
-
 -- s laid behind p, in front of m zeros
 laid_on : (p s x y : List ℕ) (m at : ℕ) → length p ≡ at → x ≡ p ++ replicate m 0 → y ≡ paste x at s (length s)
     → y ≡ (p ++ s) ++ replicate (m - length s) 0
@@ -126,15 +99,3 @@ module _ (t : List ℕ) (n i : ℕ) (s : List ℕ) (se : s ≡ slot_at t n i) (l
 
 abbrev pub NoneBefore : (ℕ → Bool) → Bool → ℕ → Type 0
 NoneBefore test d i = d ≡ false → (j : ℕ) → j < i → test j ≡ false
-
-or-none : (d x : Bool) → (d || x) ≡ false → (d ≡ false) × (x ≡ false)
-or-none true x e = let z : ◌≡◌ {A = ℕ} 0 1 = cc in absurd (omega arith)
-or-none false x e = (refl, e)
-
-pub none-next : (test : ℕ → Bool) (d x : Bool) (i : ℕ) → x ≡ test i → NoneBefore test d i → NoneBefore test (d || x) (i + 1)
-none-next test d x i e w z j h =
-    let o = or-none d x z in
-    ⊎_elim
-    (λ (k : j ≡ i). ap test k ∙ sym e ∙ o.1)
-    (λ (k : j < i). w o.0 j k)
-    (eq-or-lt_of_le (let y : j ≤ i = omega arith in y))

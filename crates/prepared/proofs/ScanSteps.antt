@@ -1,16 +1,14 @@
 -- What the functions over a prepared table have done so far: tests one after another, the turns of a scan and of a search, the counts.
-use Prim.Native.Nat.{ℕ, zero, suc, ◌+◌, ◌*◌, ◌-◌, ◌/◌, ◌%◌, ◌^◌, ◌≤◌, ◌<◌, max, min}
-use mathlib.Core.Bool.{Bool, true, false, cond, ◌&&◌}
+use Prim.Native.Nat.{ℕ, zero, suc, ◌+◌, ◌*◌, ◌-◌, ◌≤◌, ◌<◌}
+use mathlib.Core.Bool.{Bool, true, false, ◌&&◌}
 use mathlib.Core.Path.{◌≡◌, refl, sym, ap, ◌∙◌}
 use mathlib.Core.List.{List}
 use native.Mathlib.Omega.{arith}
-use native.Mathlib.Nat.{add-sub_cancel_left, div-eq_of_lt}
 use lib.ListN.{length, get_or, take, drop}
 use lib.Seq.{get_or-take, get_or-drop}
 use lib.Dec.{leb, eqb}
-use borrow.Author.Tests.{eq-eqb, ne_eqb, eqb-true, lt-leb, le-leb, leb-true, leb-false, lt-ltb, le-ltb}
+use borrow.Author.Tests.{eq-eqb, ne_eqb, eqb-true, lt-leb, le-leb, leb-true, leb-false}
 use Rattle.octets.specs.Each.{Octets}
-use Rattle.keys.specs.Entry.{width}
 use Rattle.keys.proofs.EntryLaws.{width-le}
 use Rattle.keys.specs.Match.{fixed, matches}
 use Rattle.keys.proofs.MatchLaws.{and-true}
@@ -20,12 +18,11 @@ use Rattle.keys.specs.declared.entry.Pair.{Pair}
 use Rattle.keys.specs.declared.table.TableKind.{TableKind}
 use Rattle.keys.specs.declared.table.TableKind.TheVariants.{Keys, Md5}
 use Rattle.keys.specs.declared.table.By.{By}
-use Rattle.keys.specs.declared.table.By.TheVariants.{Any, Send, Recv}
 use Rattle.keys.specs.Table.{Found}
-use Rattle.prepared.specs.Prepared.{key_count_of, md5_count, total, prepared_bytes, fits, clean_family, clean_selector, front_ids, raw_selector, mark_of}
-use Rattle.prepared.specs.Prepared.{bits_at, mark_at, slot_at, front_at_lem, back_at, stored_at, stored_from, key_part, md5_part}
-use Rattle.prepared.specs.Scan.{get64, top, near_bits, near_front_of, last_byte_of, near_last_of, near_rest, near_back_of, local_bits}
-use Rattle.prepared.specs.Scan.{near_local_of, alike, port_in_lem, possible, nearby, close, id_at, candidate}
+use Rattle.prepared.specs.Prepared.{key_count_of, md5_count, total, prepared_bytes, fits, clean_family, clean_selector, front_ids, raw_selector}
+use Rattle.prepared.specs.Prepared.{bits_at, mark_at, front_at_lem, back_at, stored_at, stored_from, key_part, md5_part}
+use Rattle.prepared.specs.Scan.{get64, top, local_bits}
+use Rattle.prepared.specs.Scan.{near_local_of, possible, nearby, close, id_at, candidate}
 use Rattle.prepared.specs.Scan.{NoneClose, NoneNamed, NoneIn, candidate_of, wanted_of, hit, First, Asks}
 use Rattle.prepared.specs.declared.stored.Wanted.{Wanted}
 use Rattle.prepared.specs.ScanLaws.{both_true, front-id, no-candidate, found-nobody, found_first}
@@ -41,72 +38,6 @@ and_yes a b r q e h g = rw (sym e ∙ h) g
 and-false : (a : Bool) → false ≡ (a && false)
 and-false true = refl
 and-false false = refl
-
--- a slot, as the code cuts it, and its first bits
-
-pub part-is : (t : List ℕ) (f n : ℕ) → take (f + n - f) (drop f t) ≡ take n (drop f t)
-part-is t f n = ap (λ (k : ℕ). take k (drop f t)) (add-sub_cancel_left f n)
-
--- the first bits of two numbers
-
-pub top-none : (n x y : ℕ) → x < 2 ^ 64 → y < 2 ^ 64 → n ≡ 0 → true ≡ top n x y
-top-none n x y hx hy e =
-    let v : 64 - n ≡ 64 = omega arith in
-    let a : x / 2 ^ (64 - n) ≡ 0 = ap (λ (k : ℕ). x / 2 ^ k) v ∙ div-eq_of_lt hx in
-    let b : y / 2 ^ (64 - n) ≡ 0 = ap (λ (k : ℕ). y / 2 ^ k) v ∙ div-eq_of_lt hy in
-    sym (eq-eqb _ _ (a ∙ sym b))
-
-module _ (s : List ℕ) (bits high m n : ℕ) (me : m ≡ cond (eqb (get_or s 0 0) 4) 24 64) (ne : n ≡ min bits m) where
-  near-bits : n ≡ near_bits s bits
-  near-bits = ne ∙ ap (λ (k : ℕ). min bits k) me
-
-  pub near-top : (x : ℕ) → x ≡ get64 s 1 → (r : Bool) → r ≡ top n x high → r ≡ near_front_of s bits high
-  unfolding near_front_of
-  near-top x e r q = q ∙ (λ i. top (near-bits i) (e i) high)
-
-  pub near-few : n ≤ 64
-  near-few = go (eqb (get_or s 0 0) 4) refl
-    where
-      go : (b : Bool) → eqb (get_or s 0 0) 4 ≡ b → n ≤ 64
-      go true e = let q : m ≡ 24 = me ∙ ap (λ (c : Bool). cond c 24 64) e in omega arith
-      go false e = let q : m ≡ 64 = me ∙ ap (λ (c : Bool). cond c 24 64) e in omega arith
-
--- the last byte of IPv4, the other bytes of IPv6
-
-pub last-is : (m a b c : ℕ) → (m + 256 - (a + b + c) % 256) % 256 ≡ last_byte_of m a b c
-last-is m a b c =
-    let e : a + b + c ≡ a + (b + (c + 0)) = omega arith in
-    ap (λ (k : ℕ). k % 256) (less m ((a + b + c) % 256) (omega arith)) ∙ ap (λ (k : ℕ). (m + (256 - k % 256)) % 256) e
-  where
-    less : (m s : ℕ) → s < 256 → m + 256 - s ≡ m + (256 - s)
-    less m s h = omega arith
-
-pub last-short : (x y bits : ℕ) → bits ≤ 24 → true ≡ near_last_of x y bits
-unfolding near_last_of
-last-short x y bits h = rw (le-leb bits 24 h)
-
-pub last-long : (x y bits n : ℕ) → 24 < bits → n ≡ min bits 32 → eqb (x / 2 ^ (32 - n)) (y / 2 ^ (32 - n)) ≡ near_last_of x y bits
-unfolding near_last_of
-last-long x y bits n h e = rw (lt-leb bits 24 h) (λ i. eqb (x / 2 ^ (32 - e i)) (y / 2 ^ (32 - e i)))
-
-pub rest-short : (s : List ℕ) (bits low : ℕ) → bits ≤ 64 → true ≡ near_rest s bits low
-unfolding near_rest
-rest-short s bits low h = rw (le-leb bits 64 h)
-
-pub rest-long : (s : List ℕ) (bits low n x : ℕ) (r : Bool) → 64 < bits → n ≡ min bits 120 → x ≡ get64 s 8 → r ≡ top (n - 56) x low
-    → r ≡ near_rest s bits low
-unfolding near_rest
-rest-long s bits low n x r h e q z = rw (lt-leb bits 64 h) (z ∙ (λ i. top (e i - 56) (q i) low))
-
-module _ (s : List ℕ) (bits mark high low : ℕ) (r : Bool) where
-  pub back-four : get_or s 0 0 ≡ 4 → (x y : ℕ) → x ≡ last_byte_of mark (get_or s 1 0) (get_or s 2 0) (get_or s 3 0) → y ≡ high / 2 ^ 32 % 256
-      → r ≡ near_last_of x y bits → r ≡ near_back_of s bits mark high low
-  unfolding near_back_of
-  back-four e x y xe ye q = rw (eq-eqb (get_or s 0 0) 4 e) (q ∙ (λ i. near_last_of (xe i) (ye i) bits))
-
-  pub back-other : (get_or s 0 0 ≡ 4 → ⊥) → r ≡ near_rest s bits low → r ≡ near_back_of s bits mark high low
-  unfolding near_back_of
-  back-other f q = rw (ne_eqb (get_or s 0 0) 4 f) q
 
 -- the local address
 
@@ -186,9 +117,6 @@ pub record Passed (test : ℕ → Bool) (i end r : ℕ) : Type 0 where
   pub few : r ≤ end
   pub none : (j : ℕ) → i ≤ j → j < r → test j ≡ false
 
-pub pass-start : (test : ℕ → Bool) (i end : ℕ) → i ≤ end → Passed test i end i
-pass-start test i end h = record { from = omega arith; few = h; none = λ j l m. absurd (omega arith) }
-
 -- none before r and none from r on and before q
 joined : (test : ℕ → Bool) (i r q : ℕ) → ((j : ℕ) → i ≤ j → j < r → test j ≡ false) → ((j : ℕ) → r ≤ j → j < q → test j ≡ false)
     → (j : ℕ) → i ≤ j → j < q → test j ≡ false
@@ -197,43 +125,6 @@ joined test i r q f g j l h = go (leb r j) refl
     go : (b : Bool) → leb r j ≡ b → test j ≡ false
     go true e = g j (leb-true r j e) h
     go false e = f j l (leb-false r j e)
-
-module _ {test : ℕ → Bool} {i end r : ℕ} (w : Passed test i end r) where
-  module _ (h : r < end) (b : Bool) (e : b ≡ test r) where
-    pub pass-next : b ≡ false → Passed test i end (r + 1)
-    pass-next q =
-        let a = w.from in
-        record {
-          from = omega arith;
-          few = omega arith;
-          none = joined test i r (r + 1) w.none
-              (λ j l m. ap test (let z : j ≡ r = omega arith in z) ∙ sym e ∙ q);
-        }
-
-    pub pass-here : b ≡ true → First test i end r
-    pass-here q = record { from = w.from; few = w.few; none = w.none; there = λ l. sym e ∙ q }
-
-  pub pass-over : end ≤ r → First test i end r
-  pass-over h = record { from = w.from; few = w.few; none = w.none; there = λ l. absurd (omega arith) }
-
-  -- a block that was scanned
-  module _ (h : r + 32 ≤ end) (q : ℕ) (s : First test r (r + 32) q) where
-    pub pass-block : r + 32 ≤ q → Passed test i end (r + 32)
-    pass-block l =
-        let a = w.from in
-        record { from = omega arith; few = h; none = joined test i r (r + 32) w.none (λ j x m. s.none j x (omega arith)) }
-
-    pub pass-found : q < r + 32 → First test i end q
-    pass-found l =
-        let a = w.from in
-        let b = s.from in
-        record { from = omega arith; few = omega arith; none = joined test i r q w.none s.none; there = λ x. s.there l }
-
-  pub pass-rest : (q : ℕ) → First test r end q → First test i end q
-  pass-rest q s =
-      let a = w.from in
-      let b = s.from in
-      record { from = omega arith; few = s.few; none = joined test i r q w.none s.none; there = s.there }
 
 -- where a scan found nothing it has passed all, and where it found an entry none is before it
 
@@ -278,10 +169,6 @@ module _ (t : List ℕ) (n : ℕ) (by : By) (p : Pair) (octets : Octets t) (room
             few = omega arith;
             none = joined (hit by p t n) first r (r + 1) passed (λ j x y. ap (hit by p t n) (let z : j ≡ r = omega arith in z) ∙ miss q);
           }
-
--- a limit is a byte
-pub limit-fits : (g w : ℕ) → w ≡ width g → 8 * w < 256
-limit-fits g w e = let h = width-le g in omega arith
 
 -- the counts and the length
 
@@ -356,14 +243,7 @@ module _ (t : List ℕ) (b : Bool) (be : b ≡ fits t) where
   unfolding md5_part found
   md5-none h test r e = rw (sym be ∙ h) e
 
-  -- there are two counts
-  pub counted : b ≡ true → 4 ≤ length t
-  counted h = let l = fits-length t (sym be ∙ h) in omega arith
-
   module _ (h : b ≡ true) (n m : ℕ) (ne : n ≡ key_count_of t) (me : m ≡ md5_count t) where
-    pub few-entries : n + m ≤ 2048
-    few-entries = let k = fits-counts t (sym be ∙ h) in omega (arith, k.0, k.1)
-
     pub key-room : (prepared_bytes (n + m) ≤ length t) × (0 + n ≤ n + m) × Unit {0}
     key-room = let l = fits-length t (sym be ∙ h) in (omega arith, omega arith, tt)
 

@@ -9,6 +9,7 @@ use crate::mark::{mark_of, stored_address};
 use keys::entry::Entry;
 use keys::table::Entries;
 
+// Kept (no plainer): six closures in place of this enum would each repeat the contract that `put_part` has once.
 // The parts that an entry is stored in: a byte in each of four columns, a slot, a back.
 #[derive(Clone, Copy)]
 enum Part {

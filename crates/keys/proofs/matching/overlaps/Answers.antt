@@ -13,9 +13,9 @@ family-is : (f : ℕ) (x : Entry) (e : List ℕ) → f ≡ x.selector.family →
 unfolding entry_of selector_of_lem
 family-is f x e q v = q ∙ sym (ap (λ (y : Entry). y.selector.family) v)
 
-pub returns-then-family-b : goal.returns-then-family-b
+pub returns-then-family-other : goal.returns-then-family-other
 unfolding overlap
-returns-then-family-b c = rw (ne_eqb _ _ (λ z. c.if-family-b.true (c.family-family.ensures ∙ z)))
+returns-then-family-other c = rw (ne_eqb _ _ (λ z. c.if-family-other.true (c.family-family.ensures ∙ z)))
 
 pub ports_meet-requires : goal.ports_meet-requires
 ports_meet-requires c = omega (arith, room (get_or c.entry.inside.bytes.now 0 0) _ c.entry.invariant.1)
@@ -53,7 +53,7 @@ returns-then-addresses_meet c =
       | else-ports_meet-2 w ↦ and_no (P && Q) A _ _ ports w.if-ports_meet-2.false w.value-is
     ] in
     and_yes ((P && Q) && A) _ _ _ first c.if-addresses_meet.true c.addresses_meet-then-addresses_meet.ensures
-    ∙ overlap-is e b f (family-is _ _ e c.family-family.ensures c.entry.view_is) c.if-family-b.false
+    ∙ overlap-is e b f (family-is _ _ e c.family-family.ensures c.entry.view_is) c.if-family-other.false
     ∙ ap (λ (x : Entry). overlap x.selector b) c.entry.view_is
 
 pub returns-else-addresses_meet : goal.returns-else-addresses_meet
@@ -74,5 +74,5 @@ returns-else-addresses_meet c =
       | else-ports_meet-2 w ↦ and_no (P && Q) A _ _ ports w.if-ports_meet-2.false w.value-is
     ] in
     and_no ((P && Q) && A) (addresses_meet_of e f 13 b.local) _ _ first c.if-addresses_meet.false refl
-    ∙ overlap-is e b f (family-is _ _ e c.family-family.ensures c.entry.view_is) c.if-family-b.false
+    ∙ overlap-is e b f (family-is _ _ e c.family-family.ensures c.entry.view_is) c.if-family-other.false
     ∙ ap (λ (x : Entry). overlap x.selector b) c.entry.view_is

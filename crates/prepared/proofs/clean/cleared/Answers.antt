@@ -1,4 +1,4 @@
-use Rattle.std.proofs.Common.{arith, length}
+use Rattle.std.proofs.Common.{arith}
 use lib.ListN.{length-set}
 use Rattle.prepared.proofs.Laws.{clear_next, clear_whole}
 use Rattle.prepared.proofs.clean.cleared.Goals as goal

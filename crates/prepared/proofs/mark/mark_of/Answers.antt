@@ -1,6 +1,5 @@
-use Rattle.std.proofs.Common.{rules, ◌≡◌, ap, ◌∙◌, ◌%◌, arith, length, take, length-take}
+use Rattle.std.proofs.Common.{rules, ◌≡◌, arith, length, length-take}
 use Rattle.keys.proofs.EntryLaws.{width-le}
-use Rattle.prepared.specs.Prepared.{octet_sum_of}
 use Rattle.prepared.proofs.mark.mark_of.Goals as goal
 
 pub slice_bounds-a-end : goal.slice_bounds-a-end

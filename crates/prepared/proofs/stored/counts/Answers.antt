@@ -1,6 +1,5 @@
 -- The counts and the length.
-use Rattle.std.proofs.Common.{◌≡◌, sym, ◌∙◌, ne_eqb, eq-eqb, arith, false}
-use Rattle.prepared.specs.Prepared.{fits}
+use Rattle.std.proofs.Common.{sym, ◌∙◌, ne_eqb, eq-eqb}
 use Rattle.prepared.proofs.ScanSteps.{fits-short, fits-keys, fits-md5s, fits_by}
 use Rattle.prepared.proofs.stored.counts.Goals.{then-n-gt-MAX_ENTRIES-via-then-n-gt-MAX_ENTRIES, then-n-gt-MAX_ENTRIES-via-else-n-gt-MAX_ENTRIES+then-m-gt-MAX_ENTRIES, then-n-gt-MAX_ENTRIES-via-else-n-gt-MAX_ENTRIES+else-m-gt-MAX_ENTRIES+then-t-n}
 use Rattle.prepared.proofs.stored.counts.Goals as goal

@@ -1,5 +1,5 @@
 -- A table that does not fit has no entries.
-use Rattle.std.proofs.Common.{rules, ℕ, refl, sym, true, false, get_or}
+use Rattle.std.proofs.Common.{rules, refl, sym, true, false, get_or}
 use mir.Syntax.{w8}
 use mir.Val.{Fits}
 use Rattle.keys.specs.Table.{nobody, answers}

@@ -1,5 +1,5 @@
 -- From one candidate to the next there is no hit.
-use Rattle.std.proofs.Common.{rules, ℕ, ◌≡◌, ◌<◌, refl, length, get_or}
+use Rattle.std.proofs.Common.{rules, ◌≡◌, refl, length, get_or}
 use mir.Syntax.{w8}
 use mir.Val.{Fits}
 use Rattle.octets.specs.Each.{Octets}

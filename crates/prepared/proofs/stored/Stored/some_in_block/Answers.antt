@@ -1,4 +1,4 @@
-use Rattle.std.proofs.Common.{◌+◌, refl, ap}
+use Rattle.std.proofs.Common.{◌+◌, ap}
 use Rattle.keys.specs.declared.table.By.{By}
 use Rattle.prepared.specs.Scan.{id_at}
 use Rattle.prepared.proofs.ScanSteps.{none-close, none_named}
