@@ -1,7 +1,7 @@
 // Which number an active opening or the operator's call gives: document 01, "Numbers given back", 10 to 18 and 35; an active
 // opening tests 19 before (`tcpao::open`). Assumes nothing.
 ghost use Rattle.std.specs.Prelude.{◌≡◌, not, [], ◌∷◌, ◌++◌, Ok};
-ghost use Rattle.core.specs.Result.{result_and};
+ghost use Rattle.std.specs.Result.{result_and};
 ghost use Rattle.octets.specs.Tests.{test, checked};
 ghost use Rattle.keys.specs.Table.{found_of};
 ghost use Rattle.rules.specs.Calls.{refuse as refuse_of, table_tests, ask_tests};

@@ -1,6 +1,6 @@
 // A segment that came whole: behind 20, or 30 when signing. Its header is read once, here; who has one knows its size, and need not ask.
 ghost use Rattle.std.specs.Prelude.{◌≡◌, ◌≤◌, ◌-◌, Ok, length, take, drop};
-ghost use Rattle.core.specs.Result.{result_and};
+ghost use Rattle.std.specs.Result.{result_and};
 ghost use Rattle.octets.specs.Tests.{checked};
 ghost use Rattle.wire.specs.Header.{header_end_of, header_of_lem};
 ghost use Rattle.rules.specs.Segment.{ao as ao_of, md5 as md5_of, key_id_of, rnext_key_id as rnext_key_id_of, mac_in, digest_in};

@@ -2,7 +2,7 @@
 // function for each group of the crate `rules`: the first of its tests that applies is the error. Behind 30 the header is read once, and
 // the tests take what was read. Assumes nothing.
 ghost use Rattle.std.specs.Prelude.{◌+◌, ◌≡◌, [], ◌∷◌, ◌++◌, ltb, cond, Ok};
-ghost use Rattle.core.specs.Result.{result_and};
+ghost use Rattle.std.specs.Result.{result_and};
 ghost use Rattle.octets.specs.Tests.{tests, checked};
 ghost use Rattle.keys.specs.Table.{found_of};
 ghost use Rattle.rules.specs.Segment.{option_bytes, md5_option_bytes};
