@@ -8,25 +8,17 @@ use recording::line::{Line, text_of};
 use std::env::FillError;
 use std::fmt::Write;
 use std::io::{Eprint, ErrorKind, Input, Print, Read};
+use std::ops::ControlFlow;
 use std::rt::{Env, Files};
 use std::{fmt, fs, io};
 
-// A desk, and whether there is more to read.
-#[derive(Clone, Copy)]
-struct Reading {
-    desk: Desk,
-    more: bool,
-}
-
 // A write that fails is passed over, here and below.
 fn print(rt: &impl Print, line: Line) {
-    let text = text_of(line);
-    let bytes = text.bytes;
-    let n = text.length;
-    let _ = rt.write_all(&bytes[..n]);
+    let _ = rt.write_all(text_of(line).as_bytes());
 }
 
 // Room for the system's words of an error, which are fewer than 256 bytes, and its number behind them. What is past it is left out.
+// Kept (no plainer): a String can fail for want of memory, and then the error would have no words.
 #[derive(Drop)]
 struct Words {
     bytes: [u8; 320],
@@ -63,27 +55,25 @@ fn fail(rt: &impl Eprint, what: &str, error: &io::Error) {
 // One call of `advance` for a record, and its line.
 fn piece(rt: &impl Print, desk: Desk, table: &mut [u8], bytes: &[u8]) -> Desk {
     let mut now = desk;
-    let mut at: usize = 0;
-    while at < bytes.len() {
-        let step = now.advance(table, &bytes[at..]);
-        let next = step.desk;
-        let line = step.line;
-        print(rt, line);
-        now = next;
-        at = at + step.took;
+    let mut rest = bytes;
+    while !rest.is_empty() {
+        let step = now.advance(table, rest);
+        print(rt, step.line);
+        now = step.desk;
+        rest = &rest[step.took..];
     }
     now
 }
 
-// Reads once. After the last line nothing more is read. Where a read fails, its reason is written to standard error, and the recording
-// counts as ended there.
+// Reads once, and breaks off where there is no more to read. After the last line nothing more is read. Where a read fails, its reason is
+// written to standard error, and the recording counts as ended there.
 fn read_some(
     rt: &(impl Print + Eprint),
     input: &mut impl Read,
     name: &str,
     desk: Desk,
     table: &mut [u8],
-) -> Reading {
+) -> ControlFlow<Desk, Desk> {
     let mut bytes = [0u8; 65536];
     let n = match input.read(&mut bytes) {
         Ok(n) => n,
@@ -93,14 +83,16 @@ fn read_some(
         }
     };
     if n == 0 {
-        return Reading { desk, more: false };
+        return ControlFlow::Break(desk);
     }
     let next = piece(rt, desk, table, &bytes[..n]);
-    let more = next.stage <= 1;
-    Reading { desk: next, more }
+    if next.stage > 1 {
+        return ControlFlow::Break(next);
+    }
+    ControlFlow::Continue(next)
 }
 
-// A proved loop has to end, and nothing says that a recording does. So the loop counts its turns down, from a number that no run uses up.
+// A proved loop has to end, and nothing says that a recording does. So the loop counts its turns, up to a number that no run reaches.
 fn read_all(
     rt: &(impl Print + Eprint),
     input: &mut impl Read,
@@ -108,14 +100,11 @@ fn read_all(
     table: &mut [u8],
 ) -> Desk {
     let mut desk = Desk::new();
-    let mut more = true;
-    let mut turns = u64::MAX;
-    while turns > 0 && more {
-        let reading = read_some(rt, input, name, desk, table);
-        let next = reading.desk;
-        desk = next;
-        more = reading.more;
-        turns -= 1;
+    for _ in 0..u64::MAX {
+        match read_some(rt, input, name, desk, table) {
+            ControlFlow::Continue(next) => desk = next,
+            ControlFlow::Break(last) => return last,
+        }
     }
     desk
 }
@@ -157,11 +146,7 @@ fn argument(rt: &(impl Env + Files + Print + Eprint), i: usize, titled: bool) {
 const NAME_TOO_LONG: i32 = 36;
 
 fn is_there(rt: &impl Env, i: usize) -> bool {
-    let mut none = [0u8; 0];
-    match rt.arg(i, &mut none) {
-        Err(FillError::NotPresent) => false,
-        _ => true,
-    }
+    !matches!(rt.arg(i, &mut []), Err(FillError::NotPresent))
 }
 
 fn main(rt: HostRuntime) {

@@ -1,8 +1,7 @@
--- Numbers and lines as text.
-use Rattle.std.proofs.Common.{◌≡◌, ℕ, suc, ◌+◌, ◌-◌, ◌/◌, ◌%◌, ◌<◌, ◌≤◌, Bool, true, false, ltb, List, [], ◌∷◌, ◌++◌, length, take, drop, set, sym, refl, ap, ◌∙◌, append_assoc, append-nil, arith, length-drop, length-set, take_all, drop-cons, get_or-set_same, drop-set-lt, ltb-true, le-ltb, lt-ltb}
-use lib.Seq.{paste, take-paste, take-length, drop-length}
-use Rattle.recording.specs.declared.line.Line.TheVariants.{Segment, Fault, Refused}
-use Rattle.recording.specs.Lines.{digits, decimal, line_text}
+-- Numbers as text.
+use Rattle.std.proofs.Common.{◌≡◌, ℕ, suc, ◌+◌, ◌-◌, ◌/◌, ◌%◌, ◌<◌, ◌≤◌, Bool, true, false, ltb, List, [], ◌∷◌, ◌++◌, length, drop, set, sym, refl, ap, ◌∙◌, append_assoc, append-nil, arith, length-set, drop-cons, get_or-set_same, drop-set-lt, ltb-true, le-ltb, lt-ltb}
+use lib.Seq.{drop-length}
+use Rattle.recording.specs.Lines.{digits, decimal}
 
 -- one digit more, and the last one
 digits_more : (k n : ℕ) → 10 ≤ n → digits (suc k) n ≡ digits k (n / 10) ++ ((48 + n % 10) ∷ [])
@@ -68,46 +67,3 @@ pub none_left : (n : ℕ) (b : List ℕ) (i rest : ℕ) → Written n b i rest �
 none_left n b i rest w h =
     let s : i ≡ suc (i - 1) = omega (arith, w.0) in
     last-place n b i rest w (ap (λ (k : ℕ). digits k rest) s ∙ digits-small (i - 1) rest h)
-
--- the part of a text from some place on
-pub rest_of : (s : List ℕ) (n : ℕ) → take (length s - n) (drop n s) ≡ drop n s
-rest_of s n = take_all (length s - n) (drop n s) (let l = length-drop n s in omega arith)
-
--- text behind text
-pub puts : (b s e : List ℕ) (n : ℕ) → length b ≡ 64 → n + length s ≤ 64 → e ≡ paste b n s (length s) → take (n + length s) e ≡ take n b ++ s
-puts b s e n l f q = ap (take (n + length s)) q ∙ take-paste b n s (length s) (omega arith) (omega arith) ∙ ap (λ (z : List ℕ). take n b ++ z) (take-length s)
-
--- lines
-
-pub segment-text : (a b c : ℕ) (t0 t1 t2 t3 t4 t5 t6 : List ℕ) → t0 ≡ [] → t1 ≡ t0 ++ decimal a → t2 ≡ t1 ++ (32 ∷ []) → t3 ≡ t2 ++ decimal b → t4 ≡ t3 ++ (32 ∷ [])
-    → t5 ≡ t4 ++ decimal c → t6 ≡ t5 ++ (10 ∷ []) → t6 ≡ line_text (Segment a b c)
-unfolding line_text
-segment-text a b c t0 t1 t2 t3 t4 t5 t6 e0 e1 e2 e3 e4 e5 e6 =
-    let x = decimal a in
-    let y = decimal b in
-    let z = decimal c in
-    let s : List ℕ = 32 ∷ [] in
-    let n : List ℕ = 10 ∷ [] in
-    let p1 : t1 ≡ x = e1 ∙ ap (λ (t : List ℕ). t ++ x) e0 in
-    let p2 : t2 ≡ x ++ s = e2 ∙ ap (λ (t : List ℕ). t ++ s) p1 in
-    let p3 : t3 ≡ (x ++ s) ++ y = e3 ∙ ap (λ (t : List ℕ). t ++ y) p2 in
-    let p4 : t4 ≡ ((x ++ s) ++ y) ++ s = e4 ∙ ap (λ (t : List ℕ). t ++ s) p3 in
-    let p5 : t5 ≡ (((x ++ s) ++ y) ++ s) ++ z = e5 ∙ ap (λ (t : List ℕ). t ++ z) p4 in
-    e6
-    ∙ ap (λ (t : List ℕ). t ++ n) p5
-    ∙ append_assoc (((x ++ s) ++ y) ++ s) z n
-    ∙ append_assoc ((x ++ s) ++ y) s (z ++ n)
-    ∙ append_assoc (x ++ s) y (s ++ (z ++ n))
-    ∙ append_assoc x s (y ++ (s ++ (z ++ n)))
-
-pub fault-text : (a : ℕ) (t0 t1 t2 t3 : List ℕ) → t0 ≡ [] → t1 ≡ t0 ++ (51 ∷ 56 ∷ 32 ∷ []) → t2 ≡ t1 ++ decimal a → t3 ≡ t2 ++ (10 ∷ [])
-    → t3 ≡ line_text (Fault a)
-unfolding line_text
-fault-text a t0 t1 t2 t3 e0 e1 e2 e3 =
-    let h : List ℕ = 51 ∷ 56 ∷ 32 ∷ [] in
-    let p1 : t1 ≡ h = e1 ∙ ap (λ (t : List ℕ). t ++ h) e0 in
-    e3 ∙ ap (λ (t : List ℕ). t ++ (10 ∷ [])) (e2 ∙ ap (λ (t : List ℕ). t ++ decimal a) p1)
-
-pub refused-text : (a : ℕ) (t0 t1 t2 : List ℕ) → t0 ≡ [] → t1 ≡ t0 ++ decimal a → t2 ≡ t1 ++ (10 ∷ []) → t2 ≡ line_text (Refused a)
-unfolding line_text
-refused-text a t0 t1 t2 e0 e1 e2 = e2 ∙ ap (λ (t : List ℕ). t ++ (10 ∷ [])) (e1 ∙ ap (λ (t : List ℕ). t ++ decimal a) e0)

@@ -1,6 +1,6 @@
 -- How many bytes a call takes: at least one where there is one, and no more than there are. Assumes nothing.
-use Rattle.std.specs.Prelude.{◌≡◌, ℕ, zero, suc, ◌+◌, ◌-◌, ◌<◌, ◌≤◌, Bool, true, false, List, [], ◌∷◌, length, take, drop, ◌==◌, nat_lt, slice_index, refl}
-use Rattle.std.proofs.Common.{arith, mod-lt, length-take, length-drop}
+use Rattle.std.specs.Prelude.{◌≡◌, ℕ, zero, suc, ◌<◌, ◌≤◌, Bool, true, false, List, [], ◌∷◌, length, take, ◌==◌, nat_lt, slice_index, refl}
+use Rattle.std.proofs.Common.{arith, mod-lt, length-take}
 use Rattle.recording.specs.declared.desk.Desk as C
 use Rattle.recording.specs.Recording.{Desk, kind_of, record_bytes_of, is_stopped}
 use Rattle.recording.specs.Views.{desk_view, held_count, record_part, taken}
@@ -35,13 +35,9 @@ taken-some p t c s l = go (nat_lt 1 c.stage) refl
     go true e = rw e l
     go false e = rw e (part-some c.begun s (held_count c) (mod-lt c.held (bytes-some (slice_index c.begun 0))) l)
 
--- for a loop over the bytes b, of which those before `at` are taken: it goes on, and stays inside
-pub goes_on : (p t : List ℕ) (c : C.Desk) (b : List ℕ) (at n : ℕ) → at < length b → n ≡ taken (desk_view p t c) (take (length b - at) (drop at b))
-    → (0 < n) × (at + n ≤ length b)
-goes_on p t c b at n h e =
-    let s = take (length b - at) (drop at b) in
-    let l = length-take (length b - at) (drop at b) in
-    let d = length-drop at b in
-    let w = taken-le (desk_view p t c) s in
-    let z = taken-some p t c s (omega arith) in
+-- for a loop over the bytes b that are left: it goes on, and stays inside
+pub goes_on : (p t : List ℕ) (c : C.Desk) (b : List ℕ) (n : ℕ) → 0 < length b → n ≡ taken (desk_view p t c) b → (0 < n) × (n ≤ length b)
+goes_on p t c b n h e =
+    let w = taken-le (desk_view p t c) b in
+    let z = taken-some p t c b h in
     (omega arith, omega arith)

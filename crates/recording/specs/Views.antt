@@ -1,15 +1,10 @@
 -- What the code's desk means: every value of the struct, with any buffer beside it that holds its table, is a desk. Assumes nothing.
 use Rattle.std.specs.Prelude.{◌≡◌, ℕ, ◌-◌, ◌%◌, min, cond, List, [], ◌++◌, length, take, drop, slice_index}
 use Rattle.recording.specs.declared.line.Line.{Line}
-use Rattle.recording.specs.declared.line.Text.{Text}
 use Rattle.recording.specs.declared.desk.Desk as C
 use Rattle.recording.specs.declared.desk.Step.{Step}
 use Rattle.recording.specs.Lines.{line_text}
 use Rattle.recording.specs.Recording.{Desk, kind_of, record_bytes_of, start, is_stopped, absorb, finished}
-
--- the bytes of a line
-abbrev pub text_of : Text → List ℕ
-text_of t = take t.length t.bytes
 
 -- how many bytes of the record that is begun are held: fewer than such a record has
 abbrev pub held_count : C.Desk → ℕ

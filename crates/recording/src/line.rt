@@ -1,9 +1,9 @@
 // The lines that are printed: document 02, Ticket 1. Assumes nothing.
 ghost use Rattle.std.specs.Prelude.{◌≡◌, ◌+◌, ◌<◌, ◌≤◌, [], ◌++◌, length, drop};
 ghost use Rattle.recording.specs.Lines.{decimal as decimal_of, verdict_line_of, line_text};
-ghost use Rattle.recording.specs.Views.{text_of};
 
 use rules::Verdict;
+use std::marker::Model;
 
 // What is printed at once: nothing; the answer to a segment, with its index, number and extension; 38 and the index of a record; a number
 // alone.
@@ -49,56 +49,67 @@ fn decimal(n: u64) -> Digits
     Digits { bytes, from: i - 1 }
 }
 
-// A line as bytes: the first `length` ones. What stands behind them means nothing.
+// A line as bytes, which are the first `len` of a buffer. A contract sees those bytes alone.
 // Kept (project rule): no heap, so a line stands in a fixed buffer.
-#[derive(Clone, Copy)]
+#[derive(Drop)]
 pub struct Text {
-    pub bytes: [u8; 64],
-    pub length: usize,
+    bytes: [u8; 64],
+    len: usize,
+}
+
+impl Model for Text {
+    ghost use Rattle.std.specs.Prelude.{ℕ, List, take, ◌≤◌};
+
+    ghost Value = { List ℕ };
+
+    ghost view = { λ t. take t.len t.bytes };
+
+    ghost invariant = { λ t. t.len ≤ 64 };
 }
 
 impl Text {
     fn new() -> Self
-        ensures { (text_of result ≡ []) × (result.length ≡ 0) }
+        ensures { result ≡ [] }
     {
         Text {
             bytes: [0; 64],
-            length: 0,
+            len: 0,
         }
+    }
+
+    pub fn as_bytes(&self) -> &[u8]
+        ensures { result.now ≡ self.now }
+    {
+        &self.bytes[..self.len]
     }
 
     fn put(self, s: &[u8]) -> Self
-        requires { self.length + length s.now ≤ 64 }
-        ensures { (text_of result ≡ text_of self ++ s.now) × (result.length ≡ self.length + length s.now) }
+        requires { length self + length s.now ≤ 64 }
+        ensures { result ≡ self ++ s.now }
     {
         let mut bytes = self.bytes;
-        octets::copy_at(&mut bytes, self.length, s);
+        octets::copy_at(&mut bytes, self.len, s);
         Text {
             bytes,
-            length: self.length + s.len(),
+            len: self.len + s.len(),
         }
     }
 
-    fn put_from(self, s: &[u8], from: usize) -> Self
-        requires { (from ≤ length s.now) × (self.length + length (drop from s.now) ≤ 64) }
-        ensures { (text_of result ≡ text_of self ++ drop from s.now)
-            × (result.length ≡ self.length + length (drop from s.now)) }
-    {
-        self.put(&s[from..])
-    }
-
     fn put_number(self, n: u64) -> Self
-        requires { self.length + 20 ≤ 64 }
-        ensures { (text_of result ≡ text_of self ++ decimal_of n) × (result.length ≤ self.length + 20) }
+        requires { length self + 20 ≤ 64 }
+        ensures text { result ≡ self ++ decimal_of n }
+        ensures few { length result ≤ length self + 20 }
     {
         let digits = decimal(n);
-        self.put_from(&digits.bytes, digits.from)
+        self.put(&digits.bytes[digits.from..])
     }
 }
 
 // "index, verdict number, extension, in decimal with one space between"; "38 and the record's index"; a number alone.
+#[tactic(auto, unfolding(crate::specs::Lines::line_text))]
 pub fn text_of(line: Line) -> Text
-    ensures { (text_of result ≡ line_text line) × (result.length ≤ 64) }
+    ensures text { result ≡ line_text line }
+    ensures few { length result ≤ 64 }
 {
     let t = Text::new();
     match line {

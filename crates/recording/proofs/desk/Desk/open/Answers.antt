@@ -1,6 +1,6 @@
 -- By what refuses the opening.
 use Rattle.std.proofs.Common.{sym, ap}
-use Rattle.std.specs.Prelude.{Result, Unit}
+use Rattle.std.specs.Prelude.{Result}
 use Rattle.tables.specs.declared.Refusal.{Refusal}
 use Rattle.recording.specs.Recording.{opens_as, opened_by_lem, with_held}
 use Rattle.recording.proofs.Settling.{table-part, opens_at, refuses}
