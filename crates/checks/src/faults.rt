@@ -14,14 +14,14 @@ use wire::header::Header;
 use wire::options::Seen;
 
 // A number that names no entry.
-pub fn refuse(number: u8) -> Outcome
+pub(crate) fn refuse(number: u8) -> Outcome
     ensures { result ≡ refuse_of number }
 {
     Outcome::Bad(number, NO_INDEX)
 }
 
 // One test: its number, where it applies.
-pub fn refuse_where(applies: bool, number: u8) -> Result<(), Outcome>
+pub(crate) fn refuse_where(applies: bool, number: u8) -> Result<(), Outcome>
     ensures { result ≡ checked (test (refuse_of number) applies ∷ []) }
 {
     if applies { Err(refuse(number)) } else { Ok(()) }

@@ -1,5 +1,5 @@
 // A segment that came whole: behind 20, or 30 when signing. Its header is read once, here; who has one knows its size, and need not ask.
-ghost use Rattle.std.specs.Prelude.{◌≡◌, ◌≤◌, ◌-◌, Ok, length, take, drop};
+ghost use Rattle.std.specs.Prelude.{◌≡◌, ◌≤◌, ◌-◌, Ok, length, take};
 ghost use Rattle.std.specs.Result.{result_and};
 ghost use Rattle.octets.specs.Tests.{checked};
 ghost use Rattle.wire.specs.Header.{header_end_of, header_of_lem};
@@ -35,7 +35,7 @@ impl<'a> Model for SizedSegment<'a> {
 
 impl<'a> SizedSegment<'a> {
     // "bad length or offset": the number is 20, or 30 when signing.
-    pub fn read(bytes: &'a [u8], number: u8) -> Result<SizedSegment<'a>, Outcome>
+    pub(crate) fn read(bytes: &'a [u8], number: u8) -> Result<SizedSegment<'a>, Outcome>
         ensures { result ≡ result_and (checked (length_tests number bytes.now)) (Ok bytes.now) }
     {
         refuse_where(!well_sized(bytes), number)?;
@@ -64,16 +64,9 @@ impl<'a> SizedSegment<'a> {
         &self.bytes[..self.header.end]
     }
 
-    // What stands behind the header.
-    pub fn data(&self) -> &[u8]
-        ensures { result.now ≡ drop (header_end_of self.now) self.now }
-    {
-        &self.bytes[self.header.end..]
-    }
-
     // The segment's TCP-AO, if it has one: it lies in the header.
     // Kept (no plainer): beside md5: each is one field of what the header's options give, under the option's name.
-    pub fn ao(&self) -> Occurrence
+    pub(crate) fn ao(&self) -> Occurrence
         ensures option { result ≡ ao_of self.now }
         ensures place { Lies self.now result }
     {
@@ -81,7 +74,7 @@ impl<'a> SizedSegment<'a> {
     }
 
     // The segment's MD5 option, likewise.
-    pub fn md5(&self) -> Occurrence
+    pub(crate) fn md5(&self) -> Occurrence
         ensures option { result ≡ md5_of self.now }
         ensures place { Lies self.now result }
     {
@@ -90,20 +83,20 @@ impl<'a> SizedSegment<'a> {
 
     // "TCP-AO is kind 29, length, KeyID, RNextKeyID, MAC."
     // Kept (no plainer): beside rnext_key_id: one byte each, under the field's name.
-    pub fn key_id(&self) -> u8
+    pub(crate) fn key_id(&self) -> u8
         ensures { result ≡ key_id_of self.now }
     {
         byte_at(self.bytes, 20 + self.ao().at + 2)
     }
 
-    pub fn rnext_key_id(&self) -> u8
+    pub(crate) fn rnext_key_id(&self) -> u8
         ensures { result ≡ rnext_key_id_of self.now }
     {
         byte_at(self.bytes, 20 + self.ao().at + 3)
     }
 
     // The MAC of its TCP-AO.
-    pub fn mac(&self) -> &[u8]
+    pub(crate) fn mac(&self) -> &[u8]
         requires { 4 ≤ (ao_of self.now).len }
         ensures bytes { result.now ≡ mac_in self.now }
         ensures size { length result.now ≡ (ao_of self.now).len - 4 }
@@ -114,7 +107,7 @@ impl<'a> SizedSegment<'a> {
     }
 
     // The digest of its MD5 option.
-    pub fn digest(&self) -> &[u8]
+    pub(crate) fn digest(&self) -> &[u8]
         requires { (md5_of self.now).len ≡ 18 }
         ensures bytes { result.now ≡ digest_in self.now }
         ensures size { length result.now ≡ 16 }
