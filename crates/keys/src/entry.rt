@@ -180,7 +180,7 @@ impl<'a> EntryBytes<'a> {
         family_of(self.bytes[0])
     }
 
-    pub fn selector(&self) -> Selector
+    pub(crate) fn selector(&self) -> Selector
         ensures { result ≡ self.now.selector }
     {
         let family = self.family();
@@ -191,7 +191,7 @@ impl<'a> EntryBytes<'a> {
         }
     }
 
-    pub fn ids(&self) -> Ids
+    pub(crate) fn ids(&self) -> Ids
         ensures { result ≡ self.now.ids }
     {
         Ids {
@@ -201,7 +201,7 @@ impl<'a> EntryBytes<'a> {
     }
 
     // The MAC's length is the byte before the key length where the kind has it, else the algorithm's number.
-    pub fn secret(&self) -> Secret
+    fn secret(&self) -> Secret
         ensures { result ≡ self.now.secret }
     {
         let kind = self.bytes[0];

@@ -55,7 +55,8 @@ fn addresses_meet(e: &[u8], family: u8, at: usize, b: Side) -> bool
 }
 
 // Some socket pair is matched by the entry and by b. Nothing of the entry is copied, and ports are compared first: the loader asks this of
-// many pairs. It is taken into the loops of both its callers: called from the loader's, it made that half as slow again.
+// many pairs. It is taken into the loops of both its callers: left to the compiler it stayed apart with a second one, and the loader took
+// half as long again.
 #[inline(always)]
 pub(crate) fn overlaps(entry: &EntryBytes<'_>, b: Selector) -> bool
     ensures { result ≡ overlap entry.now.selector b }
