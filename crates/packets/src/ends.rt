@@ -111,6 +111,7 @@ impl End {
     }
 
     // The end's key table: one entry, for this pair alone. It has 128 bytes at most, so there is room for each part.
+    #[tactic(auto, unfolding(keys::specs::Entry::width))]
     fn table(&self) -> ArrayVec<u8, 128> {
         let bits = (8 * width_of(self.pair.family)) as u8;
         let key_bytes = KEY.len() as u8;
