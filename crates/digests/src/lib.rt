@@ -24,6 +24,9 @@ fn give(digest: &[u8], out: &mut [u8]) -> u64
 pub fn sha1(message: &[u8], out: &mut [u8]) -> u64
     ensures { gives result out.new ≡ sha1_into message.now out.old }
 {
+    if out.len() < 20 {
+        return 0;
+    }
     give(&mac::sha1::sha1(message), out)
 }
 
@@ -33,6 +36,9 @@ pub fn sha1(message: &[u8], out: &mut [u8]) -> u64
 pub fn hmac_sha1(key: &[u8], message: &[u8], out: &mut [u8]) -> u64
     ensures { gives result out.new ≡ hmac_sha1_into key.now message.now out.old }
 {
+    if out.len() < 20 {
+        return 0;
+    }
     give(&mac::hmac::hmac_sha1(key, message), out)
 }
 
@@ -40,6 +46,9 @@ pub fn hmac_sha1(key: &[u8], message: &[u8], out: &mut [u8]) -> u64
 pub fn sha256(message: &[u8], out: &mut [u8]) -> u64
     ensures { gives result out.new ≡ sha256_into message.now out.old }
 {
+    if out.len() < 32 {
+        return 0;
+    }
     give(&mac::sha256::sha256(message), out)
 }
 
@@ -47,6 +56,9 @@ pub fn sha256(message: &[u8], out: &mut [u8]) -> u64
 pub fn hmac_sha256(key: &[u8], message: &[u8], out: &mut [u8]) -> u64
     ensures { gives result out.new ≡ hmac_sha256_into key.now message.now out.old }
 {
+    if out.len() < 32 {
+        return 0;
+    }
     give(&mac::hmac::hmac_sha256(key, message), out)
 }
 
@@ -61,6 +73,9 @@ pub fn aes128(key: &[u8], block: &[u8], out: &mut [u8]) -> u64
     if block.len() != 16 {
         return 0;
     }
+    if out.len() < 16 {
+        return 0;
+    }
     let keys = mac::aes::expand_key(octets::padded(key));
     give(&mac::aes::encrypt(keys, octets::padded(block)), out)
 }
@@ -73,6 +88,9 @@ pub fn aes128_cmac(key: &[u8], message: &[u8], out: &mut [u8]) -> u64
     if key.len() != 16 {
         return 0;
     }
+    if out.len() < 16 {
+        return 0;
+    }
     give(&mac::cmac::cmac(octets::padded(key), message), out)
 }
 
@@ -80,5 +98,8 @@ pub fn aes128_cmac(key: &[u8], message: &[u8], out: &mut [u8]) -> u64
 pub fn md5(message: &[u8], out: &mut [u8]) -> u64
     ensures { gives result out.new ≡ md5_into message.now out.old }
 {
+    if out.len() < 16 {
+        return 0;
+    }
     give(&mac::md5::md5(message), out)
 }

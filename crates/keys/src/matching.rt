@@ -18,13 +18,15 @@ pub fn fixed_bits(family: u8, bits: u8) -> u8
 }
 
 // The port lies in the side's range, and the address begins as the side's does.
+// The side's address is taken out of it first, as in `addresses_meet`.
 #[tactic(auto, unfolding(crate::specs::Match::holds))]
 fn side_holds(family: u8, s: Side, port: u16, address: [u8; 16]) -> bool
     ensures { result ≡ holds family s port address }
 {
+    let prefix = s.address;
     s.low <= port
         && port <= s.high
-        && wire::prefix::agrees(&s.address, &address, fixed_bits(family, s.bits))
+        && wire::prefix::agrees(&prefix, &address, fixed_bits(family, s.bits))
 }
 
 #[tactic(auto, unfolding(crate::specs::Match::matches))]
@@ -45,13 +47,16 @@ fn ports_meet(e: &[u8], ports: usize, b: Side) -> bool
 }
 
 // Whether a side of an entry has an address in common with another side. Its address stands at `at` of the entry's bytes.
+// b's address is taken out of b first: within a whole side on the stack it is laid by two stores, the second of its last byte alone, and
+// a load of all sixteen waits for both. The loader's comparison of IPv6 addresses then took twice its time.
 fn addresses_meet(e: &[u8], family: u8, at: usize, b: Side) -> bool
     requires { at + width family + 1 ≤ length e.now }
     ensures { result ≡ agree (min (fixed family (get_or e.now (at + width family) 0)) (fixed family b.bits))
         (padded (take (width family) (drop at e.now))) b.address }
 {
     let n = fixed_bits(family, e[at + width_of(family)]).min(fixed_bits(family, b.bits));
-    wire::prefix::agrees(&e[at..], &b.address, n)
+    let address = b.address;
+    wire::prefix::agrees(&e[at..], &address, n)
 }
 
 // Some socket pair is matched by the entry and by b. Nothing of the entry is copied, and ports are compared first: the loader asks this of

@@ -17,7 +17,7 @@ use std::marker::Model;
 
 // The form of two buffers that are the tables' own bytes.
 // Kept (C interface): the form is a number in C's calls; from `new` on it is a variant of `Form`.
-const BYTES: u8 = 0;
+pub const BYTES: u8 = 0;
 
 // One form of all the others, which are a prepared table's.
 // Kept (C interface): a number of the form, as BYTES.

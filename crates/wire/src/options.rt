@@ -75,7 +75,7 @@ fn step_at(area: &[u8], at: usize) -> Option<Step>
         1 => Step::Nop,
         19 => Step::Md5(length_at(area, at, 2)?),
         29 => Step::Ao(length_at(area, at, 4)?),
-        _ => Step::Other(length_at(area, at, 2)?),
+        2..=18 | 20..=28 | 30..=255 => Step::Other(length_at(area, at, 2)?),
     })
 }
 

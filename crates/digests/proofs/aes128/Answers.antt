@@ -1,4 +1,5 @@
 use Rattle.std.proofs.Common.{◌≡◌, Bool, ◌&&◌, length, refl, sym, ap, ◌∙◌, rules}
+use Rattle.std.proofs.lemmas.Bool.{lt-leb}
 use Rattle.mac.specs.Aes.{key_expansion, cipher}
 use Rattle.digests.specs.Digests.{sixteen, room, into, aes128_into}
 use Rattle.digests.proofs.Written.{refused, given, unsized, sized, full}
@@ -18,6 +19,14 @@ returns-then-block-ne16 c =
     refused _ 16 (cipher (key_expansion a.key.now) a.block.now) a.out.now
     (sized a.key.now (sixteen a.block.now && room 16 a.out.now) _ c.if-key-ne16.false
     (unsized a.block.now (room 16 a.out.now) c.if-block-ne16.true))
+
+pub returns-then-out-lt16 : goal.returns-then-out-lt16
+unfolding aes128_into
+returns-then-out-lt16 c =
+    let a = c.args in
+    refused _ 16 (cipher (key_expansion a.key.now) a.block.now) a.out.now
+    (sized a.key.now (sixteen a.block.now && room 16 a.out.now) _ c.if-key-ne16.false
+    (sized a.block.now (room 16 a.out.now) _ c.if-block-ne16.false (lt-leb _ _ c.if-out-lt16.true)))
 
 pub returns : goal.returns
 unfolding aes128_into
