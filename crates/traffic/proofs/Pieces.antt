@@ -40,7 +40,8 @@ zeros_first i n m l low high = sym (blank-zeros i n m l low high)
 -- z in place of the k bytes from i on of a list of m bytes: it has m bytes still, and zeros behind n bytes stay behind any j, at least n,
 -- that the write doesn't pass
 pub written : (m n i j k : ℕ) (l z : List ℕ) → i + k ≤ j → n ≤ j → j ≤ m → length l ≡ m → drop n l ≡ replicate (m - n) 0 → length z ≡ k
-    → (j ≤ m) × (length (take i l ++ (z ++ drop k (drop i l))) ≡ m) × (drop j (take i l ++ (z ++ drop k (drop i l))) ≡ replicate (m - j) 0)
+    → (j ≤ m) × (length (take i l ++ (z ++ drop k (drop i l))) ≡ m)
+    × (drop j (take i l ++ (z ++ drop k (drop i l))) ≡ replicate (m - j) 0)
 written m n i j k l z low more high whole zeros e =
     let behind : drop j l ≡ replicate (m - j) 0 =
     ap (λ (x : ℕ). drop x l) (omega (arith, more)) ∙ sym (drop-drop (j - n) n l) ∙ ap (drop (j - n)) zeros ∙ drop-replicate (j - n) (m - n) 0
