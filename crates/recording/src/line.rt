@@ -49,22 +49,32 @@ fn decimal(n: u64) -> Digits
     Digits { bytes, from: i - 1 }
 }
 
-// A line as bytes, which are the first `len` of a buffer. A contract sees those bytes alone.
+// A line as bytes, which are the first `len` of a buffer. A contract sees those bytes alone: behind them stand zeros, so that the bytes of
+// a line say what its buffer holds, and a line can be copied.
 // Kept (project rule): no heap, so a line stands in a fixed buffer.
-#[derive(Drop)]
+#[derive(Clone, Copy)]
 pub struct Text {
     bytes: [u8; 64],
     len: usize,
 }
 
 impl Model for Text {
-    ghost use Rattle.std.specs.Prelude.{ℕ, List, take, ◌≤◌};
+    ghost use Rattle.std.specs.Prelude.{ℕ, List, length, take, drop, replicate, ◌-◌, ◌≡◌, ◌≤◌};
+    ghost use Rattle.octets.specs.Octets.{padded_of};
+    ghost use Rattle.recording.specs.TextLaws.{padded-back, length-back};
 
     ghost Value = { List ℕ };
 
     ghost view = { λ t. take t.len t.bytes };
 
-    ghost invariant = { λ t. t.len ≤ 64 };
+    ghost invariant = { λ t. (t.len ≤ 64) × (length t.bytes ≡ 64) × (drop t.len t.bytes ≡ replicate (64 - t.len) 0) };
+
+    ghost inverse = { λ l. record { bytes = padded_of 64 l; len = length l } };
+
+    ghost inverse_ok = { λ t h i. record {
+      bytes = padded-back 64 t.len t.bytes h.0 h.1 h.2 i;
+      len = length-back 64 t.len t.bytes h.0 h.1 i;
+    } };
 }
 
 impl Text {

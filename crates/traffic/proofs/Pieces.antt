@@ -1,9 +1,10 @@
--- Pieces of lists: bytes made zero in a list's first bytes, and its first bytes among others. Assumes nothing.
+-- Pieces of lists: bytes made zero in a list's first bytes, its first bytes among others, and a write in front of zeros. Assumes nothing.
 use Rattle.std.proofs.Common.{ℕ, ◌≡◌, ◌+◌, ◌-◌, ◌≤◌, List, ◌++◌, length, take, drop, sym, ap, ◌∙◌, arith}
-use Rattle.std.proofs.Common.{length-take, length-drop}
+use Rattle.std.proofs.Common.{length-append, length-take, length-drop}
 use Rattle.std.specs.Prelude.{replicate}
 use Rattle.std.proofs.Math.Seq.{take-append-add, drop-drop}
-use Rattle.std.proofs.lemmas.List.{take-take, drop-take, length-take-le, length-replicate}
+use Rattle.std.proofs.lemmas.List.{take-take, drop-take, length-take-le, length-replicate, drop-replicate}
+use Rattle.std.proofs.lemmas.Slice.{drop-put_mid}
 use Rattle.rules.specs.Mac.{blank}
 
 -- the first m bytes, of which n from i on are made zero: by zeros z in the whole
@@ -35,3 +36,17 @@ blank-first i n k m l z low high q e =
 -- zeros in the first bytes, and the first bytes of a list with zeros in it
 pub zeros_first : (i n m : ℕ) (l : List ℕ) → i + n ≤ m → m ≤ length l → blank i n (take m l) ≡ take m (blank i n l)
 zeros_first i n m l low high = sym (blank-zeros i n m l low high)
+
+-- z in place of the k bytes from i on of a list of m bytes: it has m bytes still, and zeros behind n bytes stay behind any j, at least n,
+-- that the write doesn't pass
+pub written : (m n i j k : ℕ) (l z : List ℕ) → i + k ≤ j → n ≤ j → j ≤ m → length l ≡ m → drop n l ≡ replicate (m - n) 0 → length z ≡ k
+    → (j ≤ m) × (length (take i l ++ (z ++ drop k (drop i l))) ≡ m)
+    × (drop j (take i l ++ (z ++ drop k (drop i l))) ≡ replicate (m - j) 0)
+written m n i j k l z low more high whole zeros e =
+    let behind : drop j l ≡ replicate (m - j) 0 =
+    ap (λ (x : ℕ). drop x l) (omega (arith, more)) ∙ sym (drop-drop (j - n) n l) ∙ ap (drop (j - n)) zeros ∙ drop-replicate (j - n) (m - n) 0
+    ∙ ap (λ (x : ℕ). replicate x 0) (omega (arith, more)) in (
+      high,
+      simp (length-append, length-take, length-drop) (omega (arith, low, high, whole, e)),
+      drop-put_mid i k l z j low (omega (arith, low, high, whole)) e ∙ behind,
+    )

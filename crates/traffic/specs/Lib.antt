@@ -4,3 +4,4 @@ pub mod MacContext
 pub mod MacContextLaws
 pub mod TagLaws
 pub mod DigestLaws
+pub mod AssembledLaws

@@ -5,22 +5,31 @@ ghost use Rattle.rules.specs.Mac.{blank as blank_of, blank_if_of};
 
 use std::marker::Model;
 
-// The parts are the first `len` bytes; what stands behind them means nothing.
+// The parts are the first `len` bytes; behind them are zeros, so that the parts say what the whole array holds, and it can be copied.
 // Kept (project rule): no heap, so room and length stand together, under an invariant; `Digits`, `Text` and `Words` lie in programs.
-#[derive(Drop)]
+#[derive(Clone, Copy)]
 pub struct Assembled<const N: usize> {
     bytes: [u8; N],
     len: usize,
 }
 
 impl<const N: usize> Model for Assembled<N> {
-    ghost use Rattle.std.specs.Prelude.{ℕ, List, take, ◌≤◌};
+    ghost use Rattle.std.specs.Prelude.{ℕ, List, length, take, drop, replicate, ◌-◌, ◌≡◌, ◌≤◌};
+    ghost use Rattle.octets.specs.Octets.{padded_of};
+    ghost use Rattle.traffic.specs.AssembledLaws.{padded-back, length-back};
 
     ghost Value = { List ℕ };
 
     ghost view = { λ a. take a.len a.bytes };
 
-    ghost invariant = { λ a. a.len ≤ N };
+    ghost invariant = { λ a. (a.len ≤ N) × (length a.bytes ≡ N) × (drop a.len a.bytes ≡ replicate (N - a.len) 0) };
+
+    ghost inverse = { λ l. record { bytes = padded_of N l; len = length l } };
+
+    ghost inverse_ok = { λ a h i. record {
+      bytes = padded-back N a.len a.bytes h.0 h.1 h.2 i;
+      len = length-back N a.len a.bytes h.0 h.1 i;
+    } };
 }
 
 impl<const N: usize> Assembled<N> {
