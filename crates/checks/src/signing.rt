@@ -8,7 +8,8 @@ ghost use Rattle.keys.specs.Table.{found_of};
 ghost use Rattle.rules.specs.Segment.{option_bytes, md5_option_bytes};
 ghost use Rattle.rules.specs.Connection.{is_md5_of, value};
 ghost use Rattle.rules.specs.Calls.{refuse as refuse_of};
-ghost use Rattle.checks.specs.SignGroups.{input_tests, fresh_lines, growth_lines, segment_lines, place_lines, output_lines, signed, granted_of};
+ghost use Rattle.checks.specs.SignGroups.{input_tests, fresh_lines, growth_lines, segment_lines, place_lines, output_lines};
+ghost use Rattle.checks.specs.SignGroups.{signed, granted_of};
 
 use crate::faults::{
     bare_syn, family_faults, port_faults, refuse, refuse_where, stage_faults, table_faults,
