@@ -1,4 +1,4 @@
--- Judging as the code begins it, behind the tests of the input, the size and the sum: form, arrival and key, with a state and without one.
+-- Judging as the code begins it, from seam to seam: input, size and sum; form and arrival; key. With a state and without one.
 -- Assumes nothing.
 use Prim.Native.Nat.{ℕ, ◌≤◌, ◌-◌}
 use mathlib.Core.Path.{◌≡◌, refl, sym, ap, subst, transport, ◌∙◌}
@@ -10,7 +10,7 @@ use lib.ListN.{length, replicate}
 use lib.Seq.{take_at}
 use lib.Dec.{eqb}
 use borrow.Author.Tests.{eqb-true, not-false}
-use Rattle.std.specs.Prelude.{Some, Result, Ok, Err}
+use Rattle.std.specs.Prelude.{◌++◌, Some, Result, Ok, Err}
 use Rattle.std.specs.Result.{result_and, IsErr, IsErrAnd}
 use Rattle.wire.specs.Header.{source_port_of, destination_port_of, sequence, header_of_lem}
 use Rattle.wire.specs.declared.header.Header.{Header}
@@ -24,16 +24,16 @@ use Rattle.tables.proofs.SearchLaws.{recv-proper, recv-nobody}
 use Rattle.rules.specs.Position.{Place}
 use Rattle.rules.specs.declared.Connection.{Connection}
 use Rattle.rules.specs.declared.Outcome.{Outcome}
-use Rattle.octets.specs.Tests.{first, checked}
-use Rattle.octets.specs.TestLaws.{each_gives, checked-none, none-split}
+use Rattle.octets.specs.Tests.{Test, first, checked}
+use Rattle.octets.specs.TestLaws.{NoneApplies, first-append, each_gives, checked-none, none-split}
 use Rattle.rules.specs.Mac.{Flow}
 use Rattle.rules.specs.Segment.{key_id_of}
 use Rattle.rules.specs.Connection.{Arrival, sized, arrival_pair_of, arriving, arriving_syn, place_on_lem, is_md5_of}
 use Rattle.rules.specs.Calls.{is_refused, refuse, Groups, judge_groups, syn_groups, key_tests, md5_tests, good_by, address_tests, table_tests}
-use Rattle.rules.specs.Calls.{input_tests, state_tests, family_tests, length_tests, sum_tests, syn_missing_of, syn_unknown_of, syn_is_md5}
+use Rattle.rules.specs.Calls.{input_tests, state_tests, family_tests, syn_missing_of, syn_unknown_of, syn_is_md5}
 use Rattle.rules.proofs.PositionLaws.{place-md5}
-use Rattle.checks.specs.Groups.{option_tests, header_arrival_tests, header_syn_tests, until_mac, arriving_on}
-use Rattle.checks.specs.GroupLaws.{is_final, and-ok}
+use Rattle.checks.specs.Groups.{intact_tests, option_tests, header_arrival_tests, header_syn_tests, until_mac, arriving_on}
+use Rattle.checks.specs.GroupLaws.{is_final, and-ok, and-err, refusal-final}
 use Rattle.checks.specs.Begin.{Expected, Begins, by_ao, by_md5_of, expected, Judges, expected_syn, JudgesSyn}
 use Rattle.checks.specs.BeginLaws.{stop, pass, by_groups}
 use Rattle.checks.specs.declared.begun.Begun.{Begun}
@@ -55,22 +55,45 @@ entry-short form k m p id e = go (tables_of form k m).answer (recv_entry (tables
     go (Ok n) true q h z = (recv-proper (taken-held form k m n q) p id h).mac-high
     go (Ok n) false q h z = rw (recv-nobody (tables_of form k m) p id h) (omega arith)
 
--- Behind the input, the size and the sum: form, arrival and key.
-module _ (g : Groups) (o : Outcome) (w : ℕ → Expected) (n1 : checked g.input ≡ Ok tt) (n2 : checked g.size ≡ Ok tt) (n3 : checked g.sum ≡ Ok tt) where
+-- The seams at which the code cuts: input, size and sum; form and arrival; key.
+by_seams : (g : Groups) (o : Outcome) (w : ℕ → Expected) (r : Result Begun Outcome)
+    → Begins (first (g.input ++ (g.size ++ g.sum)) (first (g.form ++ g.arrival) (first g.key o))) w r → Begins (first (until_mac g) o) w r
+by_seams g o w r b = by_groups g o w r (subst (λ (x : Outcome). Begins x w r) seams b)
+  where
+    seams : first (g.input ++ (g.size ++ g.sum)) (first (g.form ++ g.arrival) (first g.key o))
+        ≡ first g.input (first g.size (first g.sum (first g.form (first g.arrival (first g.key o)))))
+    seams =
+        first-append g.input (g.size ++ g.sum) (first (g.form ++ g.arrival) (first g.key o))
+        ∙ ap (first g.input) (first-append g.size g.sum (first (g.form ++ g.arrival) (first g.key o))
+        ∙ ap (first g.size) (ap (first g.sum) (first-append g.form g.arrival (first g.key o))))
+
+-- A number of the first seam.
+at-early : (g : Groups) (o : Outcome) (w : ℕ → Expected) {e : Outcome} → each_gives is_final (g.input ++ (g.size ++ g.sum)) ≡ true
+    → checked (g.input ++ (g.size ++ g.sum)) ≡ Err e → Begins (first (until_mac g) o) w (Err e)
+at-early g o w {e} f n = by_seams g o w (Err e) (stop (g.input ++ (g.size ++ g.sum)) _ w f n)
+
+early-final : (t : Tables) (l : Connection) (a : Arrival) → each_gives is_final (state_tests t a.source a.destination l ++ intact_tests a) ≡ true
+early-final t l a = rw (refusal-final t.answer)
+
+pub judge-early : (t : Tables) (l : Connection) (reference : ℕ) (a : Arrival) {e : Outcome}
+    → Err e ≡ result_and (checked (state_tests t a.source a.destination l ++ intact_tests a)) (Ok a.segment) → Judges t l reference a (Err e)
+judge-early t l reference a n =
+    at-early (judge_groups t l reference a) _ (expected t l a.segment) (early-final t l a)
+    (and-err (checked (state_tests t a.source a.destination l ++ intact_tests a)) a.segment (sym n))
+
+-- Behind the input, the size and the sum: form and arrival, and the key.
+module _ (g : Groups) (o : Outcome) (w : ℕ → Expected) (early : checked (g.input ++ (g.size ++ g.sum)) ≡ Ok tt) where
   abbrev Given : Result Begun Outcome → Type 0
   Given r = Begins (first (until_mac g) o) w r
 
-  behind-sum : (r : Result Begun Outcome) → Begins (first g.form (first g.arrival (first g.key o))) w r → Given r
-  behind-sum r b = by_groups g o w r (pass g.input _ w r n1 (pass g.size _ w r n2 (pass g.sum _ w r n3 b)))
+  behind-sum : (r : Result Begun Outcome) → Begins (first (g.form ++ g.arrival) (first g.key o)) w r → Given r
+  behind-sum r b = by_seams g o w r (pass (g.input ++ (g.size ++ g.sum)) _ w r early b)
 
-  at-form : {e : Outcome} → each_gives is_final g.form ≡ true → checked g.form ≡ Err e → Given (Err e)
-  at-form {e} f n = behind-sum (Err e) (stop g.form _ w f n)
+  at-formed : {e : Outcome} → each_gives is_final (g.form ++ g.arrival) ≡ true → checked (g.form ++ g.arrival) ≡ Err e → Given (Err e)
+  at-formed {e} f n = behind-sum (Err e) (stop (g.form ++ g.arrival) _ w f n)
 
-  at-arrival : {e : Outcome} → checked g.form ≡ Ok tt → each_gives is_final g.arrival ≡ true → checked g.arrival ≡ Err e → Given (Err e)
-  at-arrival {e} n4 f n = behind-sum (Err e) (pass g.form _ w (Err e) n4 (stop g.arrival _ w f n))
-
-  at-key : (r : Result Begun Outcome) → checked g.form ≡ Ok tt → checked g.arrival ≡ Ok tt → Begins (first g.key o) w r → Given r
-  at-key r n4 n5 b = behind-sum r (pass g.form _ w r n4 (pass g.arrival _ w r n5 b))
+  at-key : (r : Result Begun Outcome) → checked (g.form ++ g.arrival) ≡ Ok tt → Begins (first g.key o) w r → Given r
+  at-key r n b = behind-sum r (pass (g.form ++ g.arrival) _ w r n b)
 
 -- by values that are equal to the definitions': 25 to 28, and 46, 47, 26 and 27
 abbrev KeyGiven : Outcome → Outcome → Found → Place → Flow → List ℕ → Result Begun Outcome → Type 0
@@ -79,70 +102,82 @@ KeyGiven m u f x fl s r = Begins (first (key_tests m u f x s) (good_by false x s
 abbrev Md5Given : Found → ℕ → Flow → List ℕ → Result Begun Outcome → Type 0
 Md5Given f n fl s r = Begins (first (md5_tests f s) (good_by true (Some n) s)) (by_md5_of f.entry fl s) r
 
+-- 19 lets by addresses of one size, and the tables are not refused
+module _ (t : Tables) (a b : List ℕ) (n : NoneApplies (input_tests t a b)) where
+  input-sized : sized a b ≡ true
+  input-sized = not-false (sized a b) n.0
+
+  input-valid : is_refused t.answer ≡ false
+  input-valid = (none-split (address_tests a b) (table_tests t) n).1.0
+
 -- With a state. The segment that was read is the one that came.
 module _ (t : Tables) (l : Connection) (reference : ℕ) (a : Arrival) {s : List ℕ} {h : Header}
-    (size : result_and (checked (length_tests 20 a.segment)) (Ok a.segment) ≡ Ok s) (read : h ≡ header_of_lem (length s) s)
-    (n1 : checked (state_tests t a.source a.destination l) ≡ Ok tt) (n3 : checked (sum_tests a) ≡ Ok tt) where
+    (early : Ok s ≡ result_and (checked (state_tests t a.source a.destination l ++ intact_tests a)) (Ok a.segment))
+    (read : h ≡ header_of_lem (length s) s) where
   abbrev groups : Groups
   groups = judge_groups t l reference a
 
   abbrev answer : Outcome
   answer = good_by (is_md5_of l) (place_on_lem l reference (sequence a.segment)) a.segment
 
-  n2 : checked (length_tests 20 a.segment) ≡ Ok tt
-  n2 = (and-ok (checked (length_tests 20 a.segment)) a.segment size).0
+  abbrev early_tests : List (Test Outcome)
+  early_tests = state_tests t a.source a.destination l ++ intact_tests a
+
+  n1 : checked early_tests ≡ Ok tt
+  n1 = (and-ok (checked early_tests) a.segment (sym early)).0
 
   same : s ≡ a.segment
-  same = sym (and-ok (checked (length_tests 20 a.segment)) a.segment size).1
+  same = sym (and-ok (checked early_tests) a.segment (sym early)).1
 
   header : h ≡ header_of_lem (length a.segment) a.segment
   header = read ∙ ap (λ (z : List ℕ). header_of_lem (length z) z) same
 
-  form-is : (r : Result Unit Outcome) → r ≡ checked (option_tests h.options) → checked groups.form ≡ r
-  form-is r e = sym (e ∙ ap (λ (h : Header). checked (option_tests h.options)) header)
+  abbrev formed_tests : Header → List (Test Outcome)
+  formed_tests x = option_tests x.options ++ header_arrival_tests l a.source a.destination x
 
-  arrival-is : (r : Result Unit Outcome) → r ≡ checked (header_arrival_tests l a.source a.destination h) → checked groups.arrival ≡ r
-  arrival-is r e = sym (e ∙ ap (λ (h : Header). checked (header_arrival_tests l a.source a.destination h)) header)
+  formed-is : (r : Result Unit Outcome) → r ≡ checked (formed_tests h) → checked (groups.form ++ groups.arrival) ≡ r
+  formed-is r e = sym (e ∙ ap (λ (h : Header). checked (formed_tests h)) header)
 
-  pub judge-form : {e : Outcome} → Err e ≡ checked (option_tests h.options) → Judges t l reference a (Err e)
-  judge-form {e} n = at-form groups answer (expected t l a.segment) n1 n2 n3 refl (form-is (Err e) n)
+  pub judge-valid : is_refused t.answer ≡ false
+  judge-valid =
+      let state = (none-split (state_tests t a.source a.destination l) (intact_tests a) (checked-none early_tests n1)).0 in
+      input-valid t a.source a.destination (none-split (family_tests l) (input_tests t a.source a.destination) state).1
 
-  module _ (n4 : Ok tt ≡ checked (option_tests h.options)) where
-    pub judge-arrival : {e : Outcome} → Err e ≡ checked (header_arrival_tests l a.source a.destination h) → Judges t l reference a (Err e)
-    judge-arrival {e} n = at-arrival groups answer (expected t l a.segment) n1 n2 n3 (form-is (Ok tt) n4) refl (arrival-is (Err e) n)
+  pub judge-formed : {e : Outcome} → Err e ≡ checked (formed_tests h) → Judges t l reference a (Err e)
+  judge-formed {e} n = at-formed groups answer (expected t l a.segment) n1 refl (formed-is (Err e) n)
 
-    module _ (n5 : Ok tt ≡ checked (header_arrival_tests l a.source a.destination h)) (r : Result Begun Outcome) where
-      abbrev By : Bool → Type 0
-      By way =
-          Begins
-          (first
-          (cond way (md5_tests (md5_entry t l.pair) a.segment)
-          (key_tests (refuse 25) (refuse 26) (recv_entry t l.pair (key_id_of a.segment)) (place_on_lem l reference (sequence a.segment)) a.segment))
-          (good_by way (place_on_lem l reference (sequence a.segment)) a.segment))
-          (cond way (by_md5_of (md5_entry t l.pair).entry (arriving l a.segment) a.segment)
-          (by_ao (recv_entry t l.pair (key_id_of a.segment)).entry (arriving l a.segment) a.segment)) r
+  module _ (n2 : Ok tt ≡ checked (formed_tests h)) (r : Result Begun Outcome) where
+    abbrev By : Bool → Type 0
+    By way =
+        Begins
+        (first
+        (cond way (md5_tests (md5_entry t l.pair) a.segment)
+        (key_tests (refuse 25) (refuse 26) (recv_entry t l.pair (key_id_of a.segment)) (place_on_lem l reference (sequence a.segment)) a.segment))
+        (good_by way (place_on_lem l reference (sequence a.segment)) a.segment))
+        (cond way (by_md5_of (md5_entry t l.pair).entry (arriving l a.segment) a.segment)
+        (by_ao (recv_entry t l.pair (key_id_of a.segment)).entry (arriving l a.segment) a.segment)) r
 
-      keyed : By (is_md5_of l) → Judges t l reference a r
-      keyed b = at-key groups answer (expected t l a.segment) n1 n2 n3 r (form-is (Ok tt) n4) (arrival-is (Ok tt) n5) b
+    keyed : By (is_md5_of l) → Judges t l reference a r
+    keyed b = at-key groups answer (expected t l a.segment) n1 r (formed-is (Ok tt) n2) b
 
-      pub judge-md5 : is_md5_of l ≡ true → {f : Found} {fl : Flow} → f ≡ md5_entry t l.pair → fl ≡ arriving l s → Md5Given f (sequence s) fl s r
-          → Judges t l reference a r
-      judge-md5 way ef efl b =
-          let flow = efl ∙ ap (arriving l) same in
-          let moved : Md5Given (md5_entry t l.pair) (sequence a.segment) (arriving l a.segment) a.segment r =
-          transport (λ i. Md5Given (ef i) (sequence (same i)) (flow i) (same i) r) b in
-          keyed (subst By (sym way)
-          (transport (λ i. Begins (first (md5_tests (md5_entry t l.pair) a.segment) (good_by true (sym (place-md5 l reference (sequence a.segment) way) i) a.segment))
-          (by_md5_of (md5_entry t l.pair).entry (arriving l a.segment) a.segment) r) moved))
+    pub judge-md5 : is_md5_of l ≡ true → {f : Found} {fl : Flow} → f ≡ md5_entry t l.pair → fl ≡ arriving l s → Md5Given f (sequence s) fl s r
+        → Judges t l reference a r
+    judge-md5 way ef efl b =
+        let flow = efl ∙ ap (arriving l) same in
+        let moved : Md5Given (md5_entry t l.pair) (sequence a.segment) (arriving l a.segment) a.segment r =
+        transport (λ i. Md5Given (ef i) (sequence (same i)) (flow i) (same i) r) b in
+        keyed (subst By (sym way)
+        (transport (λ i. Begins (first (md5_tests (md5_entry t l.pair) a.segment) (good_by true (sym (place-md5 l reference (sequence a.segment) way) i) a.segment))
+        (by_md5_of (md5_entry t l.pair).entry (arriving l a.segment) a.segment) r) moved))
 
-      pub judge-ao : is_md5_of l ≡ false → {m u : Outcome} {f : Found} {x : Place} {fl : Flow} → m ≡ refuse 25 → u ≡ refuse 26
-          → f ≡ recv_entry t l.pair (key_id_of s) → x ≡ place_on_lem l reference (sequence s) → fl ≡ arriving l s → KeyGiven m u f x fl s r
-          → Judges t l reference a r
-      judge-ao way em eu ef ex efl b =
-          let flow = efl ∙ ap (arriving l) same in
-          let entry = ef ∙ ap (λ (z : List ℕ). recv_entry t l.pair (key_id_of z)) same in
-          let place = ex ∙ ap (λ (z : List ℕ). place_on_lem l reference (sequence z)) same in
-          keyed (subst By (sym way) (transport (λ i. KeyGiven (em i) (eu i) (entry i) (place i) (flow i) (same i) r) b))
+    pub judge-ao : is_md5_of l ≡ false → {m u : Outcome} {f : Found} {x : Place} {fl : Flow} → m ≡ refuse 25 → u ≡ refuse 26
+        → f ≡ recv_entry t l.pair (key_id_of s) → x ≡ place_on_lem l reference (sequence s) → fl ≡ arriving l s → KeyGiven m u f x fl s r
+        → Judges t l reference a r
+    judge-ao way em eu ef ex efl b =
+        let flow = efl ∙ ap (arriving l) same in
+        let entry = ef ∙ ap (λ (z : List ℕ). recv_entry t l.pair (key_id_of z)) same in
+        let place = ex ∙ ap (λ (z : List ℕ). place_on_lem l reference (sequence z)) same in
+        keyed (subst By (sym way) (transport (λ i. KeyGiven (em i) (eu i) (entry i) (place i) (flow i) (same i) r) b))
 
 -- addresses of one size
 module _ (a b : List ℕ) (e : sized a b ≡ true) where
@@ -169,23 +204,10 @@ module _ (a b : List ℕ) (e : sized a b ≡ true) where
         destination_isn = 0;
       }
 
--- 19 lets by addresses of one size, and the tables are not refused
-module _ (t : Tables) (a b : List ℕ) (n : checked (input_tests t a b) ≡ Ok tt) where
-  pub input-sized : sized a b ≡ true
-  input-sized = not-false (sized a b) (checked-none (input_tests t a b) n).0
-
-  pub input-valid : is_refused t.answer ≡ false
-  input-valid = (none-split (address_tests a b) (table_tests t) (checked-none (input_tests t a b) n)).1.0
-
-pub state-valid : (t : Tables) (a b : List ℕ) (l : Connection) → checked (state_tests t a b l) ≡ Ok tt → is_refused t.answer ≡ false
-state-valid t a b l n =
-    (none-split (address_tests a b) (table_tests t)
-    (none-split (family_tests l) (input_tests t a b) (checked-none (state_tests t a b l) n)).1).1.0
-
 -- Without a state.
 module _ (t : Tables) (a : Arrival) (strict : Bool) {s : List ℕ} {h : Header}
-    (size : result_and (checked (length_tests 20 a.segment)) (Ok a.segment) ≡ Ok s) (read : h ≡ header_of_lem (length s) s)
-    (n1 : checked (input_tests t a.source a.destination) ≡ Ok tt) (n3 : checked (sum_tests a) ≡ Ok tt) where
+    (early : Ok s ≡ result_and (checked (input_tests t a.source a.destination ++ intact_tests a)) (Ok a.segment))
+    (read : h ≡ header_of_lem (length s) s) where
   abbrev syn_group : Groups
   syn_group = syn_groups t a strict
 
@@ -198,62 +220,70 @@ module _ (t : Tables) (a : Arrival) (strict : Bool) {s : List ℕ} {h : Header}
   abbrev syn_expected : ℕ → Expected
   syn_expected = expected_syn t pair (arriving_syn a) a.segment
 
-  syn-n2 : checked (length_tests 20 a.segment) ≡ Ok tt
-  syn-n2 = (and-ok (checked (length_tests 20 a.segment)) a.segment size).0
+  abbrev syn_early_tests : List (Test Outcome)
+  syn_early_tests = input_tests t a.source a.destination ++ intact_tests a
+
+  syn-n1 : checked syn_early_tests ≡ Ok tt
+  syn-n1 = (and-ok (checked syn_early_tests) a.segment (sym early)).0
 
   syn-same : s ≡ a.segment
-  syn-same = sym (and-ok (checked (length_tests 20 a.segment)) a.segment size).1
+  syn-same = sym (and-ok (checked syn_early_tests) a.segment (sym early)).1
+
+  syn-input : NoneApplies (input_tests t a.source a.destination)
+  syn-input = (none-split (input_tests t a.source a.destination) (intact_tests a) (checked-none syn_early_tests syn-n1)).0
+
+  syn-sized : sized a.source a.destination ≡ true
+  syn-sized = input-sized t a.source a.destination syn-input
+
+  pub syn-valid : is_refused t.answer ≡ false
+  syn-valid = input-valid t a.source a.destination syn-input
 
   syn-header : h ≡ header_of_lem (length a.segment) a.segment
   syn-header = read ∙ ap (λ (z : List ℕ). header_of_lem (length z) z) syn-same
 
-  syn-form-is : (r : Result Unit Outcome) → r ≡ checked (option_tests h.options) → checked syn_group.form ≡ r
-  syn-form-is r e = sym (e ∙ ap (λ (h : Header). checked (option_tests h.options)) syn-header)
+  abbrev syn_formed_tests : Header → List (Test Outcome)
+  syn_formed_tests x = option_tests x.options ++ header_syn_tests x
 
-  syn-arrival-is : (r : Result Unit Outcome) → r ≡ checked (header_syn_tests h) → checked syn_group.arrival ≡ r
-  syn-arrival-is r e = sym (e ∙ ap (λ (h : Header). checked (header_syn_tests h)) syn-header)
+  syn-formed-is : (r : Result Unit Outcome) → r ≡ checked (syn_formed_tests h) → checked (syn_group.form ++ syn_group.arrival) ≡ r
+  syn-formed-is r e = sym (e ∙ ap (λ (h : Header). checked (syn_formed_tests h)) syn-header)
 
-  pub syn-form : {e : Outcome} → Err e ≡ checked (option_tests h.options) → JudgesSyn t a strict (Err e)
-  syn-form {e} n = at-form syn_group syn_answer syn_expected n1 syn-n2 n3 refl (syn-form-is (Err e) n)
+  pub syn-formed : {e : Outcome} → Err e ≡ checked (syn_formed_tests h) → JudgesSyn t a strict (Err e)
+  syn-formed {e} n = at-formed syn_group syn_answer syn_expected syn-n1 refl (syn-formed-is (Err e) n)
 
-  module _ (n4 : Ok tt ≡ checked (option_tests h.options)) where
-    pub syn-arrival : {e : Outcome} → Err e ≡ checked (header_syn_tests h) → JudgesSyn t a strict (Err e)
-    syn-arrival {e} n = at-arrival syn_group syn_answer syn_expected n1 syn-n2 n3 (syn-form-is (Ok tt) n4) refl (syn-arrival-is (Err e) n)
+  -- the code has the pair p and the flow from it; by the definition the flow of a bare SYN is made of the arrival itself
+  module _ (n2 : Ok tt ≡ checked (syn_formed_tests h)) {p : Pair} (pairs : p ≡ pair) {fl : Flow} (flows : fl ≡ arriving_on p (sequence s) 0)
+      (r : Result Begun Outcome) where
+    flow-is : fl ≡ arriving_syn a
+    flow-is =
+        flows ∙ (λ i. arriving_on (pairs i) (sequence (syn-same i)) 0)
+        ∙ flow-back a.source a.destination syn-sized a.segment
 
-    -- the code has the pair p and the flow from it; by the definition the flow of a bare SYN is made of the arrival itself
-    module _ (n5 : Ok tt ≡ checked (header_syn_tests h)) {p : Pair} (pairs : p ≡ pair) {fl : Flow} (flows : fl ≡ arriving_on p (sequence s) 0)
-        (r : Result Begun Outcome) where
-      flow-is : fl ≡ arriving_syn a
-      flow-is =
-          flows ∙ (λ i. arriving_on (pairs i) (sequence (syn-same i)) 0)
-          ∙ flow-back a.source a.destination (input-sized t a.source a.destination n1) a.segment
+    abbrev BySyn : Bool → Type 0
+    BySyn way =
+        Begins
+        (first
+        (cond way (md5_tests (md5_entry t pair) a.segment)
+        (key_tests (syn_missing_of t pair) (syn_unknown_of t pair strict) (recv_entry t pair (key_id_of a.segment)) (Some (sequence a.segment)) a.segment))
+        (good_by way (Some (sequence a.segment)) a.segment))
+        (cond way (by_md5_of (md5_entry t pair).entry (arriving_syn a) a.segment)
+        (by_ao (recv_entry t pair (key_id_of a.segment)).entry (arriving_syn a) a.segment)) r
 
-      abbrev BySyn : Bool → Type 0
-      BySyn way =
-          Begins
-          (first
-          (cond way (md5_tests (md5_entry t pair) a.segment)
-          (key_tests (syn_missing_of t pair) (syn_unknown_of t pair strict) (recv_entry t pair (key_id_of a.segment)) (Some (sequence a.segment)) a.segment))
-          (good_by way (Some (sequence a.segment)) a.segment))
-          (cond way (by_md5_of (md5_entry t pair).entry (arriving_syn a) a.segment)
-          (by_ao (recv_entry t pair (key_id_of a.segment)).entry (arriving_syn a) a.segment)) r
+    syn-keyed : BySyn (syn_is_md5 t pair) → JudgesSyn t a strict r
+    syn-keyed b = at-key syn_group syn_answer syn_expected syn-n1 r (syn-formed-is (Ok tt) n2) b
 
-      syn-keyed : BySyn (syn_is_md5 t pair) → JudgesSyn t a strict r
-      syn-keyed b = at-key syn_group syn_answer syn_expected n1 syn-n2 n3 r (syn-form-is (Ok tt) n4) (syn-arrival-is (Ok tt) n5) b
+    pub syn-md5 : {f : Found} → f ≡ md5_entry t p → f.there ≡ true → Md5Given f (sequence s) fl s r → JudgesSyn t a strict r
+    syn-md5 ef there b =
+        let entry = ef ∙ ap (md5_entry t) pairs in
+        let way : syn_is_md5 t pair ≡ true = ap (λ (f : Found). f.there) (sym entry) ∙ there in
+        syn-keyed (subst BySyn (sym way) (transport (λ i. Md5Given (entry i) (sequence (syn-same i)) (flow-is i) (syn-same i) r) b))
 
-      pub syn-md5 : {f : Found} → f ≡ md5_entry t p → f.there ≡ true → Md5Given f (sequence s) fl s r → JudgesSyn t a strict r
-      syn-md5 ef there b =
-          let entry = ef ∙ ap (md5_entry t) pairs in
-          let way : syn_is_md5 t pair ≡ true = ap (λ (f : Found). f.there) (sym entry) ∙ there in
-          syn-keyed (subst BySyn (sym way) (transport (λ i. Md5Given (entry i) (sequence (syn-same i)) (flow-is i) (syn-same i) r) b))
-
-      pub syn-ao : {f : Found} → f ≡ md5_entry t p → f.there ≡ false → {m u : Outcome} {e : Found} {x : Place} → m ≡ syn_missing_of t p
-          → u ≡ syn_unknown_of t p strict → e ≡ recv_entry t p (key_id_of s) → x ≡ Some (sequence s) → KeyGiven m u e x fl s r → JudgesSyn t a strict r
-      syn-ao ef there em eu ee ex b =
-          let way : syn_is_md5 t pair ≡ false = ap (λ (f : Found). f.there) (sym (ef ∙ ap (md5_entry t) pairs)) ∙ there in
-          let missing = em ∙ ap (syn_missing_of t) pairs in
-          let unknown = eu ∙ ap (λ (p : Pair). syn_unknown_of t p strict) pairs in
-          let entry = ee ∙ (λ i. recv_entry t (pairs i) (key_id_of (syn-same i))) in
-          let place = ex ∙ ap (λ (z : List ℕ). Some (sequence z)) syn-same in
-          syn-keyed (subst BySyn (sym way)
-          (transport (λ i. KeyGiven (missing i) (unknown i) (entry i) (place i) (flow-is i) (syn-same i) r) b))
+    pub syn-ao : {f : Found} → f ≡ md5_entry t p → f.there ≡ false → {m u : Outcome} {e : Found} {x : Place} → m ≡ syn_missing_of t p
+        → u ≡ syn_unknown_of t p strict → e ≡ recv_entry t p (key_id_of s) → x ≡ Some (sequence s) → KeyGiven m u e x fl s r → JudgesSyn t a strict r
+    syn-ao ef there em eu ee ex b =
+        let way : syn_is_md5 t pair ≡ false = ap (λ (f : Found). f.there) (sym (ef ∙ ap (md5_entry t) pairs)) ∙ there in
+        let missing = em ∙ ap (syn_missing_of t) pairs in
+        let unknown = eu ∙ ap (λ (p : Pair). syn_unknown_of t p strict) pairs in
+        let entry = ee ∙ (λ i. recv_entry t (pairs i) (key_id_of (syn-same i))) in
+        let place = ex ∙ ap (λ (z : List ℕ). Some (sequence z)) syn-same in
+        syn-keyed (subst BySyn (sym way)
+        (transport (λ i. KeyGiven (missing i) (unknown i) (entry i) (place i) (flow-is i) (syn-same i) r) b))

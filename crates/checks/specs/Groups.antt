@@ -12,13 +12,17 @@ use Rattle.rules.specs.declared.Connection.{Connection}
 use Rattle.octets.specs.Tests.{Test, test, tests, joined}
 use Rattle.rules.specs.Mac.{Flow}
 use Rattle.rules.specs.Connection.{Arrival, local_address, remote_address, is_open_of}
-use Rattle.rules.specs.Calls.{refuse, Groups}
+use Rattle.rules.specs.Calls.{refuse, length_tests, sum_tests, Groups}
 
 -- a number, or pass
 abbrev pub is_final : Outcome → Bool
 is_final (Good x r) = false
 is_final Passed = true
 is_final (Bad n i) = true
+
+-- 20, then 40: whether the segment came whole
+abbrev pub intact_tests : Arrival → List (Test Outcome)
+intact_tests a = length_tests 20 a.segment ++ sum_tests a
 
 -- The tests by a header that was read: of `header_of_lem n s` they are the crate `rules`' tests of s, by computation.
 abbrev pub option_tests : Option Seen → List (Test Outcome)

@@ -61,9 +61,13 @@ sign_lines room added there q h =
     fresh_lines h.options
     ++ (segment_lines q.conn h ++ output_lines room added there q.conn (place_on_lem q.conn q.sent h.sequence) h)
 
--- what they come to: what the segment is signed by where none applies, under the entry found
-abbrev pub signed : ℕ → Found → State → Header → Result Granted Outcome
-signed room f q h =
+-- what they come to: the position where none applies
+abbrev pub signed : ℕ → ℕ → Bool → State → Header → Result ℕ Outcome
+signed room added there q h = result_and (checked (sign_lines room added there q h)) (Ok (value (place_on_lem q.conn q.sent h.sequence)))
+
+-- under the entry found: what the segment is signed by where none applies
+abbrev pub granted_of : ℕ → Found → State → Header → Result Granted Outcome
+granted_of room f q h =
     result_and (checked (sign_lines room (added_on_lem q.conn f.entry) f.there q h))
     (Ok (record {
       position = value (place_on_lem q.conn q.sent h.sequence);

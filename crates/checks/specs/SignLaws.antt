@@ -11,7 +11,7 @@ use Rattle.octets.specs.Tests.{Test, first, checked}
 use Rattle.octets.specs.TestLaws.{checked-passed, checked-given}
 use Rattle.rules.specs.Connection.{place_on_lem, value}
 use Rattle.rules.specs.Calls.{outgoing, added_on_lem, check_sign}
-use Rattle.checks.specs.SignGroups.{input_tests, sign_lines, signed}
+use Rattle.checks.specs.SignGroups.{input_tests, sign_lines, granted_of}
 use Rattle.checks.specs.GroupLaws.{and-err, and-ok}
 use Rattle.checks.specs.declared.signing.Granted.{Granted}
 
@@ -34,10 +34,10 @@ module _ (t : Tables) (s : List ℕ) (room : ℕ) (q : State) where
     unfolding check_sign
     behind = checked-passed (input_tests t s q.conn) (first (lines (outgoing t q)) good) none
 
-    pub at-signing : {e : Outcome} → signed room (outgoing t q) q (header_of_lem (length s) s) ≡ Err e → check_sign t s room q ≡ e
+    pub at-signing : {e : Outcome} → granted_of room (outgoing t q) q (header_of_lem (length s) s) ≡ Err e → check_sign t s room q ≡ e
     at-signing n = behind ∙ checked-given (lines (outgoing t q)) good (and-err (checked (lines (outgoing t q))) _ n)
 
-    pub may-sign : {g : Granted} → signed room (outgoing t q) q (header_of_lem (length s) s) ≡ Ok g → check_sign t s room q ≡ Good g.position q.ask_id
+    pub may-sign : {g : Granted} → granted_of room (outgoing t q) q (header_of_lem (length s) s) ≡ Ok g → check_sign t s room q ≡ Good g.position q.ask_id
     may-sign n =
         let k = and-ok (checked (lines (outgoing t q))) _ n in
         behind ∙ checked-passed (lines (outgoing t q)) good k.0 ∙ ap (λ (g : Granted). Good g.position q.ask_id) k.1

@@ -11,10 +11,7 @@ ghost use Rattle.checks.specs.Groups.{arriving_on};
 ghost use Rattle.checks.specs.Begin.{Judges, JudgesSyn};
 
 use crate::begun::{Begun, by_key, by_md5, finished};
-use crate::faults::{
-    arrival_faults, form_faults, input_faults, refuse, state_faults, sum_faults, syn_faults,
-};
-use crate::segment::SizedSegment;
+use crate::faults::{early_faults, early_syn_faults, formed_faults, formed_syn_faults, refuse};
 use keys::entry::Pair;
 use keys::table::Hit;
 use rules::{Connection, LentArrival, Outcome};
@@ -67,12 +64,9 @@ pub fn begin(
 ) -> Result<Begun, Outcome>
     ensures { Judges tables.now conn reference arrival.now result }
 {
-    state_faults(tables, arrival, conn)?;
-    let segment = SizedSegment::read(arrival.segment, 20)?;
-    sum_faults(arrival)?;
+    let segment = early_faults(tables, arrival, conn)?;
     let header = segment.header();
-    form_faults(header.options)?;
-    arrival_faults(conn, arrival, header)?;
+    formed_faults(conn, arrival, header)?;
     let flow = arriving_flow(conn.pair, peer_isn(conn, header.sequence), conn.isn);
     if is_md5(conn) {
         return by_md5(tables.find_md5(conn.pair), flow, &segment);
@@ -143,12 +137,9 @@ pub fn begin_syn(
 ) -> Result<Begun, Outcome>
     ensures { JudgesSyn tables.now arrival.now strict result }
 {
-    input_faults(tables, arrival)?;
-    let segment = SizedSegment::read(arrival.segment, 20)?;
-    sum_faults(arrival)?;
+    let segment = early_syn_faults(tables, arrival)?;
     let header = segment.header();
-    form_faults(header.options)?;
-    syn_faults(header)?;
+    formed_syn_faults(header)?;
     let pair = arrival_pair(arrival);
     let flow = arriving_flow(pair, header.sequence, 0);
     let by_pair = tables.find_md5(pair);

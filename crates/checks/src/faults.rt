@@ -1,11 +1,13 @@
 // The tests that come before a key is looked at: document 01, "Numbers given back", 10 to 24, with 40 behind 20. One function for each
 // group of the crate `rules`: the first of its tests that applies is the error. Assumes nothing.
-ghost use Rattle.std.specs.Prelude.{◌≡◌, cond, not, ◌&&◌, ◌||◌, [], ◌∷◌, eqb};
+ghost use Rattle.std.specs.Prelude.{◌≡◌, cond, not, ◌&&◌, ◌||◌, [], ◌∷◌, ◌++◌, eqb, Ok};
+ghost use Rattle.std.specs.Result.{result_and};
 ghost use Rattle.octets.specs.Tests.{test, tests, checked};
 ghost use Rattle.rules.specs.Connection.{is_open_of};
 ghost use Rattle.rules.specs.Calls.{refuse as refuse_of, family_tests, address_tests, table_tests, input_tests, state_tests, sum_tests};
-ghost use Rattle.checks.specs.Groups.{option_tests, header_pair_tests, header_syn_tests, header_arrival_tests};
+ghost use Rattle.checks.specs.Groups.{intact_tests, option_tests, header_pair_tests, header_syn_tests, header_arrival_tests};
 
+use crate::segment::SizedSegment;
 use keys::entry::Pair;
 use rules::{Connection, LentArrival, NO_INDEX, Outcome};
 use states::writers::{is_address, is_open};
@@ -52,10 +54,7 @@ pub fn address_faults(a: &[u8], b: &[u8]) -> Result<(), Outcome>
 }
 
 // Without a state: 19, then the table's number.
-pub(crate) fn input_faults(
-    tables: &LentTables<'_>,
-    arrival: &LentArrival<'_>,
-) -> Result<(), Outcome>
+fn input_faults(tables: &LentTables<'_>, arrival: &LentArrival<'_>) -> Result<(), Outcome>
     ensures { result ≡ checked (input_tests tables.now arrival.now.source arrival.now.destination) }
 {
     address_faults(arrival.source, arrival.destination)?;
@@ -63,7 +62,7 @@ pub(crate) fn input_faults(
 }
 
 // With a state: 18 before 19.
-pub(crate) fn state_faults(
+fn state_faults(
     tables: &LentTables<'_>,
     arrival: &LentArrival<'_>,
     conn: Connection,
@@ -76,15 +75,24 @@ pub(crate) fn state_faults(
 
 // 40: "one's complement sum, pseudo-header and checksum included, is not FFFF", between the addresses that came. The sum is of at most
 // 65,535 bytes: 20 stands before it.
-pub(crate) fn sum_faults(arrival: &LentArrival<'_>) -> Result<(), Outcome>
+fn sum_faults(arrival: &LentArrival<'_>) -> Result<(), Outcome>
     ensures { result ≡ checked (sum_tests arrival.now) }
 {
     let sum = traffic::sums::segment_sum(arrival.source, arrival.destination, arrival.segment);
     refuse_where(sum != 65535, 40)
 }
 
+// 20, then 40; else the segment, sized.
+fn intact_faults<'a>(arrival: &LentArrival<'a>) -> Result<SizedSegment<'a>, Outcome>
+    ensures { result ≡ result_and (checked (intact_tests arrival.now)) (Ok arrival.now.segment) }
+{
+    let segment = SizedSegment::read(arrival.segment, 20)?;
+    sum_faults(arrival)?;
+    Ok(segment)
+}
+
 // 21: "malformed options"; 22: "two TCP-AO, or TCP-AO and MD5 together"; Ticket 9: "Two kind 19 give 22".
-pub(crate) fn form_faults(options: Option<Seen>) -> Result<(), Outcome>
+fn form_faults(options: Option<Seen>) -> Result<(), Outcome>
     ensures { result ≡ checked (option_tests options) }
 {
     let seen = options.ok_or(refuse(21))?;
@@ -145,14 +153,14 @@ pub(crate) fn stage_faults(
 }
 
 // 24 without a state: anything but a bare SYN.
-pub(crate) fn syn_faults(header: Header) -> Result<(), Outcome>
+fn syn_faults(header: Header) -> Result<(), Outcome>
     ensures { result ≡ checked (header_syn_tests header) }
 {
     refuse_where(!bare_syn(header), 24)
 }
 
 // 23, then 24. What opens an opening connection is a SYN with ACK.
-pub(crate) fn arrival_faults(
+fn arrival_faults(
     conn: Connection,
     arrival: &LentArrival<'_>,
     header: Header,
@@ -161,4 +169,54 @@ pub(crate) fn arrival_faults(
 {
     pair_faults(conn.pair, arrival.source, arrival.destination, header)?;
     stage_faults(24, conn, header, header.syn && header.ack)
+}
+
+// With a state, up to 40: the input, and the segment's size and sum; else the segment, sized.
+pub fn early_faults<'a>(
+    tables: &LentTables<'_>,
+    arrival: &LentArrival<'a>,
+    conn: Connection,
+) -> Result<SizedSegment<'a>, Outcome>
+    ensures { result
+        ≡ result_and
+        (checked (state_tests tables.now arrival.now.source arrival.now.destination conn ++ intact_tests arrival.now))
+        (Ok arrival.now.segment) }
+{
+    state_faults(tables, arrival, conn)?;
+    intact_faults(arrival)
+}
+
+// 21 to 24: form, pair and stage.
+pub fn formed_faults(
+    conn: Connection,
+    arrival: &LentArrival<'_>,
+    header: Header,
+) -> Result<(), Outcome>
+    ensures { result
+        ≡ checked
+        (option_tests header.options ++ header_arrival_tests conn arrival.now.source arrival.now.destination header) }
+{
+    form_faults(header.options)?;
+    arrival_faults(conn, arrival, header)
+}
+
+// The same without a state.
+pub fn early_syn_faults<'a>(
+    tables: &LentTables<'_>,
+    arrival: &LentArrival<'a>,
+) -> Result<SizedSegment<'a>, Outcome>
+    ensures { result
+        ≡ result_and
+        (checked (input_tests tables.now arrival.now.source arrival.now.destination ++ intact_tests arrival.now))
+        (Ok arrival.now.segment) }
+{
+    input_faults(tables, arrival)?;
+    intact_faults(arrival)
+}
+
+pub fn formed_syn_faults(header: Header) -> Result<(), Outcome>
+    ensures { result ≡ checked (option_tests header.options ++ header_syn_tests header) }
+{
+    form_faults(header.options)?;
+    syn_faults(header)
 }

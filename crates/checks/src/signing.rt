@@ -8,7 +8,8 @@ ghost use Rattle.keys.specs.Table.{found_of};
 ghost use Rattle.rules.specs.Segment.{option_bytes, md5_option_bytes};
 ghost use Rattle.rules.specs.Connection.{is_md5_of, value};
 ghost use Rattle.rules.specs.Calls.{refuse as refuse_of};
-ghost use Rattle.checks.specs.SignGroups.{input_tests, fresh_lines, growth_lines, segment_lines, place_lines, output_lines, signed};
+ghost use Rattle.checks.specs.SignGroups.{input_tests, fresh_lines, growth_lines, segment_lines, place_lines, output_lines};
+ghost use Rattle.checks.specs.SignGroups.{signed, granted_of};
 
 use crate::faults::{
     bare_syn, family_faults, port_faults, refuse, refuse_where, stage_faults, table_faults,
@@ -101,28 +102,58 @@ fn room_faults(room: usize, added: u16, len: usize) -> Result<(), Outcome>
     refuse_where(room < more || room - more < len, 37)
 }
 
-// 31, 33 to 35, 32, 36 and 37, behind the input's: `found` is the outgoing key's entry, `room` the output's length.
-#[tactic(auto, unfolding(keys::specs::Table::nobody))]
+// 31, 33 to 35, 32, 36 and 37, behind the input's; else the position. `added` is what signing adds under the outgoing key's entry, `there`
+// whether there is one, `room` the output's length.
 pub fn sign_faults(
+    room: usize,
+    added: u16,
+    there: bool,
+    state: State,
+    header: Header,
+) -> Result<u64, Outcome>
+    ensures { result ≡ signed room added there state header }
+{
+    let conn = state.conn;
+    fresh_faults(header.options)?;
+    segment_faults(conn, header)?;
+    refuse_where(!there, 35)?;
+    growth_faults(added, header.end, header.len)?;
+    let place = place_on(conn, state.sent, header.sequence);
+    let position = place_faults(conn, place, header.syn)?;
+    room_faults(room, added, header.len)?;
+    Ok(position)
+}
+
+// The secret of the entry found; without one that of no entry, under which nothing is signed: 35.
+#[tactic(auto, unfolding(keys::specs::Table::nobody))]
+fn secret_of(found: Option<Hit>) -> Secret
+    ensures { result ≡ (found_of found).entry.secret }
+{
+    match found {
+        Some(hit) => hit.entry.secret,
+        None => Secret {
+            flags: 0,
+            algorithm: 0,
+            mac_bytes: 0,
+            key_len: 0,
+            key: [0; 80],
+        },
+    }
+}
+
+// The same tests under the entry found for the outgoing key, with what its option adds; else what the segment is signed by.
+#[tactic(auto, using(crate::proofs::Keyed::there_is))]
+pub fn grant(
     room: usize,
     found: Option<Hit>,
     state: State,
     header: Header,
 ) -> Result<Granted, Outcome>
-    ensures { result ≡ signed room (found_of found) state header }
+    ensures { result ≡ granted_of room (found_of found) state header }
 {
-    let conn = state.conn;
-    fresh_faults(header.options)?;
-    segment_faults(conn, header)?;
-    let Some(hit) = found else {
-        return Err(refuse(35));
-    };
-    let secret = hit.entry.secret;
-    let added = added_on(conn, secret.mac_bytes);
-    growth_faults(added, header.end, header.len)?;
-    let place = place_on(conn, state.sent, header.sequence);
-    let position = place_faults(conn, place, header.syn)?;
-    room_faults(room, added, header.len)?;
+    let secret = secret_of(found);
+    let added = added_on(state.conn, secret.mac_bytes);
+    let position = sign_faults(room, added, found.is_some(), state, header)?;
     Ok(Granted {
         position,
         added,

@@ -34,7 +34,7 @@ use Rattle.rules.specs.Calls.{family_tests, table_tests, length_tests, after_sig
 use Rattle.rules.proofs.RoundTripLaws.{whole_words}
 use Rattle.rules.proofs.SigningLaws.{Signs, signs-good}
 use Rattle.checks.specs.GroupLaws.{is_final, refusal-final, and-err, and-ok}
-use Rattle.checks.specs.SignGroups.{input_tests, sign_lines, signed as granted_of}
+use Rattle.checks.specs.SignGroups.{input_tests, sign_lines, granted_of}
 use Rattle.checks.specs.SignLaws.{at-input, at-signing, may-sign}
 use Rattle.checks.specs.declared.signing.Granted.{Granted}
 use Rattle.tcpao.specs.SignedBytes.{ao_form, md5_form, form_of, added_by, Signable}

@@ -11,7 +11,7 @@ ghost use Rattle.tcpao.specs.SignBegin.{SignBegins, Writable, finished};
 
 use crate::open::refusal;
 use crate::sign_begun::{SignBegun, ready, ready_md5};
-use checks::signing::{input_faults, sign_faults};
+use checks::signing::{grant, input_faults};
 use keys::table::Hit;
 use rules::{Outcome, SignedSegment, State};
 use states::writers::{is_md5, is_open, with_sent};
@@ -42,7 +42,7 @@ pub fn begin(
     ensures { SignBegins tables.now segment.now room state result }
 {
     let sized = input_faults(tables, segment, state.conn)?;
-    let granted = sign_faults(room, outgoing(tables, state), state, sized.header())?;
+    let granted = grant(room, outgoing(tables, state), state, sized.header())?;
     if is_md5(state.conn) {
         return Ok(ready_md5(granted, state, &sized));
     }
