@@ -1,32 +1,61 @@
-// A file that is read whole. Assumes nothing.
-ghost use Rattle.std.specs.Prelude.{◌<◌, IfSome, vec_len};
+// A file that is read whole, into room that the caller lends. Assumes nothing.
+ghost use Rattle.std.specs.Prelude.{◌<◌, length, IfSome};
+ghost use Rattle.columns.specs.Counts.{IsPrefixLen};
 
-use std::fs;
-use std::io::{ErrorKind, Print, Read};
+use std::io::{Print, Read};
 use std::rt::Files;
+use std::{fs, str};
 
-// A text has fewer bytes.
-const TOO_LONG: usize = 65536;
-
-// The bytes of a file, where it is there, not too long and there is memory for it; else that is printed. Where a read fails the file ends.
-pub fn read<R: Files + Print + Alloc>(rt: &R, name: &str) -> Option<Vec<u8, R::A>>
-    ensures { IfSome result (λ text. vec_len text < 65536) }
+// Puts a file at the front of out and gives how many bytes it has. Where it is not there, or has not
+// fewer bytes than out, it says so and gives out's length. Where a read fails the file ends.
+// Kept (may not change): callers lend the buffer, of any length, and know a refusal by its length; nothing is allocated.
+pub fn read(rt: &(impl Files + Print), name: &[u8], out: &mut [u8]) -> usize
+    ensures { IsPrefixLen result out.new }
 {
-    let Ok(file) = fs::open(rt, name) else {
-        let _ = println!(rt; "{name} CANNOT BE OPENED");
-        return None;
+    let Some(mut file) = open(rt, name) else {
+        fault(rt, name, "CANNOT BE OPENED");
+        return out.len();
     };
-    let mut text = Vec::new(rt.alloc());
-    let taken = file.take(65536).read_to_end(&mut text);
-    if taken.is_err_and(|e| e.kind() == ErrorKind::OutOfMemory) {
-        let _ = println!(rt; "{name} DOES NOT FIT INTO MEMORY");
-        return None;
+    let n = fill(&mut file, out);
+    if n == out.len() {
+        fault(rt, name, "IS TOO LONG");
     }
-    if text.len() >= TOO_LONG {
-        let _ = println!(rt; "{name} IS TOO LONG");
-        return None;
+    n
+}
+
+// The bytes of a file, where it is there and has fewer than the room; else that is printed.
+pub fn text<'a>(rt: &(impl Files + Print), name: &str, room: &'a mut [u8]) -> Option<&'a [u8]>
+    ensures { IfSome result (λ text. length text.now < length room.old) }
+{
+    let n = read(rt, name.as_bytes(), room);
+    if n < room.len() {
+        Some(&room[..n])
+    } else {
+        None
     }
-    Some(text)
+}
+
+// A file's name is text: no other is opened.
+fn open<R: Files>(rt: &R, name: &[u8]) -> Option<R::File> {
+    fs::open(rt, str::from_utf8(name).ok()?).ok()
+}
+
+// Reads until out is full, the file ends or a read fails, and gives how many bytes it put at the front of out.
+// Kept (no plainer): a read says how many bytes it put, and the library fills no slice up to a file's end: `read_exact` is an error there.
+fn fill(file: &mut impl Read, out: &mut [u8]) -> usize
+    ensures { IsPrefixLen result out.new }
+{
+    let mut done = 0;
+    while let Ok(n @ 1..) = file.read(&mut out[done..]) {
+        done += n;
+    }
+    done
+}
+
+// A name that is no text is printed as it stands.
+fn fault(rt: &impl Print, name: &[u8], what: &str) {
+    let _ = rt.write_all(name);
+    let _ = println!(rt; " {what}");
 }
 
 #[cfg(test)]
@@ -37,9 +66,10 @@ mod tests {
     #[test]
     fn reads_a_file(rt: HostRuntime) -> Result<(), Fail> {
         fs::write(&rt, "columns_test.txt", "one\ntwo")?;
-        let text = read(&rt, "columns_test.txt").ok_or("not read")?;
+        let mut room = [0; 16];
+        let text = text(&rt, "columns_test.txt", &mut room).ok_or("not read")?;
         fs::remove_file(&rt, "columns_test.txt")?;
-        assert_eq!(rt; text.as_slice(), b"one\ntwo".as_slice());
+        assert_eq!(rt; text, b"one\ntwo".as_slice());
         Ok(())
     }
 }

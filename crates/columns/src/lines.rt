@@ -1,6 +1,6 @@
 // A text in lines, and a line in columns with one space between: what the vector files are made of. Assumes nothing.
 // A text is bytes and no `&str`: a line that cannot be read is printed as it stands, whatever is in it.
-ghost use Rattle.std.specs.Prelude.{◌≡◌, ℕ, suc, List, [], length, take, drop, ◌==◌, MatchOption};
+ghost use Rattle.std.specs.Prelude.{◌≡◌, ◌+◌, ◌≤◌, ℕ, suc, List, [], length, take, drop, ◌==◌, MatchOption};
 ghost use Rattle.columns.specs.Lines.{before, line_at, column as column_of, is_remark_of};
 ghost use Rattle.std.specs.Iterator.{at_most};
 
@@ -45,15 +45,26 @@ impl<'a> Iterator for Lines<'a> {
     }
 }
 
+// The index of the first b from `at` on, or the length where there is none.
+// Kept (may not change): the clause gives the length where there is none, since `before` counts every byte then.
+pub fn find(s: &[u8], at: usize, b: u8) -> usize
+    requires { at ≤ length s.now }
+    ensures value { result ≡ at + before b (drop at s.now) }
+    ensures lower_bound { (at ≤ result) × (result ≤ length s.now) }
+{
+    match s[at..].iter().position(|x| *x == b) {
+        Some(i) => at + i,
+        None => s.len(),
+    }
+}
+
 // What stands before the first b, and what stands behind it; the whole and nothing where there is none.
 fn cut(s: &[u8], b: u8) -> (&[u8], &[u8])
     ensures front { result.0.now ≡ take (before b s.now) s.now }
     ensures rest { result.1.now ≡ drop (suc (before b s.now)) s.now }
 {
-    match s.iter().position(|x| *x == b) {
-        Some(i) => (&s[..i], &s[i + 1..]),
-        None => (s, &[]),
-    }
+    let end = find(s, 0, b);
+    (&s[..end], s.get(end + 1..).unwrap_or_default())
 }
 
 // Column k of a line, counted from 0; empty where the line has fewer.
