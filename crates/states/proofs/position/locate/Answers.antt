@@ -10,6 +10,8 @@ returns-then-difference c =
     let n = numbered a.reference a.s e in
     record { place = n.0; number = n.1 }
 
+-- exactly half ahead there is none; an edit of must-fail/ gives an answer
+-- in the place of these lines, of the way out that it adds
 pub returns-then-difference-2 : goal.returns-then-difference-2
 returns-then-difference-2 c =
     let a = c.args in
