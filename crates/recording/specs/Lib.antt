@@ -3,4 +3,3 @@ pub mod Recording
 pub mod Views
 pub mod Held
 pub mod Live
-pub mod TextLaws

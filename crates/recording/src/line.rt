@@ -61,7 +61,7 @@ pub struct Text {
 impl Model for Text {
     ghost use Rattle.std.specs.Prelude.{ℕ, List, length, take, drop, replicate, ◌-◌, ◌≡◌, ◌≤◌};
     ghost use Rattle.octets.specs.Octets.{padded_of};
-    ghost use Rattle.recording.specs.TextLaws.{padded-back, length-back};
+    ghost use Rattle.octets.specs.PaddedLaws.{padded-back, length-back};
 
     ghost Value = { List ℕ };
 

@@ -4,4 +4,3 @@ pub mod MacContext
 pub mod MacContextLaws
 pub mod TagLaws
 pub mod DigestLaws
-pub mod AssembledLaws

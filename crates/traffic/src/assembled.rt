@@ -16,7 +16,7 @@ pub struct Assembled<const N: usize> {
 impl<const N: usize> Model for Assembled<N> {
     ghost use Rattle.std.specs.Prelude.{ℕ, List, length, take, drop, replicate, ◌-◌, ◌≡◌, ◌≤◌};
     ghost use Rattle.octets.specs.Octets.{padded_of};
-    ghost use Rattle.traffic.specs.AssembledLaws.{padded-back, length-back};
+    ghost use Rattle.octets.specs.PaddedLaws.{padded-back, length-back};
 
     ghost Value = { List ℕ };
 

@@ -1,7 +1,7 @@
 -- The part stands behind what was there, and zeros behind it.
 use Rattle.std.proofs.Common.{ℕ, ◌≡◌, ◌∙◌, ◌+◌, ◌-◌, ◌≤◌, ◌++◌, length, ap, sym, arith}
 use Rattle.std.proofs.lemmas.Slice.{take-put_mid}
-use Rattle.traffic.specs.AssembledLaws.{length-back}
+use Rattle.octets.specs.PaddedLaws.{length-back}
 use Rattle.traffic.proofs.Pieces.{written}
 use Rattle.traffic.proofs.assembled.Assembled.push.Goals as goal
 
