@@ -2,6 +2,7 @@
 // byte of the output written, and only the signed length's. The whole call is one begin, one piece of data and one end. Assumes nothing at
 // the call; the functions below it say what the tests left.
 ghost use Rattle.std.specs.Prelude.{◌≡◌, ◌++◌, ◌+◌, ◌≤◌, false, length};
+ghost use Rattle.std.proofs.Math.Seq.{paste};
 ghost use Rattle.keys.specs.Table.{found_of};
 ghost use Rattle.rules.specs.Answers.{signing_answer, signed_number};
 ghost use Rattle.rules.specs.Connection.{is_md5_of};
@@ -49,16 +50,25 @@ pub fn begin(
     Ok(ready(granted, state, &sized))
 }
 
+// The data, put into the output from `at` on.
+// Kept (C interface): nothing tells the compiler that the segment lies outside the output, so the library's copy of a slice becomes a call
+// of memmove, and from outside the archive needs only memcpy and memset.
+fn lay_data(out: &mut [u8], at: usize, data: &[u8])
+    requires { at + length «data».now ≤ length out.old }
+    ensures { out.new ≡ paste out.old at «data».now (length «data».now) }
+{
+    for i in 0..data.len() {
+        out[at + i] = data[i];
+    }
+}
+
 // The signed header, then the data: only these bytes of the output change.
-// It stays a function: taken into its caller, where nothing tells the compiler that the segment lies outside the output, the copy of the
-// data becomes a call of memmove, and the archive needs only memcpy and memset from outside.
-#[inline(never)]
 fn lay(out: &mut [u8], header: &[u8], data: &[u8])
     requires { length header.now + length «data».now ≤ length out.old }
     ensures { out.new ≡ written (header.now ++ «data».now) out.old }
 {
     octets::copy_at(out, 0, header);
-    octets::copy_at(out, header.len(), data);
+    lay_data(out, header.len(), data);
 }
 
 // Data and end, of a segment that is there whole, and its bytes written to the output's front.
