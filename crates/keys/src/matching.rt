@@ -39,41 +39,42 @@ pub fn matches(s: Selector, p: Pair) -> bool
 }
 
 // Whether a side of an entry has a port in common with another side. Its ports stand at `ports` of the entry's bytes.
-fn ports_meet(e: &[u8], ports: usize, b: &Side) -> bool
+fn ports_meet(e: &[u8], ports: usize, b: Side) -> bool
     requires { ports + 4 ≤ length e.now }
-    ensures { result ≡ leb (max (get16 e.now ports) b.now.low) (min (get16 e.now (ports + 2)) b.now.high) }
+    ensures { result ≡ leb (max (get16 e.now ports) b.low) (min (get16 e.now (ports + 2)) b.high) }
 {
     octets::load16(e, ports).max(b.low) <= octets::load16(e, ports + 2).min(b.high)
 }
 
 // Whether a side of an entry has an address in common with another side. Its address stands at `at` of the entry's bytes.
-// The side is lent: given by value it is copied for each comparison, its address by two stores, and the load of all sixteen bytes waits for
-// both. The loader's comparison of IPv6 addresses then took twice its time.
-fn addresses_meet(e: &[u8], family: u8, at: usize, b: &Side) -> bool
+// b's address is taken out of b first: within a whole side on the stack it is laid by two stores, the second of its last byte alone, and
+// a load of all sixteen waits for both. The loader's comparison of IPv6 addresses then took twice its time.
+fn addresses_meet(e: &[u8], family: u8, at: usize, b: Side) -> bool
     requires { at + width family + 1 ≤ length e.now }
-    ensures { result ≡ agree (min (fixed family (get_or e.now (at + width family) 0)) (fixed family b.now.bits))
-        (padded (take (width family) (drop at e.now))) b.now.address }
+    ensures { result ≡ agree (min (fixed family (get_or e.now (at + width family) 0)) (fixed family b.bits))
+        (padded (take (width family) (drop at e.now))) b.address }
 {
     let n = fixed_bits(family, e[at + width_of(family)]).min(fixed_bits(family, b.bits));
-    wire::prefix::agrees(&e[at..], &b.address, n)
+    let address = b.address;
+    wire::prefix::agrees(&e[at..], &address, n)
 }
 
 // Some socket pair is matched by the entry and by b. Nothing of the entry is copied, and ports are compared first: the loader asks this of
 // many pairs. It is taken into the loops of both its callers: left to the compiler it stayed apart with a second one, and the loader took
 // half as long again.
 #[inline(always)]
-pub(crate) fn overlaps(entry: &EntryBytes<'_>, b: &Selector) -> bool
-    ensures { result ≡ overlap entry.now.selector b.now }
+pub(crate) fn overlaps(entry: &EntryBytes<'_>, b: Selector) -> bool
+    ensures { result ≡ overlap entry.now.selector b }
 {
     let (family, other) = (entry.family(), b.family);
     if family != other {
         return false;
     }
     let e = entry.bytes;
-    ports_meet(e, 9, &b.remote)
-        && ports_meet(e, 5, &b.local)
-        && addresses_meet(e, family, 14 + width_of(family), &b.remote)
-        && addresses_meet(e, family, 13, &b.local)
+    ports_meet(e, 9, b.remote)
+        && ports_meet(e, 5, b.local)
+        && addresses_meet(e, family, 14 + width_of(family), b.remote)
+        && addresses_meet(e, family, 13, b.local)
 }
 
 #[tactic(auto, unfolding(crate::specs::Match::share))]

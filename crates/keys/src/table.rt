@@ -104,7 +104,7 @@ impl<'a> Iterator for Entries<'a> {
 fn clashes(entry: &EntryBytes<'_>, e: Entry) -> bool
     ensures { result ≡ clash entry.now e }
 {
-    shares(entry.ids(), e.ids) && overlaps(entry, &e.selector)
+    shares(entry.ids(), e.ids) && overlaps(entry, e.selector)
 }
 
 // Whether one of the first i entries clashes with e.
@@ -238,7 +238,7 @@ pub fn count(table: &[u8]) -> usize
 fn meets_any(table: &[u8], s: Selector) -> bool
     ensures { result ≡ any_of (meets s) (entries table.now) }
 {
-    Entries::of(table).any(|entry| overlaps(&entry, &s))
+    Entries::of(table).any(|entry| overlaps(&entry, s))
 }
 
 // The first entry of `table` that matches a pair which some entry of `others` matches too.

@@ -39,7 +39,7 @@ pub returns-then-addresses_meet : goal.returns-then-addresses_meet
 unfolding entry_of
 returns-then-addresses_meet c =
     let e = c.entry.inside.bytes.now in
-    let b = c.args.b.now in
+    let b = c.args.b in
     let f = c.family-family.result in
     let P = ports_meet_of e 9 b.remote in
     let Q = ports_meet_of e 5 b.local in
@@ -60,7 +60,7 @@ pub returns-else-addresses_meet : goal.returns-else-addresses_meet
 unfolding entry_of
 returns-else-addresses_meet c =
     let e = c.entry.inside.bytes.now in
-    let b = c.args.b.now in
+    let b = c.args.b in
     let f = c.family-family.result in
     let P = ports_meet_of e 9 b.remote in
     let Q = ports_meet_of e 5 b.local in
