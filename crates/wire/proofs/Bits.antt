@@ -134,6 +134,15 @@ agree-front a b n p e h =
     let k : p ≡ 8 * n + (p - 8 * n) = omega arith in
     rw k (sym (stays (8 * n) (p - 8 * n) a b e))
 
+-- a byte that differs decides, whatever stands before it
+pub agree-unlike : (a b : List ℕ) (i p x y : ℕ) → x < 256 → y < 256 → x ≡ get_or a i 0 → y ≡ get_or b i 0 → (x ≡ y → ⊥) → 8 * i + 8 ≤ p
+    → false ≡ agree p a b
+agree-unlike a b i p x y ha hb ea eb q h = go (agree (8 * i) a b) refl
+  where
+    go : (t : Bool) → agree (8 * i) a b ≡ t → false ≡ agree p a b
+    go true e = agree-not a b i p x y ha hb ea eb e q h
+    go false e = agree-front a b i p e (omega arith)
+
 -- a mask of the low bits
 pub one_shl : (k : ℕ) → k ≤ 8 → (1 * 2 ^ k) % 2 ^ 64 ≡ 2 ^ k
 one_shl k h = shl_exact 1 k 64 (omega arith) (omega arith) ∙ one-mul (2 ^ k)

@@ -16,13 +16,17 @@ fn byte_agrees(x: u8, y: u8, n: usize) -> bool
     p == q
 }
 
-// The first `bits` bits of two addresses are the same: first the bytes that both have, all of them, so that the compiler can take many at
-// once; then those that one lacks; then what is left of a byte.
+// The first `bits` bits of two addresses are the same. Addresses of one network mostly differ in their last whole byte, so it is looked at
+// first; then the bytes that both have, all of them, so that the compiler can take many at once; then those that one lacks; then what is
+// left of a byte.
 pub fn agrees(a: &[u8], b: &[u8], bits: u8) -> bool
     ensures { result ≡ agree bits a.now b.now }
 {
     let whole = (bits as usize) >> 3;
     let rest = (bits as usize) & 7;
+    if 0 < whole && byte_at(a, whole - 1) != byte_at(b, whole - 1) {
+        return false;
+    }
     let both = whole.min(a.len()).min(b.len());
     if !same_throughout(&a[..both], &b[..both]) {
         return false;
