@@ -7,9 +7,9 @@ ghost use Rattle.rules.specs.Connection.{empty};
 ghost use Rattle.rules.specs.Results.{settled_as};
 ghost use Rattle.states.specs.Layout.{state_bytes};
 ghost use Rattle.boundary.specs.Word.{word as word_of, of_settled};
-ghost use Rattle.boundary.specs.Exports.{answers, leaves, writes, fills, left_by, check_table_export, prepare_export, open_active_export};
-ghost use Rattle.boundary.specs.Exports.{open_active_md5_export, judge_syn_export, open_passive_export, judge_export, sign_export};
-ghost use Rattle.boundary.specs.Exports.{ask_export};
+ghost use Rattle.boundary.specs.Exports.{settles as settles_of, answers, leaves, writes, fills, left_by, check_table_export};
+ghost use Rattle.boundary.specs.Exports.{prepare_export, open_active_export, open_active_md5_export, judge_syn_export};
+ghost use Rattle.boundary.specs.Exports.{open_passive_export, judge_export, sign_export, ask_export};
 
 use crate::answer::{of_refusal, of_result, of_verdict, word};
 use rules::{LentArrival, State, Verdict};
@@ -109,6 +109,17 @@ pub fn judge_syn(tables: &LentTables<'_>, arrival: &LentArrival<'_>, setting: u8
     of_verdict(judged.verdict, judged.index)
 }
 
+// Whether a passive opening is not refused.
+fn settles(verdict: Verdict) -> bool
+    ensures { result ≡ settles_of verdict }
+{
+    match verdict {
+        Verdict::Accept(_) => true,
+        Verdict::Pass => true,
+        Verdict::Drop(_) => false,
+    }
+}
+
 // Judges the bare SYN again and, only on accept, opens. Writes the state that it opened, or the empty one where the SYN is only passed.
 pub fn open_passive(
     tables: &LentTables<'_>,
@@ -127,9 +138,8 @@ pub fn open_passive(
     }
     let _ = tables.parts();
     let opened = tcpao::judge::open_passive(tables, arrival, isn, setting != 0);
-    match opened.verdict {
-        Verdict::Accept(_) | Verdict::Pass => put(state, opened.state),
-        Verdict::Drop(_) => {}
+    if settles(opened.verdict) {
+        put(state, opened.state);
     }
     of_verdict(opened.verdict, opened.index)
 }

@@ -1,8 +1,6 @@
 -- `boundary::calls::open_passive` meets its contract.
-use Rattle.std.proofs.Common.{◌≡◌, ◌⊎◌, inl, inr, ℕ, Bool, true, List, cond, not, sym, ap, ◌∙◌}
+use Rattle.std.proofs.Common.{◌≡◌, ℕ, Bool, List, cond, not, sym, ap, ◌∙◌}
 use Rattle.rules.specs.declared.Judged.{Judged}
-use Rattle.rules.specs.declared.Verdict.{Verdict}
-use Rattle.rules.specs.declared.Verdict.TheVariants.{Accept, Pass}
 use Rattle.rules.specs.Calls.{opened_passively}
 use Rattle.states.specs.Layout.{encode_of}
 use Rattle.boundary.specs.Word.{of_judged}
@@ -10,7 +8,7 @@ use Rattle.boundary.specs.Exports.{open_passive_export, settles, strictly}
 use Rattle.boundary.proofs.Exported.{left, other, whole, refused, done}
 use Rattle.boundary.proofs.Lends.{opened-index}
 use Rattle.boundary.proofs.calls.open_passive.Goals as goal
-use Rattle.boundary.proofs.calls.open_passive.Goals.{in-Accept, in-Drop}
+use Rattle.boundary.proofs.calls.open_passive.Goals.{then-settles, else-settles}
 
 abbrev bytes : List ℕ → Judged → List ℕ
 bytes b j = cond (settles j.verdict) (encode_of j.state) b
@@ -26,18 +24,12 @@ returns-then-not-is_state c =
 pub of_verdict-requires : goal.of_verdict-requires
 of_verdict-requires c = opened-index _ _ _ _ c.parts.ensures _ _ _ _ c.open_passive-opened.ensures.answer
 
-settling : (v : Verdict) → ((x : ℕ) × (v ≡ Accept x)) ⊎ (v ≡ Pass) → settles v ≡ true
-settling v (inl (x, e)) = ap settles e
-settling v (inr e) = ap settles e
-
-written : (c : goal.After-of_verdict) → c.match-opened.state ≡ bytes c.args.state.now c.open_passive-opened.result
+written : (c : goal.After-of_verdict) → c.if-settles.state ≡ bytes c.args.state.now c.open_passive-opened.result
 written c =
-    elim c.match-opened.branch [
-      | in-Accept w ↦
-          w.state-is
-          ∙ (w.put.ensures
-          ∙ ap (λ (o : Bool). cond o (encode_of c.open_passive-opened.result.state) c.args.state.now) (sym (settling _ w.in-Accept.is)))
-      | in-Drop w ↦ w.state-is ∙ ap (λ (v : Verdict). cond (settles v) (encode_of c.open_passive-opened.result.state) c.args.state.now) (sym w.in-Drop.is)
+    let at : Bool → List ℕ = λ o. cond o (encode_of c.open_passive-opened.result.state) c.args.state.now in
+    elim c.if-settles.branch [
+      | then-settles w ↦ w.state-is ∙ (w.put.ensures ∙ ap at (sym w.if-settles.true ∙ c.settles.ensures))
+      | else-settles w ↦ w.state-is ∙ ap at (sym w.if-settles.false ∙ c.settles.ensures)
     ]
 
 pub returns : goal.returns
