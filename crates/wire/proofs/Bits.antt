@@ -48,7 +48,7 @@ more x n h =
     rw (e, pow-suc) (sym (div-div-eq-div-mul x (2 ^ (7 - n)) 2))
 
 module _ (a b : List ℕ) (i : ℕ) (ha : get_or a i 0 < 256) (hb : get_or b i 0 < 256) where
-  byte : (n : ℕ) → n ≤ 8 → agree (8 * i + n) a b ≡ (agree (8 * i) a b && top_equal n (get_or a i 0) (get_or b i 0))
+  pub byte : (n : ℕ) → n ≤ 8 → agree (8 * i + n) a b ≡ (agree (8 * i) a b && top_equal n (get_or a i 0) (get_or b i 0))
   unfolding agree
   byte zero h =
       let p : get_or a i 0 / 256 ≡ 0 = omega arith in

@@ -3,3 +3,4 @@ pub mod Bits
 pub mod Reading
 pub mod Same
 pub mod BytesLaws
+pub mod Words

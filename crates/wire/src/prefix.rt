@@ -16,12 +16,23 @@ fn byte_agrees(x: u8, y: u8, n: usize) -> bool
     p == q
 }
 
+// The whole of two IPv6 addresses is the same, by two words: the loader compares hosts with one another more than it does anything else.
+fn hosts_agree(a: &[u8], b: &[u8]) -> bool
+    requires { (16 ≤ length a.now) × (16 ≤ length b.now) }
+    ensures { result ≡ agree 128 a.now b.now }
+{
+    octets::load64(a, 0) == octets::load64(b, 0) && octets::load64(a, 8) == octets::load64(b, 8)
+}
+
 // The first `bits` bits of two addresses are the same. Addresses of one network mostly differ in their last whole byte, so it is looked at
 // first; then the bytes that both have, all of them, so that the compiler can take many at once; then those that one lacks; then what is
 // left of a byte.
 pub fn agrees(a: &[u8], b: &[u8], bits: u8) -> bool
     ensures { result ≡ agree bits a.now b.now }
 {
+    if bits == 128 && 16 <= a.len() && 16 <= b.len() {
+        return hosts_agree(a, b);
+    }
     let whole = (bits as usize) >> 3;
     let rest = (bits as usize) & 7;
     if 0 < whole && byte_at(a, whole - 1) != byte_at(b, whole - 1) {
