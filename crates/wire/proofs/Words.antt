@@ -1,6 +1,6 @@
 -- Words are equal exactly if their bytes are: what `prefix::hosts_agree` needs.
 -- Assumes of a byte that it is below 256.
-use Rattle.std.specs.Prelude.{ℕ, ◌+◌, ◌*◌, ◌/◌, ◌%◌, ◌^◌, ◌≤◌, ◌<◌, Bool, true, false, ◌&&◌, ◌≡◌, refl, List, get_or, eqb}
+use Rattle.std.specs.Prelude.{ℕ, ◌+◌, ◌*◌, ◌/◌, ◌%◌, ◌^◌, ◌<◌, Bool, true, false, ◌&&◌, ◌≡◌, refl, List, get_or, eqb}
 use Rattle.std.proofs.Common.{ap, sym, ◌∙◌, arith, ne_eqb, eq-eqb, eqb-true}
 use Rattle.std.proofs.lemmas.Bool.{eqb-false}
 use Rattle.std.proofs.lemmas.Nat.{div-mul-add, mod-mul-add}
@@ -28,7 +28,9 @@ four : (a b c d w x y z : ℕ) → b < 256 → c < 256 → d < 256 → x < 256 �
 four a b c d w x y z hb hc hd hx hy hz =
     let m : be32 a b c d ≡ ((a * 256 + b) * 256 + c) * 256 + d = omega arith in
     let n : be32 w x y z ≡ ((w * 256 + x) * 256 + y) * 256 + z = omega arith in
-    rw (m, n, parts 256 ((a * 256 + b) * 256 + c) d ((w * 256 + x) * 256 + y) z hd hz, parts 256 (a * 256 + b) c (w * 256 + x) y hc hy, parts 256 a b w x hb hx) refl
+    let last = parts 256 ((a * 256 + b) * 256 + c) d ((w * 256 + x) * 256 + y) z hd hz in
+    let third = parts 256 (a * 256 + b) c (w * 256 + x) y hc hy in
+    rw (m, n, last, third, parts 256 a b w x hb hx) refl
 
 module _ (a b : List ℕ) (o : Octets a) (q : Octets b) where
   -- the bits of one byte more
@@ -42,11 +44,10 @@ module _ (a b : List ℕ) (o : Octets a) (q : Octets b) where
       let e2 : 8 * (i + 1) + 8 ≡ 8 * (i + 2) = omega arith in
       let e3 : 8 * (i + 2) + 8 ≡ 8 * (i + 3) = omega arith in
       let e4 : 8 * i + 32 ≡ 8 * (i + 3) + 8 = omega arith in
-      let x = get_or a in
       rw (e4, next (i + 3), ← e3, next (i + 2), ← e2, next (i + 1), ← e1, next i)
       (grouped (agree (8 * i) a b) _ _ _ _
-       ∙ ap (λ (t : Bool). agree (8 * i) a b && t)
-       (four _ _ _ _ _ _ _ _ (o (i + 1)) (o (i + 2)) (o (i + 3)) (q (i + 1)) (q (i + 2)) (q (i + 3))))
+      ∙ ap (λ (t : Bool). agree (8 * i) a b && t)
+      (four _ _ _ _ _ _ _ _ (o (i + 1)) (o (i + 2)) (o (i + 3)) (q (i + 1)) (q (i + 2)) (q (i + 3))))
     where
       grouped : (g r s t u : Bool) → ((((g && r) && s) && t) && u) ≡ (g && (((r && s) && t) && u))
       grouped true r s t u = refl
@@ -61,16 +62,22 @@ module _ (a b : List ℕ) (o : Octets a) (q : Octets b) where
       let k : get32 b (i + 4) < 2 ^ 32 = omega (arith, q (i + 4), q (i + 4 + 1), q (i + 4 + 2), q (i + 4 + 3)) in
       rw (e2, word (i + 4), ← e1, word i)
       (regroup (agree (8 * i) a b) _ _
-       ∙ ap (λ (t : Bool). agree (8 * i) a b && t)
-       (sym (parts (2 ^ 32) (get32 a i) (get32 a (i + 4)) (get32 b i) (get32 b (i + 4)) h k)))
+      ∙ ap (λ (t : Bool). agree (8 * i) a b && t)
+      (sym (parts (2 ^ 32) (get32 a i) (get32 a (i + 4)) (get32 b i) (get32 b (i + 4)) h k)))
 
 -- both words decide all 128 bits. In the code's words: x and y are the first words, u and v the second ones.
 module _ (a b : List ℕ) (o : Octets a) (q : Octets b) where
   words : agree 128 a b ≡ (eqb (get64 a 0) (get64 b 0) && eqb (get64 a 8) (get64 b 8))
-  words = long a b o q 8 ∙ ap (λ (t : Bool). t && eqb (get64 a 8) (get64 b 8)) (long a b o q 0 ∙ ap (λ (t : Bool). t && eqb (get64 a 0) (get64 b 0)) (none a b))
+  words =
+      long a b o q 8
+      ∙ ap (λ (t : Bool). t && eqb (get64 a 8) (get64 b 8))
+      (long a b o q 0 ∙ ap (λ (t : Bool). t && eqb (get64 a 0) (get64 b 0)) (none a b))
 
   pub agree-second : (x y u v : ℕ) → x ≡ get64 a 0 → y ≡ get64 b 0 → u ≡ get64 a 8 → v ≡ get64 b 8 → x ≡ y → eqb u v ≡ agree 128 a b
-  agree-second x y u v e f g h r = sym (words ∙ rw (← g, ← h, ← e, ← f, r) (ap (λ (t : Bool). t && eqb u v) (eq-eqb y y refl)))
+  agree-second x y u v e f g h r =
+      sym (words ∙ rw (← g, ← h, ← e, ← f, r) (ap (λ (t : Bool). t && eqb u v) (eq-eqb y y refl)))
 
   pub agree-first : (x y : ℕ) → x ≡ get64 a 0 → y ≡ get64 b 0 → (x ≡ y → ⊥) → eqb x y ≡ agree 128 a b
-  agree-first x y e f r = ne_eqb x y r ∙ sym (words ∙ rw (← e, ← f) (ap (λ (t : Bool). t && eqb (get64 a 8) (get64 b 8)) (ne_eqb x y r)))
+  agree-first x y e f r =
+      ne_eqb x y r
+      ∙ sym (words ∙ rw (← e, ← f) (ap (λ (t : Bool). t && eqb (get64 a 8) (get64 b 8)) (ne_eqb x y r)))

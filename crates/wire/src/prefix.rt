@@ -16,7 +16,7 @@ fn byte_agrees(x: u8, y: u8, n: usize) -> bool
     p == q
 }
 
-// The whole of two IPv6 addresses is the same, by two words: the loader compares hosts with one another more than it does anything else.
+// All bits of two IPv6 addresses are the same, by two words: the loader compares every host with those before it that share an ID.
 fn hosts_agree(a: &[u8], b: &[u8]) -> bool
     requires { (16 ≤ length a.now) × (16 ≤ length b.now) }
     ensures { result ≡ agree 128 a.now b.now }
