@@ -47,9 +47,9 @@ fn ports_meet(e: &[u8], ports: usize, b: Side) -> bool
 }
 
 // Whether a side of an entry has an address in common with another side. Its address stands at `at` of the entry's bytes.
-// b's address is taken out of b first: within a whole side on the stack it is laid by two stores, the second of its last byte alone, and
-// a load of all sixteen waits for both. The loader's comparison of IPv6 addresses then took twice its time. It is taken into `overlaps`:
-// apart, a whole side was copied for each call.
+// b's address is taken out of b first: within a whole side on the stack it was laid by two stores, the second of its last byte alone, and
+// a load of all sixteen waited for both, so that the loader took twice its time over IPv6 addresses. The function is taken into
+// `overlaps`: apart, a whole side was copied for each call.
 #[inline(always)]
 fn addresses_meet(e: &[u8], family: u8, at: usize, b: Side) -> bool
     requires { at + width family + 1 ≤ length e.now }

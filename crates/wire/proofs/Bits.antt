@@ -33,7 +33,7 @@ halves2 u v false q e f = sym (ne_eqb u v (λ q. eqb-false (u / 2) (v / 2) e (ap
 halves : (u v : ℕ) → (eqb (u / 2) (v / 2) && eqb (u % 2) (v % 2)) ≡ eqb u v
 halves u v = halves2 u v (eqb (u / 2) (v / 2)) (eqb (u % 2) (v % 2)) refl refl
 
-regroup : (x p q : Bool) → ((x && p) && q) ≡ (x && (p && q))
+pub regroup : (x p q : Bool) → ((x && p) && q) ≡ (x && (p && q))
 regroup true p q = refl
 regroup false p q = refl
 

@@ -8,7 +8,7 @@ use Rattle.std.proofs.Math.Nat.{div-one}
 use Rattle.octets.specs.Octets.{be32, get32, get64}
 use Rattle.octets.specs.Each.{Octets}
 use Rattle.wire.specs.Prefix.{agree}
-use Rattle.wire.proofs.Bits.{byte, none}
+use Rattle.wire.proofs.Bits.{byte, none, regroup}
 
 -- two numbers of one low part below m and a high part
 parts : (m x y u v : ℕ) → y < m → v < m → eqb (x * m + y) (u * m + v) ≡ (eqb x u && eqb y v)
@@ -17,10 +17,6 @@ parts m x y u v h k = go (eqb x u) (eqb y v) refl refl where
   go true true e f = rw (eqb-true x u e, eqb-true y v f) (eq-eqb (u * m + v) (u * m + v) refl)
   go true false e f = ne_eqb _ _ (λ s. eqb-false y v f (sym (mod-mul-add x m y h) ∙ ap (λ (n : ℕ). n % m) s ∙ mod-mul-add u m v k))
   go false q e f = ne_eqb _ _ (λ s. eqb-false x u e (sym (div-mul-add x m y h) ∙ ap (λ (n : ℕ). n / m) s ∙ div-mul-add u m v k))
-
-regroup : (x p q : Bool) → ((x && p) && q) ≡ (x && (p && q))
-regroup true p q = refl
-regroup false p q = refl
 
 -- a word's bytes, one behind another
 four : (a b c d w x y z : ℕ) → b < 256 → c < 256 → d < 256 → x < 256 → y < 256 → z < 256

@@ -24,9 +24,9 @@ fn hosts_agree(a: &[u8], b: &[u8]) -> bool
     octets::load64(a, 0) == octets::load64(b, 0) && octets::load64(a, 8) == octets::load64(b, 8)
 }
 
-// The first `bits` bits of two addresses are the same. Addresses of one network mostly differ in their last whole byte, so it is looked at
-// first; then the bytes that both have, all of them, so that the compiler can take many at once; then those that one lacks; then what is
-// left of a byte.
+// The first `bits` bits of two addresses are the same. Two whole IPv6 addresses are compared by words. Others of one network mostly differ
+// in their last whole byte, so it is looked at first; then the bytes that both have, all of them, so that the compiler can take many at
+// once; then those that one lacks; then what is left of a byte.
 pub fn agrees(a: &[u8], b: &[u8], bits: u8) -> bool
     ensures { result ≡ agree bits a.now b.now }
 {
