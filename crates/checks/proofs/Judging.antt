@@ -25,12 +25,12 @@ use Rattle.rules.specs.Position.{Place}
 use Rattle.rules.specs.declared.Connection.{Connection}
 use Rattle.rules.specs.declared.Outcome.{Outcome}
 use Rattle.octets.specs.Tests.{Test, first, checked}
-use Rattle.octets.specs.TestLaws.{NoneApplies, first-append, each_gives, checked-none, none-split}
+use Rattle.octets.specs.TestLaws.{NoneApplies, first-append, each_gives, checked-none, checked-append, none-split}
 use Rattle.rules.specs.Mac.{Flow}
 use Rattle.rules.specs.Segment.{key_id_of}
 use Rattle.rules.specs.Connection.{Arrival, sized, arrival_pair_of, arriving, arriving_syn, place_on_lem, is_md5_of}
 use Rattle.rules.specs.Calls.{is_refused, refuse, Groups, judge_groups, syn_groups, key_tests, md5_tests, good_by, address_tests, table_tests}
-use Rattle.rules.specs.Calls.{input_tests, state_tests, family_tests, syn_missing_of, syn_unknown_of, syn_is_md5}
+use Rattle.rules.specs.Calls.{input_tests, state_tests, family_tests, length_tests, sum_tests, syn_missing_of, syn_unknown_of, syn_is_md5}
 use Rattle.rules.proofs.PositionLaws.{place-md5}
 use Rattle.checks.specs.Groups.{intact_tests, option_tests, header_arrival_tests, header_syn_tests, until_mac, arriving_on}
 use Rattle.checks.specs.GroupLaws.{is_final, and-ok, and-err, refusal-final}
@@ -104,11 +104,22 @@ Md5Given f n fl s r = Begins (first (md5_tests f s) (good_by true (Some n) s)) (
 
 -- 19 lets by addresses of one size, and the tables are not refused
 module _ (t : Tables) (a b : List ℕ) (n : NoneApplies (input_tests t a b)) where
-  input-sized : sized a b ≡ true
-  input-sized = not-false (sized a b) n.0
+  none-sized : sized a b ≡ true
+  none-sized = not-false (sized a b) n.0
 
-  input-valid : is_refused t.answer ≡ false
-  input-valid = (none-split (address_tests a b) (table_tests t) n).1.0
+  none-valid : is_refused t.answer ≡ false
+  none-valid = (none-split (address_tests a b) (table_tests t) n).1.0
+
+-- the same of the input's tests as the code asks them
+module _ (t : Tables) (a b : List ℕ) (n : checked (input_tests t a b) ≡ Ok tt) where
+  pub input-sized : sized a b ≡ true
+  input-sized = none-sized t a b (checked-none (input_tests t a b) n)
+
+  pub input-valid : is_refused t.answer ≡ false
+  input-valid = none-valid t a b (checked-none (input_tests t a b) n)
+
+pub state-valid : (t : Tables) (a b : List ℕ) (l : Connection) → checked (state_tests t a b l) ≡ Ok tt → is_refused t.answer ≡ false
+state-valid t a b l n = none-valid t a b (none-split (family_tests l) (input_tests t a b) (checked-none (state_tests t a b l) n)).1
 
 -- With a state. The segment that was read is the one that came.
 module _ (t : Tables) (l : Connection) (reference : ℕ) (a : Arrival) {s : List ℕ} {h : Header}
@@ -141,7 +152,7 @@ module _ (t : Tables) (l : Connection) (reference : ℕ) (a : Arrival) {s : List
   pub judge-valid : is_refused t.answer ≡ false
   judge-valid =
       let state = (none-split (state_tests t a.source a.destination l) (intact_tests a) (checked-none early_tests n1)).0 in
-      input-valid t a.source a.destination (none-split (family_tests l) (input_tests t a.source a.destination) state).1
+      none-valid t a.source a.destination (none-split (family_tests l) (input_tests t a.source a.destination) state).1
 
   pub judge-formed : {e : Outcome} → Err e ≡ checked (formed_tests h) → Judges t l reference a (Err e)
   judge-formed {e} n = at-formed groups answer (expected t l a.segment) n1 refl (formed-is (Err e) n)
@@ -160,9 +171,9 @@ module _ (t : Tables) (l : Connection) (reference : ℕ) (a : Arrival) {s : List
     keyed : By (is_md5_of l) → Judges t l reference a r
     keyed b = at-key groups answer (expected t l a.segment) n1 r (formed-is (Ok tt) n2) b
 
-    pub judge-md5 : is_md5_of l ≡ true → {f : Found} {fl : Flow} → f ≡ md5_entry t l.pair → fl ≡ arriving l s → Md5Given f (sequence s) fl s r
+    pub judge-by-md5 : is_md5_of l ≡ true → {f : Found} {fl : Flow} → f ≡ md5_entry t l.pair → fl ≡ arriving l s → Md5Given f (sequence s) fl s r
         → Judges t l reference a r
-    judge-md5 way ef efl b =
+    judge-by-md5 way ef efl b =
         let flow = efl ∙ ap (arriving l) same in
         let moved : Md5Given (md5_entry t l.pair) (sequence a.segment) (arriving l a.segment) a.segment r =
         transport (λ i. Md5Given (ef i) (sequence (same i)) (flow i) (same i) r) b in
@@ -170,10 +181,10 @@ module _ (t : Tables) (l : Connection) (reference : ℕ) (a : Arrival) {s : List
         (transport (λ i. Begins (first (md5_tests (md5_entry t l.pair) a.segment) (good_by true (sym (place-md5 l reference (sequence a.segment) way) i) a.segment))
         (by_md5_of (md5_entry t l.pair).entry (arriving l a.segment) a.segment) r) moved))
 
-    pub judge-ao : is_md5_of l ≡ false → {m u : Outcome} {f : Found} {x : Place} {fl : Flow} → m ≡ refuse 25 → u ≡ refuse 26
+    pub judge-by-ao : is_md5_of l ≡ false → {m u : Outcome} {f : Found} {x : Place} {fl : Flow} → m ≡ refuse 25 → u ≡ refuse 26
         → f ≡ recv_entry t l.pair (key_id_of s) → x ≡ place_on_lem l reference (sequence s) → fl ≡ arriving l s → KeyGiven m u f x fl s r
         → Judges t l reference a r
-    judge-ao way em eu ef ex efl b =
+    judge-by-ao way em eu ef ex efl b =
         let flow = efl ∙ ap (arriving l) same in
         let entry = ef ∙ ap (λ (z : List ℕ). recv_entry t l.pair (key_id_of z)) same in
         let place = ex ∙ ap (λ (z : List ℕ). place_on_lem l reference (sequence z)) same in
@@ -233,10 +244,10 @@ module _ (t : Tables) (a : Arrival) (strict : Bool) {s : List ℕ} {h : Header}
   syn-input = (none-split (input_tests t a.source a.destination) (intact_tests a) (checked-none syn_early_tests syn-n1)).0
 
   syn-sized : sized a.source a.destination ≡ true
-  syn-sized = input-sized t a.source a.destination syn-input
+  syn-sized = none-sized t a.source a.destination syn-input
 
   pub syn-valid : is_refused t.answer ≡ false
-  syn-valid = input-valid t a.source a.destination syn-input
+  syn-valid = none-valid t a.source a.destination syn-input
 
   syn-header : h ≡ header_of_lem (length a.segment) a.segment
   syn-header = read ∙ ap (λ (z : List ℕ). header_of_lem (length z) z) syn-same
@@ -271,15 +282,15 @@ module _ (t : Tables) (a : Arrival) (strict : Bool) {s : List ℕ} {h : Header}
     syn-keyed : BySyn (syn_is_md5 t pair) → JudgesSyn t a strict r
     syn-keyed b = at-key syn_group syn_answer syn_expected syn-n1 r (syn-formed-is (Ok tt) n2) b
 
-    pub syn-md5 : {f : Found} → f ≡ md5_entry t p → f.there ≡ true → Md5Given f (sequence s) fl s r → JudgesSyn t a strict r
-    syn-md5 ef there b =
+    pub syn-by-md5 : {f : Found} → f ≡ md5_entry t p → f.there ≡ true → Md5Given f (sequence s) fl s r → JudgesSyn t a strict r
+    syn-by-md5 ef there b =
         let entry = ef ∙ ap (md5_entry t) pairs in
         let way : syn_is_md5 t pair ≡ true = ap (λ (f : Found). f.there) (sym entry) ∙ there in
         syn-keyed (subst BySyn (sym way) (transport (λ i. Md5Given (entry i) (sequence (syn-same i)) (flow-is i) (syn-same i) r) b))
 
-    pub syn-ao : {f : Found} → f ≡ md5_entry t p → f.there ≡ false → {m u : Outcome} {e : Found} {x : Place} → m ≡ syn_missing_of t p
+    pub syn-by-ao : {f : Found} → f ≡ md5_entry t p → f.there ≡ false → {m u : Outcome} {e : Found} {x : Place} → m ≡ syn_missing_of t p
         → u ≡ syn_unknown_of t p strict → e ≡ recv_entry t p (key_id_of s) → x ≡ Some (sequence s) → KeyGiven m u e x fl s r → JudgesSyn t a strict r
-    syn-ao ef there em eu ee ex b =
+    syn-by-ao ef there em eu ee ex b =
         let way : syn_is_md5 t pair ≡ false = ap (λ (f : Found). f.there) (sym (ef ∙ ap (md5_entry t) pairs)) ∙ there in
         let missing = em ∙ ap (syn_missing_of t) pairs in
         let unknown = eu ∙ ap (λ (p : Pair). syn_unknown_of t p strict) pairs in
@@ -287,3 +298,76 @@ module _ (t : Tables) (a : Arrival) (strict : Bool) {s : List ℕ} {h : Header}
         let place = ex ∙ ap (λ (z : List ℕ). Some (sequence z)) syn-same in
         syn-keyed (subst BySyn (sym way)
         (transport (λ i. KeyGiven (missing i) (unknown i) (entry i) (place i) (flow-is i) (syn-same i) r) b))
+
+-- The laws above by the single groups, for a caller that asks these one by one: what the groups come to at the seams.
+
+-- the input's tests, the size and the sum passed one by one: the first seam is passed
+early-is : (g : List (Test Outcome)) (a : Arrival) {s : List ℕ} → checked g ≡ Ok tt
+    → result_and (checked (length_tests 20 a.segment)) (Ok a.segment) ≡ Ok s → checked (sum_tests a) ≡ Ok tt
+    → Ok s ≡ result_and (checked (g ++ intact_tests a)) (Ok a.segment)
+early-is g a {s} n size sum =
+    let k = and-ok (checked (length_tests 20 a.segment)) a.segment size in
+    rw (checked-append g (intact_tests a), n, checked-append (length_tests 20 a.segment) (sum_tests a), k.0, sum) (ap Ok (sym k.1))
+
+-- an error of the first of two groups, and what the second gives where the first lets by
+at-first : (f g : List (Test Outcome)) {e : Outcome} → Err e ≡ checked f → Err e ≡ checked (f ++ g)
+at-first f g n = rw (checked-append f g, ← n) refl
+
+at-second : (f g : List (Test Outcome)) (r : Result Unit Outcome) → Ok tt ≡ checked f → r ≡ checked g → r ≡ checked (f ++ g)
+at-second f g r n m = rw (checked-append f g, ← n) m
+
+-- With a state.
+module _ (t : Tables) (l : Connection) (reference : ℕ) (a : Arrival) {s : List ℕ} {h : Header}
+    (size : result_and (checked (length_tests 20 a.segment)) (Ok a.segment) ≡ Ok s) (read : h ≡ header_of_lem (length s) s)
+    (n1 : checked (state_tests t a.source a.destination l) ≡ Ok tt) (n3 : checked (sum_tests a) ≡ Ok tt) where
+  seam : Ok s ≡ result_and (checked (state_tests t a.source a.destination l ++ intact_tests a)) (Ok a.segment)
+  seam = early-is (state_tests t a.source a.destination l) a n1 size n3
+
+  abbrev arrival_group : List (Test Outcome)
+  arrival_group = header_arrival_tests l a.source a.destination h
+
+  pub judge-form : {e : Outcome} → Err e ≡ checked (option_tests h.options) → Judges t l reference a (Err e)
+  judge-form n = judge-formed t l reference a seam read (at-first (option_tests h.options) arrival_group n)
+
+  module _ (n4 : Ok tt ≡ checked (option_tests h.options)) where
+    pub judge-arrival : {e : Outcome} → Err e ≡ checked (header_arrival_tests l a.source a.destination h) → Judges t l reference a (Err e)
+    judge-arrival {e} n = judge-formed t l reference a seam read (at-second (option_tests h.options) arrival_group (Err e) n4 n)
+
+    module _ (n5 : Ok tt ≡ checked (header_arrival_tests l a.source a.destination h)) (r : Result Begun Outcome) where
+      pub judge-md5 : is_md5_of l ≡ true → {f : Found} {fl : Flow} → f ≡ md5_entry t l.pair → fl ≡ arriving l s
+          → Md5Given f (sequence s) fl s r → Judges t l reference a r
+      judge-md5 way ef efl b =
+          judge-by-md5 t l reference a seam read (at-second (option_tests h.options) arrival_group (Ok tt) n4 n5) r way ef efl b
+
+      pub judge-ao : is_md5_of l ≡ false → {m u : Outcome} {f : Found} {x : Place} {fl : Flow} → m ≡ refuse 25 → u ≡ refuse 26
+          → f ≡ recv_entry t l.pair (key_id_of s) → x ≡ place_on_lem l reference (sequence s) → fl ≡ arriving l s
+          → KeyGiven m u f x fl s r → Judges t l reference a r
+      judge-ao way em eu ef ex efl b =
+          judge-by-ao t l reference a seam read (at-second (option_tests h.options) arrival_group (Ok tt) n4 n5) r way em eu ef ex efl b
+
+-- Without a state.
+module _ (t : Tables) (a : Arrival) (strict : Bool) {s : List ℕ} {h : Header}
+    (size : result_and (checked (length_tests 20 a.segment)) (Ok a.segment) ≡ Ok s) (read : h ≡ header_of_lem (length s) s)
+    (n1 : checked (input_tests t a.source a.destination) ≡ Ok tt) (n3 : checked (sum_tests a) ≡ Ok tt) where
+  syn-seam : Ok s ≡ result_and (checked (input_tests t a.source a.destination ++ intact_tests a)) (Ok a.segment)
+  syn-seam = early-is (input_tests t a.source a.destination) a n1 size n3
+
+  pub syn-form : {e : Outcome} → Err e ≡ checked (option_tests h.options) → JudgesSyn t a strict (Err e)
+  syn-form n = syn-formed t a strict syn-seam read (at-first (option_tests h.options) (header_syn_tests h) n)
+
+  module _ (n4 : Ok tt ≡ checked (option_tests h.options)) where
+    pub syn-arrival : {e : Outcome} → Err e ≡ checked (header_syn_tests h) → JudgesSyn t a strict (Err e)
+    syn-arrival {e} n = syn-formed t a strict syn-seam read (at-second (option_tests h.options) (header_syn_tests h) (Err e) n4 n)
+
+    module _ (n5 : Ok tt ≡ checked (header_syn_tests h)) {p : Pair} (pairs : p ≡ arrival_pair_of a) {fl : Flow}
+        (flows : fl ≡ arriving_on p (sequence s) 0) (r : Result Begun Outcome) where
+      formed : Ok tt ≡ checked (option_tests h.options ++ header_syn_tests h)
+      formed = at-second (option_tests h.options) (header_syn_tests h) (Ok tt) n4 n5
+
+      pub syn-md5 : {f : Found} → f ≡ md5_entry t p → f.there ≡ true → Md5Given f (sequence s) fl s r → JudgesSyn t a strict r
+      syn-md5 ef there b = syn-by-md5 t a strict syn-seam read formed pairs flows r ef there b
+
+      pub syn-ao : {f : Found} → f ≡ md5_entry t p → f.there ≡ false → {m u : Outcome} {e : Found} {x : Place} → m ≡ syn_missing_of t p
+          → u ≡ syn_unknown_of t p strict → e ≡ recv_entry t p (key_id_of s) → x ≡ Some (sequence s) → KeyGiven m u e x fl s r
+          → JudgesSyn t a strict r
+      syn-ao ef there em eu ee ex b = syn-by-ao t a strict syn-seam read formed pairs flows r ef there em eu ee ex b

@@ -10,7 +10,7 @@ use Rattle.wire.specs.declared.header.Header.{Header}
 use Rattle.tables.specs.Tables.{recv_entry}
 use Rattle.checks.specs.Groups.{arriving_on}
 use Rattle.checks.specs.GroupLaws.{is_final}
-use Rattle.checks.proofs.Judging.{err-is, judge-valid, judge-early, judge-formed, judge-md5, judge-ao}
+use Rattle.checks.proofs.Judging.{err-is, judge-valid, judge-early, judge-formed, judge-by-md5, judge-by-ao}
 use Rattle.checks.proofs.check.begin.Goals as goal
 
 pub returns-in_err-segment : goal.returns-in_err-segment
@@ -34,7 +34,7 @@ returns-then-is_md5 c =
     let number = ap (λ (h : Header). h.sequence) c.header-header.ensures in
     let isn = c.peer_isn.ensures ∙ ap (λ (n : ℕ). cond (is_open_of a.conn) a.conn.peer_isn n) number in
     let flow = c.arriving_flow-flow.ensures ∙ ap (λ (n : ℕ). arriving_on a.conn.pair n a.conn.isn) isn in
-    judge-md5 a.tables.now a.conn a.reference a.arrival.now c.in_ok-segment.ensures c.header-header.ensures c.in_ok-formed_faults.ensures
+    judge-by-md5 a.tables.now a.conn a.reference a.arrival.now c.in_ok-segment.ensures c.header-header.ensures c.in_ok-formed_faults.ensures
     c.by_md5.result (sym c.is_md5.ensures ∙ c.if-is_md5.true) c.find_md5.ensures flow c.by_md5.ensures
 
 pub by_key-requires : goal.by_key-requires
@@ -53,5 +53,5 @@ returns c =
     let flow = c.arriving_flow-flow.ensures ∙ ap (λ (n : ℕ). arriving_on a.conn.pair n a.conn.isn) isn in
     let entry = c.entry_for.ensures.entry ∙ ap (λ (id : ℕ). recv_entry a.tables.now a.conn.pair id) c.key_id.ensures in
     let place = c.place_on.ensures ∙ ap (λ (n : ℕ). place_on_lem a.conn a.reference n) number in
-    judge-ao a.tables.now a.conn a.reference a.arrival.now c.in_ok-segment.ensures c.header-header.ensures c.in_ok-formed_faults.ensures
+    judge-by-ao a.tables.now a.conn a.reference a.arrival.now c.in_ok-segment.ensures c.header-header.ensures c.in_ok-formed_faults.ensures
     c.by_key.result (sym c.is_md5.ensures ∙ c.if-is_md5.false) c.refuse.ensures c.refuse-2.ensures entry place flow c.by_key.ensures

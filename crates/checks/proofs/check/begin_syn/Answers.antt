@@ -14,7 +14,7 @@ use Rattle.checks.specs.Groups.{arriving_on}
 use Rattle.checks.specs.GroupLaws.{is_final}
 use Rattle.checks.specs.BeginLaws.{missing-final, unknown-final}
 use Rattle.checks.proofs.Keyed.{there_is}
-use Rattle.checks.proofs.Judging.{err-is, syn-valid, syn-formed, syn-md5, syn-ao}
+use Rattle.checks.proofs.Judging.{err-is, syn-valid, syn-formed, syn-by-md5, syn-by-ao}
 use Rattle.checks.proofs.check.begin_syn.Goals as goal
 
 pub returns-in_err-formed_syn_faults : goal.returns-in_err-formed_syn_faults
@@ -29,7 +29,7 @@ returns-then-is_some c =
     let a = c.args in
     let number = ap (λ (h : Header). h.sequence) c.header-header.ensures in
     let flow = c.arriving_flow-flow.ensures ∙ ap (λ (n : ℕ). arriving_on c.arrival_pair-pair.result n 0) number in
-    syn-md5 a.tables.now a.arrival.now a.strict c.in_ok-segment.ensures c.header-header.ensures c.in_ok-formed_syn_faults.ensures
+    syn-by-md5 a.tables.now a.arrival.now a.strict c.in_ok-segment.ensures c.header-header.ensures c.in_ok-formed_syn_faults.ensures
     c.arrival_pair-pair.ensures flow c.by_md5.result c.find_md5-by_pair.ensures
     (there_is c.find_md5-by_pair.result ∙ sym c.is_some.ensures ∙ c.if-is_some.true) c.by_md5.ensures
 
@@ -53,6 +53,6 @@ returns c =
     let missing = c.syn_missing.ensures ∙ ap (λ (b : Bool). cond b (refuse 25) Passed) c.any_match-matched.ensures in
     let unknown = c.syn_unknown.ensures ∙ ap (λ (b : Bool). cond (b || a.strict) (refuse 26) Passed) c.any_match-matched.ensures in
     let entry = c.entry_for.ensures.entry ∙ ap (λ (id : ℕ). recv_entry a.tables.now p id) c.key_id.ensures in
-    syn-ao a.tables.now a.arrival.now a.strict c.in_ok-segment.ensures c.header-header.ensures c.in_ok-formed_syn_faults.ensures
+    syn-by-ao a.tables.now a.arrival.now a.strict c.in_ok-segment.ensures c.header-header.ensures c.in_ok-formed_syn_faults.ensures
     c.arrival_pair-pair.ensures flow c.by_key.result c.find_md5-by_pair.ensures
     (there_is c.find_md5-by_pair.result ∙ sym c.is_some.ensures ∙ c.if-is_some.false) missing unknown entry (ap Some number) c.by_key.ensures
