@@ -171,8 +171,8 @@ module _ (t : Tables) (l : Connection) (reference : ℕ) (a : Arrival) {s : List
     keyed : By (is_md5_of l) → Judges t l reference a r
     keyed b = at-key groups answer (expected t l a.segment) n1 r (formed-is (Ok tt) n2) b
 
-    pub judge-by-md5 : is_md5_of l ≡ true → {f : Found} {fl : Flow} → f ≡ md5_entry t l.pair → fl ≡ arriving l s → Md5Given f (sequence s) fl s r
-        → Judges t l reference a r
+    pub judge-by-md5 : is_md5_of l ≡ true → {f : Found} {fl : Flow} → f ≡ md5_entry t l.pair → fl ≡ arriving l s
+        → Md5Given f (sequence s) fl s r → Judges t l reference a r
     judge-by-md5 way ef efl b =
         let flow = efl ∙ ap (arriving l) same in
         let moved : Md5Given (md5_entry t l.pair) (sequence a.segment) (arriving l a.segment) a.segment r =
@@ -289,7 +289,8 @@ module _ (t : Tables) (a : Arrival) (strict : Bool) {s : List ℕ} {h : Header}
         syn-keyed (subst BySyn (sym way) (transport (λ i. Md5Given (entry i) (sequence (syn-same i)) (flow-is i) (syn-same i) r) b))
 
     pub syn-by-ao : {f : Found} → f ≡ md5_entry t p → f.there ≡ false → {m u : Outcome} {e : Found} {x : Place} → m ≡ syn_missing_of t p
-        → u ≡ syn_unknown_of t p strict → e ≡ recv_entry t p (key_id_of s) → x ≡ Some (sequence s) → KeyGiven m u e x fl s r → JudgesSyn t a strict r
+        → u ≡ syn_unknown_of t p strict → e ≡ recv_entry t p (key_id_of s) → x ≡ Some (sequence s) → KeyGiven m u e x fl s r
+        → JudgesSyn t a strict r
     syn-by-ao ef there em eu ee ex b =
         let way : syn_is_md5 t pair ≡ false = ap (λ (f : Found). f.there) (sym (ef ∙ ap (md5_entry t) pairs)) ∙ there in
         let missing = em ∙ ap (syn_missing_of t) pairs in
@@ -334,16 +335,17 @@ module _ (t : Tables) (l : Connection) (reference : ℕ) (a : Arrival) {s : List
     judge-arrival {e} n = judge-formed t l reference a seam read (at-second (option_tests h.options) arrival_group (Err e) n4 n)
 
     module _ (n5 : Ok tt ≡ checked (header_arrival_tests l a.source a.destination h)) (r : Result Begun Outcome) where
+      both : Ok tt ≡ checked (option_tests h.options ++ arrival_group)
+      both = at-second (option_tests h.options) arrival_group (Ok tt) n4 n5
+
       pub judge-md5 : is_md5_of l ≡ true → {f : Found} {fl : Flow} → f ≡ md5_entry t l.pair → fl ≡ arriving l s
           → Md5Given f (sequence s) fl s r → Judges t l reference a r
-      judge-md5 way ef efl b =
-          judge-by-md5 t l reference a seam read (at-second (option_tests h.options) arrival_group (Ok tt) n4 n5) r way ef efl b
+      judge-md5 way ef efl b = judge-by-md5 t l reference a seam read both r way ef efl b
 
       pub judge-ao : is_md5_of l ≡ false → {m u : Outcome} {f : Found} {x : Place} {fl : Flow} → m ≡ refuse 25 → u ≡ refuse 26
           → f ≡ recv_entry t l.pair (key_id_of s) → x ≡ place_on_lem l reference (sequence s) → fl ≡ arriving l s
           → KeyGiven m u f x fl s r → Judges t l reference a r
-      judge-ao way em eu ef ex efl b =
-          judge-by-ao t l reference a seam read (at-second (option_tests h.options) arrival_group (Ok tt) n4 n5) r way em eu ef ex efl b
+      judge-ao way em eu ef ex efl b = judge-by-ao t l reference a seam read both r way em eu ef ex efl b
 
 -- Without a state.
 module _ (t : Tables) (a : Arrival) (strict : Bool) {s : List ℕ} {h : Header}
